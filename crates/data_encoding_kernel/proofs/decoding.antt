@@ -1,3 +1,4 @@
 -- Runs of whole groups.
 pub mod GroupRunLemmas
+pub mod ShorterRunLemmas
 pub mod SymbolRunLemmas

@@ -1,5 +1,5 @@
 -- Values of symbols in lanes.
-use Rattle.std.specs.Prelude.{◌≡◌, ℕ, ◌+◌, ◌*◌, ◌/◌, ◌%◌, ◌^◌, ◌<◌, nat_le, if◌then◌else◌, List, slice_index}
+use Rattle.std.specs.Prelude.{◌≡◌, ℕ, ◌+◌, ◌*◌, ◌/◌, ◌%◌, ◌^◌, ◌<◌, nat_le, if◌then◌else◌, List, length, slice_index}
 use Rattle.data_encoding_meaning.specs.declared.encoding.BitOrder.{BitOrder}
 use Rattle.data_encoding_kernel.specs.declared.lanes.rows.Rows.{Rows}
 use Rattle.data_encoding_kernel.specs.Words.{weight}
@@ -25,6 +25,12 @@ pub record HoldsRows (values : List ℕ) (rows : Rows) : Type 0 where
   pub sixth : IsRow values 80 rows.sixth
   pub seventh : IsRow values 96 rows.seventh
   pub eighth : IsRow values 112 rows.eighth
+
+-- Each entry found that is below 128 is that of the table for its byte.
+abbrev pub AreEntries : List ℕ → List ℕ → List ℕ → Type 0
+AreEntries values bytes found =
+    (k : ℕ) → k < length bytes → slice_index found k < 128
+    → slice_index found k ≡ slice_index values (slice_index bytes k)
 
 -- the entry of a row at the lowest four bits of a byte
 abbrev pub in_row : List ℕ → ℕ → ℕ → ℕ

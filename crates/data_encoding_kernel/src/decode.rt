@@ -1,6 +1,6 @@
 //! Runs of whole groups of symbols only, which are decoded without a judgement.
 
-ghost use Rattle.std.specs.Prelude.{◌≡◌, ℕ, ◌*◌, ◌/◌, ◌≤◌, List, length};
+ghost use Rattle.std.specs.Prelude.{◌≡◌, ℕ, ◌*◌, ◌/◌, ◌≤◌, List, length, take};
 ghost use Rattle.data_encoding_kernel.specs.Runs.{IsLongestBy, IsRunBy};
 
 use crate::group_size::GroupSize;
@@ -13,7 +13,6 @@ use data_encoding_meaning::encoding::BitOrder;
 /// Decodes whole groups from the start of the input to the start of the output, up to the first
 /// group with a byte that is no symbol, and returns their number. Output bytes after theirs are
 /// unspecified.
-// Inlined, since a call costs more than decoding a short text.
 #[inline(always)]
 pub fn decode_run<L: LookUp, O: ConstantOrder, G: GroupSize>(
     values: &[u8; 256],
@@ -27,18 +26,40 @@ pub fn decode_run<L: LookUp, O: ConstantOrder, G: GroupSize>(
     ensures longest { IsLongestBy values.now G.WIDTH O.ORDER input.now result }
     ensures within { result * G.SYMBOLS ≤ length input.now }
 {
+    decode_run_within::<L, O, G>(values, look_up, input, input.len(), output)
+}
+
+/// Decodes whole groups from the first `len` bytes of the input, as [`decode_run`] does. Bytes
+/// after them may be loaded, so that fewer groups are decoded one by one.
+// Inlined, since a call costs more than decoding a short text.
+#[inline(always)]
+pub fn decode_run_within<L: LookUp, O: ConstantOrder, G: GroupSize>(
+    values: &[u8; 256],
+    look_up: &L,
+    input: &[u8],
+    len: usize,
+    output: &mut [u8],
+) -> usize
+    requires held { L.holds values.now look_up.now }
+    requires few { len ≤ length input.now }
+    requires room { len / G.SYMBOLS * G.BYTES ≤ length output.old }
+    ensures run { IsRunBy values.now G.WIDTH O.ORDER (take len input.now) result output.old
+        output.new }
+    ensures longest { IsLongestBy values.now G.WIDTH O.ORDER (take len input.now) result }
+    ensures within { result * G.SYMBOLS ≤ len }
+{
     let order = O::ORDER;
     let symbols = G::SYMBOLS;
     let bytes = G::BYTES;
-    let count = input.len() / symbols;
-    let first = decode_by_several::<L, O, G>(values, look_up, input, output);
+    let part = &input[..len];
+    let (first, count) = decode_by_several::<L, O, G>(values, look_up, input, len, output);
     for index in first..count {
         let read = index * symbols;
         let written = index * bytes;
         if !decode_symbols::<G>(
             values,
             order,
-            &input[read..read + symbols],
+            &part[read..read + symbols],
             &mut output[written..written + bytes],
         ) {
             return index;
@@ -47,25 +68,31 @@ pub fn decode_run<L: LookUp, O: ConstantOrder, G: GroupSize>(
     count
 }
 
-// By eight groups in lanes if there are as many, or else in shorter turns.
+// By eight groups in lanes if the input has as many, or else in shorter turns. Returns the number
+// of groups that are decoded, and of those that are left to be tried after them.
 #[inline(always)]
 fn decode_by_several<L: LookUp, O: ConstantOrder, G: GroupSize>(
     values: &[u8; 256],
     look_up: &L,
     input: &[u8],
+    len: usize,
     output: &mut [u8],
-) -> usize
+) -> (usize, usize)
     requires held { L.holds values.now look_up.now }
-    requires room { length input.now / G.SYMBOLS * G.BYTES ≤ length output.old }
-    ensures run { IsRunBy values.now G.WIDTH O.ORDER input.now result output.old output.new }
-    ensures within { result ≤ length input.now / G.SYMBOLS }
+    requires few { len ≤ length input.now }
+    requires room { len / G.SYMBOLS * G.BYTES ≤ length output.old }
+    ensures run { IsRunBy values.now G.WIDTH O.ORDER (take len input.now) result.0 output.old
+        output.new }
+    ensures longest { IsLongestBy values.now G.WIDTH O.ORDER (take len input.now) result.1 }
+    ensures ordered { result.0 ≤ result.1 }
+    ensures within { result.1 ≤ len / G.SYMBOLS }
 {
     let eight = 8 * G::SYMBOLS;
-    // The eighth group may be padded; then decoding eight would be wasted.
-    if input.len() < eight || 8 % G::WIDTH != 0 && entry_of(values, input[eight - 1]) >= 128 {
-        return decode_by_few::<L, O, G>(values, look_up, input, output);
+    if input.len() < eight {
+        let first = decode_by_few::<L, O, G>(values, look_up, &input[..len], output);
+        return (first, len / G::SYMBOLS);
     }
-    decode_by_lanes::<L, O, G>(values, look_up, input, output)
+    decode_by_lanes::<L, O, G>(values, look_up, input, len, output)
 }
 
 // By turns of sixteen symbols. The sixteenth may end a padded group; then a turn would be wasted.
@@ -84,7 +111,7 @@ fn decode_by_few<L: LookUp, O: ConstantOrder, G: GroupSize>(
     if input.len() < 16 || entry_of(values, input[15]) >= 128 {
         return 0;
     }
-    decode_turns::<Few<L>, G>(&Few { look_up: *look_up }, O::ORDER, input, output)
+    decode_whole_turns::<Few<L>, G>(&Few { look_up: *look_up }, O::ORDER, input, output)
 }
 
 // Not inlined, so that shorter texts do not pay for the stack that lanes take.
@@ -93,40 +120,72 @@ fn decode_by_lanes<L: LookUp, O: ConstantOrder, G: GroupSize>(
     values: &[u8; 256],
     look_up: &L,
     input: &[u8],
+    len: usize,
     output: &mut [u8],
-) -> usize
+) -> (usize, usize)
     requires held { L.holds values.now look_up.now }
-    requires room { length input.now / G.SYMBOLS * G.BYTES ≤ length output.old }
-    ensures run { IsRunBy values.now G.WIDTH O.ORDER input.now result output.old output.new }
-    ensures within { result ≤ length input.now / G.SYMBOLS }
+    requires few { len ≤ length input.now }
+    requires room { len / G.SYMBOLS * G.BYTES ≤ length output.old }
+    ensures run { IsRunBy values.now G.WIDTH O.ORDER (take len input.now) result.0 output.old
+        output.new }
+    ensures longest { IsLongestBy values.now G.WIDTH O.ORDER (take len input.now) result.1 }
+    ensures ordered { result.0 ≤ result.1 }
+    ensures within { result.1 ≤ len / G.SYMBOLS }
 {
     let symbols = G::SYMBOLS;
     let bytes = G::BYTES;
-    let lanes = Lanes { look_up: *look_up };
-    let first = decode_turns::<Lanes<L>, G>(&lanes, O::ORDER, input, output);
+    let at = decode_by_turns::<L, O, G>(look_up, input, len, output);
+    let first = at / symbols;
+    if at < len && entry_of(values, input[at]) >= 128 {
+        return (first, first);
+    }
+    let part = &input[..len];
     let read = first * symbols;
     let written = first * bytes;
-    let left = input.len() - read;
-    // Eight groups are left only if they were refused. Fewer than sixteen symbols make no turn.
-    if left >= 8 * symbols || left < 16 {
-        return first;
-    }
-    // The line may end before the last of these groups; then a turn would be wasted.
-    if entry_of(values, input[read + (16 - symbols)]) >= 128 {
-        return first;
-    }
-    let further = decode_turns::<Few<L>, G>(
-        &Few { look_up: *look_up },
-        O::ORDER,
-        &input[read..],
-        &mut output[written..],
-    );
-    first + further
+    let further = decode_by_few::<L, O, G>(values, look_up, &part[read..], &mut output[written..]);
+    (first + further, len / symbols)
 }
 
-// Decodes one turn after another, up to the first with a byte that is no symbol.
+/// Decodes by turns of eight groups, up to the first byte that is no symbol or up to a length, as
+/// long as the input and the output have a whole turn. Returns how many bytes were read; the whole
+/// groups among them are decoded, and output bytes after theirs are unspecified.
 #[inline(always)]
-fn decode_turns<T: DecodeTurn, G: GroupSize>(
+pub fn decode_by_turns<L: LookUp, O: ConstantOrder, G: GroupSize>(
+    look_up: &L,
+    input: &[u8],
+    len: usize,
+    output: &mut [u8],
+) -> usize
+    requires few { len ≤ length input.now }
+    ensures run { (values : List ℕ) → L.holds values look_up.now
+        → IsRunBy values G.WIDTH O.ORDER (take len input.now) (result / G.SYMBOLS) output.old
+        output.new }
+    ensures within { result ≤ len }
+{
+    let lanes = Lanes { look_up: *look_up };
+    let count = count_turns::<G>(input.len(), len, output.len());
+    let read = decode_turns::<Lanes<L>, G>(&lanes, O::ORDER, count, input, output);
+    if read < len { read } else { len }
+}
+
+// How many turns of eight groups start before `len`, if the input and the output have them whole.
+#[inline(always)]
+fn count_turns<G: GroupSize>(input_len: usize, len: usize, output_len: usize) -> usize
+    ensures symbols { result * 8 * G.SYMBOLS ≤ input_len }
+    ensures bytes { result * 8 * G.BYTES ≤ output_len }
+{
+    let symbols = 8 * G::SYMBOLS;
+    let bytes = 8 * G::BYTES;
+    let count = len.div_ceil(symbols).min(input_len / symbols);
+    if count > output_len / bytes {
+        return output_len / bytes;
+    }
+    count
+}
+
+// Decodes as many turns as the input has, and returns the number of groups that are decoded.
+#[inline(always)]
+fn decode_whole_turns<T: DecodeTurn, G: GroupSize>(
     turn: &T,
     order: BitOrder,
     input: &[u8],
@@ -137,21 +196,41 @@ fn decode_turns<T: DecodeTurn, G: GroupSize>(
         → IsRunBy values G.WIDTH order input.now result output.old output.new }
     ensures within { result ≤ length input.now / G.SYMBOLS }
 {
+    let count = input.len() / G::SYMBOLS / T::groups::<G>();
+    decode_turns::<T, G>(turn, order, count, input, output) / G::SYMBOLS
+}
+
+// Decodes one turn after another, up to the first with a byte that is refused. Returns how many
+// bytes were read; the whole groups among them are decoded.
+#[inline(always)]
+fn decode_turns<T: DecodeTurn, G: GroupSize>(
+    turn: &T,
+    order: BitOrder,
+    count: usize,
+    input: &[u8],
+    output: &mut [u8],
+) -> usize
+    requires few { count * T.number G.WIDTH * G.SYMBOLS ≤ length input.now }
+    requires room { count * T.number G.WIDTH * G.BYTES ≤ length output.old }
+    ensures run { (values : List ℕ) → T.holds values turn.now
+        → IsRunBy values G.WIDTH order input.now (result / G.SYMBOLS) output.old output.new }
+    ensures within { result ≤ count * T.number G.WIDTH * G.SYMBOLS }
+{
     let groups = T::groups::<G>();
     let symbols = G::SYMBOLS;
     let bytes = G::BYTES;
-    let count = input.len() / symbols / groups;
     for index in 0..count {
         let first = index * groups;
         let read = first * symbols;
         let written = first * bytes;
-        if !turn.decode::<G>(
+        let found = turn.decode::<G>(
             order,
             &input[read..read + groups * symbols],
             &mut output[written..written + groups * bytes],
-        ) {
-            return first;
+        );
+        if found < groups * symbols {
+            return read + found;
         }
     }
-    count * groups
+    count * groups * symbols
 }

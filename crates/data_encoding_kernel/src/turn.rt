@@ -1,6 +1,6 @@
 //! Several whole groups of symbols at a time.
 
-ghost use Rattle.std.specs.Prelude.{◌≡◌, ℕ, ◌*◌, ◌/◌, ◌<◌, List, length, IsTrue};
+ghost use Rattle.std.specs.Prelude.{◌≡◌, ℕ, ◌*◌, ◌/◌, ◌<◌, ◌≤◌, List, length, IsTrue};
 ghost use Rattle.data_encoding_kernel.specs.Runs.{IsRunBy};
 ghost use Rattle.data_encoding_meaning.specs.text.Base.{group_symbols};
 
@@ -22,15 +22,17 @@ pub trait DecodeTurn {
         ensures number { result ≡ number G.WIDTH }
         ensures some { 0 < result };
 
-    // Returns `false`, with any output, if a byte of the input is no symbol.
-    fn decode<G: GroupSize>(&self, order: BitOrder, input: &[u8], output: &mut [u8]) -> bool
+    // Returns how many bytes are read, up to the first that is refused or to less. The whole groups
+    // among them are decoded, and output bytes after theirs are unspecified.
+    fn decode<G: GroupSize>(&self, order: BitOrder, input: &[u8], output: &mut [u8]) -> usize
         requires symbols { length input.now ≡ number G.WIDTH * G.SYMBOLS }
         requires exact { length output.old ≡ number G.WIDTH * G.BYTES }
-        ensures { (values : List ℕ) → holds values self.now → IsTrue result
-            → IsRunBy values G.WIDTH order input.now (number G.WIDTH) output.old output.new };
+        ensures few { result ≤ number G.WIDTH * G.SYMBOLS }
+        ensures run { (values : List ℕ) → holds values self.now
+            → IsRunBy values G.WIDTH order input.now (result / G.SYMBOLS) output.old output.new };
 }
 
-/// Eight groups in lanes. The look-up is held by value, so that it stays in registers.
+/// Eight groups in lanes, up to the first byte that is refused. The look-up is held by value, so that it stays in registers.
 #[derive(Clone, Copy, Drop)]
 pub struct Lanes<L> {
     pub look_up: L,
@@ -47,12 +49,12 @@ impl<L: LookUp> DecodeTurn for Lanes<L> {
     }
 
     #[inline(always)]
-    fn decode<G: GroupSize>(&self, order: BitOrder, input: &[u8], output: &mut [u8]) -> bool {
+    fn decode<G: GroupSize>(&self, order: BitOrder, input: &[u8], output: &mut [u8]) -> usize {
         decode_eight::<L, G>(&self.look_up, order, input, output)
     }
 }
 
-/// The groups of sixteen symbols, in lanes.
+/// The groups of sixteen symbols, in lanes: all or none of them.
 #[derive(Clone, Copy, Drop)]
 pub struct Few<L> {
     pub look_up: L,
@@ -69,12 +71,15 @@ impl<L: LookUp> DecodeTurn for Few<L> {
     }
 
     #[inline(always)]
-    fn decode<G: GroupSize>(&self, order: BitOrder, input: &[u8], output: &mut [u8]) -> bool {
-        decode_sixteen::<L, G>(&self.look_up, order, input, output)
+    fn decode<G: GroupSize>(&self, order: BitOrder, input: &[u8], output: &mut [u8]) -> usize {
+        if !decode_sixteen::<L, G>(&self.look_up, order, input, output) {
+            return 0;
+        }
+        16 / G::SYMBOLS * G::SYMBOLS
     }
 }
 
-// Four groups word by word, by the table itself: what a platform without vectors takes for `Few`.
+// Four groups or none, word by word, by the table itself: what a platform without vectors takes for `Few`.
 impl DecodeTurn for [u8; 256] {
     ghost number = { λ width. 4 };
 
@@ -86,8 +91,11 @@ impl DecodeTurn for [u8; 256] {
     }
 
     #[inline(always)]
-    fn decode<G: GroupSize>(&self, order: BitOrder, input: &[u8], output: &mut [u8]) -> bool {
-        decode_four_groups::<G>(self, order, input, output)
+    fn decode<G: GroupSize>(&self, order: BitOrder, input: &[u8], output: &mut [u8]) -> usize {
+        if !decode_four_groups::<G>(self, order, input, output) {
+            return 0;
+        }
+        4 * G::SYMBOLS
     }
 }
 

@@ -1,6 +1,9 @@
 -- Groups of symbols that are decoded together.
-use Rattle.std.proofs.Common.{◌≡◌, ℕ, zero, suc, ◌+◌, ◌*◌, ◌/◌, ◌%◌, ◌^◌, ◌<◌, ◌≤◌, List, [], length, length-take-le, map, take, drop, slice_index, refl, sym, ap, ◌∙◌, subst, arith, flat_map}
-use Rattle.std.proofs.lemmas.List.{drop-map, get_or-drop, get_or-map, get_or-take, length-drop, length-map, nil_from_length, take-map, take_all}
+use Rattle.std.proofs.Common.{◌≡◌, ℕ, zero, suc, ◌+◌, ◌*◌, ◌/◌, ◌%◌, ◌^◌, ◌<◌, ◌≤◌, List, [], ◌∷◌, ◌++◌, length, length-take-le, map, take, drop, slice_index, refl, sym, ap, ◌∙◌, subst, arith, flat_map}
+use Rattle.std.proofs.lemmas.List.{drop-map, drop-take, ext_get_or, get_or-drop, get_or-map, get_or-take, length-drop, length-map, nil_from_length, take-map, take-take, take_all}
+use Rattle.std.proofs.lemmas.List.FromFn.{length-map-range_with_len}
+use Rattle.std.proofs.Math.Nat.{zero-mul, div-lt_iff_lt-mul, mod-eq_of_lt, mod-lt, mul-le-mul_right, one-le-pow}
+use Rattle.std.proofs.Math.Seq.{take-append-add}
 use Rattle.std.specs.List.{AllByRecursion, range_with_len}
 use Rattle.std.specs.Simd.{first_chunks}
 use Rattle.std.specs.Simd.Lanes.{put_chunk}
@@ -9,16 +12,18 @@ use Rattle.data_encoding_meaning.specs.declared.encoding.BitOrder.{BitOrder}
 use Rattle.data_encoding_meaning.specs.text.Base.{Base, IsWidth, group_bytes, group_symbols, is_symbol, meaning, IsGroup}
 use Rattle.data_encoding_meaning.specs.text.Bits.{runs}
 use Rattle.data_encoding_kernel.specs.Runs.{IsRun}
+use Rattle.data_encoding_kernel.specs.Values.{AreEntries}
 use Rattle.data_encoding_meaning.specs.decoding.Fault.{symbol_bytes}
 use Rattle.data_encoding_kernel.specs.Tables.{Reads}
 use Rattle.data_encoding_kernel.specs.Words.{digit, word_of}
 use Rattle.data_encoding_kernel.proofs.digits.GatherStoreLemmas.{bytes_of_words, stored-ones}
 use Rattle.data_encoding_kernel.proofs.digits.GatherWordLemmas.{length-words}
 use Rattle.data_encoding_kernel.proofs.digits.KernelLemmas.{symbol_bytes-word}
+use Rattle.data_encoding_kernel.proofs.decoding.SymbolRunLemmas.{run-front}
 use Rattle.data_encoding_meaning.proofs.digits.WidthLemmas.{by_width, symbols-few}
 use Rattle.data_encoding_meaning.proofs.lists.EachLemmas.{all-at, all_weaker}
 use Rattle.data_encoding_meaning.proofs.decoding.GroupJudgementLemmas.{part_bytes}
-use Rattle.data_encoding_meaning.proofs.lists.PartLemmas.{IsWhole, IsWhole-group}
+use Rattle.data_encoding_meaning.proofs.lists.PartLemmas.{IsWhole, IsWhole-group, groups-within}
 use Rattle.data_encoding_meaning.proofs.lists.RunLemmas.{runs-first, runs-nil}
 
 -- the bytes of the words of groups are those of the groups
@@ -107,17 +112,22 @@ all-small {width} is same entries below = rw (same, limit-is width is) at below
 -- values below the limit are those of bytes, each a symbol
 pub values-found : {width count : ℕ} → IsWidth width → (values input entries : List ℕ)
     → length input ≡ count → AllByRecursion (λ entry. entry < 2 ^ width) entries
-    → (AllByRecursion (λ entry. entry < 128) entries
-    → entries ≡ map (slice_index values) (take count input))
+    → length entries ≡ count → AreEntries values (take count input) entries
     → record {
       entries : entries ≡ map (slice_index values) input;
       symbols : (j : ℕ) → j < length input → slice_index values (slice_index input j) < 128;
     }
-values-found {width} {count} is values input entries long small found =
+values-found {width} {count} is values input entries long small lanes found =
     let low = all_weaker (λ entry. entry < 2 ^ width) (λ entry. entry < 128)
     (λ entry less. omega (arith, less, symbols-few width is)) entries small in
+    let each = rw (take_all count input (omega (arith, long))) at found in
     let are : entries ≡ map (slice_index values) input =
-    found low ∙ ap (map (slice_index values)) (take_all count input (omega (arith, long))) in
+    ext_get_or 0 entries (map (slice_index values) input)
+    (omega (arith, lanes, long, length-map input (slice_index values)))
+    (λ k h.
+    let inside : k < length input = omega (arith, h, lanes, long) in
+    each k inside (all-at (λ entry. entry < 128) entries low k h)
+    ∙ sym (get_or-map (slice_index values) input k 0 0 inside)) in
     record {
       entries = are;
       symbols = λ j inside.
@@ -126,37 +136,188 @@ values-found {width} {count} is values input entries long small found =
           (omega (arith, inside, length-map input (slice_index values))));
     }
 
--- what is found for groups: their words, and that each byte is a symbol
-pub words-found : (n : ℕ) {width number read count : ℕ} → IsWidth width → read ≡ width
-    → number ≡ count → (holds : List ℕ → Type 0) (all : Type 0) (order : BitOrder)
-    (input entries made : List ℕ)
-    → length input ≡ n * number
-    → (all → AllByRecursion (λ entry. entry < 1 * 2 ^ read % 256) entries)
-    → ((values : List ℕ) → holds values → AllByRecursion (λ entry. entry < 128) entries
-    → entries ≡ map (slice_index values) (take (n * count) input))
-    → (AllByRecursion (λ entry. entry < 2 ^ read) entries
-    → made ≡ map (word_of order read count) (first_chunks count n entries))
-    → (AllByRecursion (λ entry. entry < 2 ^ read) entries
+-- the first groups of a list
+first-groups : (size count more : ℕ) (xs : List ℕ) → count ≤ more
+    → take count (first_chunks size more xs) ≡ first_chunks size count xs
+first-groups size zero more xs few = refl
+first-groups size (suc count) zero xs few = absurd (omega (arith, few))
+first-groups size (suc count) (suc more) xs few =
+    ap (λ l. take size xs ∷ l) (first-groups size count more (drop size xs) (omega (arith, few)))
+
+-- are those of its front
+pub groups-front : (size count : ℕ) (xs : List ℕ)
+    → first_chunks size count (take (count * size) xs) ≡ first_chunks size count xs
+groups-front size zero xs = refl
+groups-front size (suc count) xs =
+    let more : suc count * size ≡ size + count * size = omega arith in
+    rw (
+      more,
+      take-take size (size + count * size) xs (omega arith),
+      drop-take size (count * size) xs,
+    )
+    (ap (λ l. take size xs ∷ l) (groups-front size count (drop size xs)))
+
+-- the lowest bits of lanes
+all-low : (size : ℕ) (lanes : List ℕ)
+    → AllByRecursion (λ lane. lane < 2 ^ size) (map (λ lane. lane % 2 ^ size) lanes)
+all-low size [] = tt
+all-low size (lane ∷ lanes) =
+    (mod-lt lane (one-le-pow size 2 (omega arith)), all-low size lanes)
+
+-- what is found for groups: the words of those before the first byte that is no symbol
+module _ {width number : ℕ} (is : IsWidth width) (some : 0 < number) (values : List ℕ)
+    (input entries : List ℕ) (found : ℕ) (long : length input ≡ 8 * number)
+    (lanes : length entries ≡ 8 * number) (few : found ≤ 8 * number)
+    (below : (j : ℕ) → j < found → slice_index entries j < 2 ^ width)
+    (are : AreEntries values (take (8 * number) input) entries) where
+  abbrev groups : ℕ
+  groups = found / number
+
+  abbrev low : List ℕ
+  low = map (λ lane. lane % 2 ^ width) entries
+
+  whole-groups : groups * number ≤ found
+  whole-groups = groups-within found number
+
+  entry-found : (j : ℕ) → j < found
+      → slice_index entries j ≡ slice_index values (slice_index input j)
+  entry-found j h =
+      are j (omega (arith, h, few, long, length-take-le (8 * number) input (omega (arith, long))))
+      (omega (arith, below j h, symbols-few width is))
+      ∙ ap (slice_index values) (get_or-take (8 * number) input j 0 (omega (arith, h, few)))
+
+  pub found-symbols : (j : ℕ) → j < found → slice_index values (slice_index input j) < 128
+  found-symbols j h =
+      rw (← entry-found j h) (omega (arith, below j h, symbols-few width is))
+
+  low-found : take (groups * number) low
+      ≡ take (groups * number) (map (slice_index values) input)
+  low-found =
+      let size = groups * number in
+      let shown = λ (lane : ℕ). lane % 2 ^ width in
+      let first_len : length (take size low) ≡ size =
+      length-take-le size low (omega (arith, length-map entries shown, lanes, few, whole-groups)) in
+      let last_len : length (take size (map (slice_index values) input)) ≡ size =
+      length-take-le size (map (slice_index values) input)
+      (omega (arith, length-map input (slice_index values), long, few, whole-groups)) in
+      ext_get_or 0 (take size low) (take size (map (slice_index values) input))
+      (first_len ∙ sym last_len)
+      (λ k h.
+      let inside : k < size = omega (arith, h, first_len) in
+      let early : k < found = omega (arith, inside, whole-groups) in
+      get_or-take size low k 0 inside
+      ∙ get_or-map shown entries k 0 0 (omega (arith, early, few, lanes))
+      ∙ mod-eq_of_lt (below k early)
+      ∙ entry-found k early
+      ∙ sym (get_or-map (slice_index values) input k 0 0 (omega (arith, early, few, long)))
+      ∙ sym (get_or-take size (map (slice_index values) input) k 0 inside))
+
+  pub found-words : (order : BitOrder) (made : List ℕ)
+      → made ≡ map (word_of order width number) (first_chunks number 8 low)
+      → take groups made ≡ map (word_of order width number)
+      (first_chunks number groups (map (slice_index values) input))
+  found-words order made is_made =
+      let most : groups ≤ 8 =
+      omega (
+        arith,
+        (div-lt_iff_lt-mul {k = number} {x = found} {y = 9} some).1
+            (omega (arith, few, some)),
+      ) in
+      rw (is_made, take-map, first-groups number groups 8 low most)
+      (ap (map (word_of order width number))
+      (sym (groups-front number groups low)
+      ∙ ap (first_chunks number groups) low-found
+      ∙ groups-front number groups (map (slice_index values) input)))
+
+-- the same for a look-up, with the sizes under other names
+pub words-found : {width number read count : ℕ} → IsWidth width → 0 < number → read ≡ width
+    → number ≡ count → (holds : List ℕ → Type 0) (order : BitOrder)
+    (input entries low made : List ℕ) (found : ℕ) → length input ≡ 8 * number
+    → length entries ≡ 8 * count → found ≤ 8 * count
+    → ((j : ℕ) → j < found → slice_index entries j < 1 * 2 ^ read % 256)
+    → ((values : List ℕ) → holds values → AreEntries values (take (8 * count) input) entries)
+    → low ≡ map (λ lane. lane % 2 ^ read) entries
+    → (AllByRecursion (λ entry. entry < 2 ^ read) low
+    → made ≡ map (word_of order read count) (first_chunks count 8 low))
+    → (AllByRecursion (λ entry. entry < 2 ^ read) low
     → AllByRecursion (λ word. word < 2 ^ (read * count)) made)
     → record {
-      words : (values : List ℕ) → holds values → all
-          → made ≡ map (word_of order width number)
-          (first_chunks number n (map (slice_index values) input));
-      symbols : (values : List ℕ) → holds values → all → (j : ℕ) → j < length input
+      few : found ≤ 8 * number;
+      words : (values : List ℕ) → holds values
+          → take (found / number) made ≡ map (word_of order width number)
+          (first_chunks number (found / number) (map (slice_index values) input));
+      symbols : (values : List ℕ) → holds values → (j : ℕ) → j < found
           → slice_index values (slice_index input j) < 128;
-      fit : all → AllByRecursion (λ word. word < 2 ^ (width * number)) made;
+      fit : AllByRecursion (λ word. word < 2 ^ (width * number)) made;
     }
-words-found n {width} {number} is same many holds all order input entries made long below =
-    let small : all → AllByRecursion (λ entry. entry < 2 ^ width) entries =
-    λ h. all-small is same entries (below h) in
-    rw (same, ← many) (λ found are fit.
-    let each = λ (values : List ℕ) (held : holds values) (h : all).
-    values-found is values input entries long (small h) (found values held) in
+words-found {width} {number} is some same many holds order input entries low made found long =
+    rw (same, ← many, limit-is width is) (λ lanes few below look low_is are fit.
+    let small = subst (AllByRecursion (λ entry. entry < 2 ^ width)) (sym low_is)
+    (all-low width entries) in
     record {
-      words = λ values held h. rw (each values held h).entries at (are (small h));
-      symbols = λ values held h. (each values held h).symbols;
-      fit = λ h. fit (small h);
+      few = few;
+      words = λ values held.
+          found-words is some values input entries found long lanes few below (look values held)
+          order made (are small
+          ∙ ap (λ l. map (word_of order width number) (first_chunks number 8 l)) low_is);
+      symbols = λ values held.
+          found-symbols is some values input entries found long lanes few below
+          (look values held);
+      fit = fit small;
     })
+
+-- the bytes of the first words
+bytes-front : (show : ℕ → List ℕ) (size count : ℕ) (made : List ℕ)
+    → ((one : ℕ) → length (show one) ≡ size)
+    → take (count * size) (flat_map show made) ≡ flat_map show (take count made)
+bytes-front show size zero made each = ap (λ n. take n (flat_map show made)) (zero-mul size)
+bytes-front show size (suc count) [] each = take_all (suc count * size) [] (omega arith)
+bytes-front show size (suc count) (one ∷ made) each =
+    let more : suc count * size ≡ length (show one) + count * size =
+    omega (arith, each one) in
+    rw more (take-append-add (show one) (flat_map show made) (count * size)
+    ∙ ap (λ l. show one ++ l) (bytes-front show size count made each))
+
+-- groups of symbols before the first byte that is none are a run
+pub found-run : (base : Base) (values : List ℕ) (width bytes symbols : ℕ) (order : BitOrder)
+    → IsGroup width bytes symbols → Reads base values width order
+    → (input old new words : List ℕ) (found : ℕ) → length input ≡ 8 * symbols
+    → length new ≡ 8 * bytes → ((j : ℕ) → slice_index input j < 256) → found ≤ 8 * symbols
+    → ((j : ℕ) → j < found → slice_index values (slice_index input j) < 128)
+    → take (found / symbols) words ≡ map (word_of order width symbols)
+    (first_chunks symbols (found / symbols) (map (slice_index values) input))
+    → new ≡ bytes_of_words order bytes words → IsRun base input (found / symbols) old new
+found-run base values width bytes symbols order group reads input old new words found long exact
+    fits few low words_are stored =
+    let whole = IsWhole-group width bytes symbols group in
+    let count = found / symbols in
+    let read = count * symbols in
+    let shown = word_bytes base values width bytes symbols order group reads in
+    let within : read ≤ found = groups-within found symbols in
+    let most : count ≤ 8 =
+    omega (
+      arith,
+      (div-lt_iff_lt-mul {k = symbols} {x = found} {y = 9} whole.some_symbols).1
+          (omega (arith, few, whole.some_symbols)),
+    ) in
+    let room : count * bytes ≤ length new =
+    omega (arith, exact, mul-le-mul_right bytes most) in
+    let part_len : length (take read input) ≡ read =
+    length-take-le read input (omega (arith, within, few, long)) in
+    let chunks : first_chunks symbols count (map (slice_index values) input)
+    ≡ first_chunks symbols count (map (slice_index values) (take read input)) =
+    sym (groups-front symbols count (map (slice_index values) input))
+    ∙ ap (first_chunks symbols count) (rw take-map refl) in
+    run-front base reads.holds.is_width width bytes symbols group reads.width_is input old new
+    count read (count * bytes) (omega arith)
+    (groups-run base values width bytes symbols order group reads count (take read input) old
+    (take (count * bytes) new) part_len (length-take-le (count * bytes) new room)
+    (part_bytes input fits read)
+    (λ j h. rw (get_or-take read input j 0 (omega (arith, h, part_len)))
+    (low j (omega (arith, h, part_len, within))))
+    (ap (take (count * bytes)) stored
+    ∙ bytes-front shown bytes count words (λ word. length-map-range_with_len (digit order 8 bytes word) 0 bytes)
+    ∙ ap (flat_map shown) (words_are ∙ ap (map (word_of order width symbols)) chunks)))
 
 -- whole groups of sixteen symbols
 pub sixteen-symbols : {width bytes symbols : ℕ} → IsGroup width bytes symbols

@@ -1,8 +1,8 @@
 -- Runs of whole groups of symbols, one after another.
-use Rattle.std.proofs.Common.{◌≡◌, ℕ, ◌+◌, ◌-◌, ◌*◌, ◌/◌, ◌%◌, ◌<◌, ◌≤◌, true, false, List, ◌++◌, length, take, drop, slice_index, refl, sym, ap, ◌∙◌, arith, length-take-le, ⊎_elim, map, take-add}
-use Rattle.std.proofs.Math.Nat.{add-mul, mod-lt, mul-le-mul_right, mul-mod_left, zero-mul}
+use Rattle.std.proofs.Common.{le-div_iff_mul-le, ◌≡◌, ℕ, ◌+◌, ◌-◌, ◌*◌, ◌/◌, ◌%◌, ◌<◌, ◌≤◌, true, false, List, ◌++◌, length, take, drop, slice_index, refl, sym, ap, ◌∙◌, arith, length-take-le, ⊎_elim, map, take-add}
+use Rattle.std.proofs.Math.Nat.{add-mul, add-mul-div_left, div-lt_iff_lt-mul, zero-div, mul_comm, mod-lt, mul-le-mul_right, mul-mod_left, zero-mul}
 use Rattle.std.proofs.lemmas.Bool.{cases_lt}
-use Rattle.std.proofs.lemmas.List.{append-nil, get_or-take, get_or-drop, length-drop, length-take, take-append-le, take_all, take_at, length-map, map-append}
+use Rattle.std.proofs.lemmas.List.{append-nil, get_or-take, get_or-drop, length-drop, length-take, take-append-le, take-take, take_all, take_at, length-map, map-append}
 use Rattle.std.proofs.Math.Seq.{take-append-add}
 use Rattle.std.proofs.lemmas.Nat.{div-add-mod', div-mul-add}
 use Rattle.std.proofs.lemmas.List.Concat.{flat_map-append}
@@ -16,7 +16,7 @@ use Rattle.data_encoding_meaning.specs.decoding.Fault.{symbol_bytes}
 use Rattle.data_encoding_kernel.specs.Tables.{HoldsValues}
 use Rattle.data_encoding_meaning.proofs.digits.WidthLemmas.{group_symbols-pos}
 use Rattle.data_encoding_meaning.proofs.grammar.KeptLemmas.{between}
-use Rattle.data_encoding_meaning.proofs.lists.PartLemmas.{length-rest}
+use Rattle.data_encoding_meaning.proofs.lists.PartLemmas.{groups-within, length-rest}
 use Rattle.data_encoding_meaning.proofs.lists.RunLemmas.{runs-nil, runs-join, runs-short}
 
 module _ (base : Base) (width : IsWidth base.width) where
@@ -131,22 +131,28 @@ module _ (base : Base) (width : IsWidth base.width) (w bytes symbols : ℕ)
             ∙ bytes-more base width part i m whole);
       }))
 
-  -- a run at the start of all that is left after a run
-  pub run-after : (part old output before piece : List ℕ) (i m k : ℕ)
-      → i * bytes ≤ length output → m * bytes ≤ length piece → IsRun base part i old output
-      → IsRun base (take (length part - i * symbols) (drop (i * symbols) part)) m before piece
+  -- a run at the start of what follows a run, up to a position
+  pub run-after : (part old output before piece : List ℕ) (i m k stop : ℕ)
+      → stop ≤ length part → i * bytes ≤ length output → m * bytes ≤ length piece
+      → IsRun base part i old output → IsRun base (between (i * symbols) stop part) m before piece
       → IsRun base part (i + m) old (put_mid (i * bytes) k output piece)
-  run-after part old output before piece i m k =
-      rw (← same_bytes, ← same_symbols) (λ fits enough first second.
+  run-after part old output before piece i m k stop =
+      rw (← same_bytes, ← same_symbols) (λ inside fits enough first second.
       let count = group_bytes base.width in
       let size = group_symbols base.width in
       let rest = drop (i * size) part in
+      let reach = stop - i * size in
       let rest_len = length-drop (i * size) part in
-      let all : take (length part - i * size) rest ≡ rest =
-      take_all (length part - i * size) rest (omega (arith, rest_len)) in
-      let others = rw all at second in
+      let few : m * size ≤ reach = omega (arith, second.within, length-take reach rest) in
       let whole : (i + m) * size ≤ length part =
-      omega (arith, add-mul i m size, others.within, rest_len, first.within) in
+      omega (
+        arith,
+        add-mul i m size,
+        second.within,
+        length-take reach rest,
+        rest_len,
+        first.within,
+      ) in
       let front = take (i * count) output in
       let front_len : length front ≡ i * count = length-take-le (i * count) output fits in
       let later = drop k (drop (i * count) output) in
@@ -155,17 +161,48 @@ module _ (base : Base) (width : IsWidth base.width) (w bytes symbols : ℕ)
       ap (λ n. take (n + m * count) (put_mid (i * count) k output piece)) (sym front_len)
       ∙ take-append-add front (piece ++ later) (m * count)
       ∙ ap (λ l. front ++ l) (take-append-le (m * count) piece later enough) in
-      let twice : run_bytes base (take (m * size) rest)
+      let twice : run_bytes base (take (m * size) (take reach rest))
       ≡ run_bytes base (take (m * size) (take (m * size) rest)) =
-      ap (run_bytes base) (sym (take_all (m * size) (take (m * size) rest)
-      (omega (arith, length-take (m * size) rest)))) in
+      ap (run_bytes base) (take-take (m * size) reach rest few
+      ∙ sym (take-take (m * size) (m * size) rest (omega arith))) in
       record {
         within = whole;
         are_symbols = symbols-more base width part i m first.are_symbols
-            (λ j h. rw (get_or-take (m * size) rest j 0 h) (others.are_symbols j h));
+            (λ j h. rw (
+              get_or-take (m * size) rest j 0 h,
+              ← get_or-take reach rest j 0 (omega (arith, h, few)),
+            ) (second.are_symbols j h));
         bytes = rw (add-mul i m count)
-            (taken ∙ (λ j. first.bytes j ++ (others.bytes ∙ twice) j)
+            (taken ∙ (λ j. first.bytes j ++ (second.bytes ∙ twice) j)
             ∙ bytes-more base width part i m whole);
+      })
+
+  -- a run in the front of a part and of an output
+  pub run-front : (part old output : List ℕ) (m reach far : ℕ) → m * bytes ≤ far
+      → IsRun base (take reach part) m old (take far output) → IsRun base part m old output
+  run-front part old output m reach far =
+      rw (← same_bytes) (λ enough run.
+      let few : m * group_symbols base.width ≤ reach =
+      omega (arith, run.within, length-take reach part) in
+      record {
+        within = omega (arith, run.within, length-take reach part);
+        are_symbols = λ j h.
+            rw (← get_or-take reach part j 0 (omega (arith, h, few))) (run.are_symbols j h);
+        bytes = sym (take-take (m * group_bytes base.width) far output enough) ∙ run.bytes
+            ∙ ap (run_bytes base) (take-take (m * group_symbols base.width) reach part few);
+      })
+
+  -- a run that ends before a position
+  pub run-cut : (part old output : List ℕ) (m reach : ℕ) → m * symbols ≤ reach
+      → IsRun base part m old output → IsRun base (take reach part) m old output
+  run-cut part old output m reach =
+      rw (← same_symbols) (λ few run. record {
+        within = omega (arith, run.within, few, length-take reach part);
+        are_symbols = λ j h.
+            rw (get_or-take reach part j 0 (omega (arith, h, few))) (run.are_symbols j h);
+        bytes = run.bytes
+            ∙ ap (run_bytes base)
+            (sym (take-take (m * group_symbols base.width) reach part few));
       })
 
   -- a group of symbols after a run
@@ -214,10 +251,87 @@ module _ (base : Base) (width : IsWidth base.width) (w bytes symbols : ℕ)
       (omega (arith, inside, stop_is)) in
       rw (here, get_or-drop (i * symbols) part j 0) (grind (arith, is, other)))
 
+  -- a byte that is no symbol ends it too
+  pub run-ends : (values part : List ℕ) (at : ℕ) → 0 < symbols → HoldsValues base values
+      → slice_index part at < 256 → 128 ≤ slice_index values (slice_index part at)
+      → IsLongest base part (at / symbols)
+  run-ends values part at some holds fits entry = λ before all.
+      let size = group_symbols base.width in
+      let place : at / symbols * size + at % symbols ≡ at =
+      omega (arith, div-add-mod' at symbols, ap (λ n. at / symbols * n) same_symbols) in
+      let inside : at % symbols < size = omega (arith, mod-lt at some, same_symbols) in
+      sym (holds.others (slice_index part at) fits entry)
+      ∙ ap (λ n. is_symbol (meaning base (slice_index part n))) (sym place)
+      ∙ all (at % symbols) inside
+
   -- so does the last whole group
-  pub run-all : (part : List ℕ) → IsLongest base part (length part / symbols)
-  run-all part = λ before all.
-      absurd (omega (arith, before, ap (λ d. length part / d) same_symbols))
+  pub run-all : (part : List ℕ) (len : ℕ) → length part ≡ len → IsLongest base part (len / symbols)
+  run-all part len long = λ before all.
+      let same : length part / group_symbols base.width ≡ len / symbols =
+      (λ i. long i / same_symbols i) in
+      absurd (omega (arith, before, same))
+
+-- whole groups, by how many symbols they have
+pub no-groups : (size : ℕ) → 0 / size ≡ 0
+no-groups size = zero-div size
+
+pub whole-groups : {s : ℕ} (count size : ℕ) → size ≡ s → 0 < s → count * size / s ≡ count
+whole-groups {s} count size same pos =
+    ap (λ n. count * n / s) same ∙ ap (λ n. n / s) (omega arith) ∙ div-mul-add count s 0 pos
+
+-- groups after others
+pub more-groups : {s : ℕ} (first found size : ℕ) → size ≡ s → 0 < s
+    → (first * size + found) / s ≡ first + found / s
+more-groups {s} first found size same pos =
+    ap (λ n. (first * n + found) / s) same
+    ∙ ap (λ n. n / s) (omega (arith, mul_comm first s))
+    ∙ add-mul-div_left found first pos ∙ omega arith
+
+-- and no more than a turn has
+pub few-groups : {s : ℕ} (found number : ℕ) → 0 < s → found ≤ number * s → found / s ≤ number
+few-groups {s} found number pos h =
+    omega (
+      arith,
+      (div-lt_iff_lt-mul {k = s} {x = found} {y = number + 1} pos).1
+          (omega (arith, h, pos)),
+    )
+
+-- nor than a longer part has
+pub fewer-groups : {s symbols : ℕ} (at len : ℕ) → symbols ≡ s → 0 < s → at ≤ len
+    → at / symbols ≤ len / s
+fewer-groups {s} at len same =
+    rw same (λ some h. (le-div_iff_mul-le some).1 (omega (arith, groups-within at s, h)))
+
+-- all of a turn
+pub all-groups : {number s groups size : ℕ} (found : ℕ) → groups ≡ number → size ≡ s → 0 < s
+    → found ≤ number * s → groups * size ≤ found → found / s ≡ groups
+all-groups {number} {s} found same_groups same_size pos =
+    rw (same_groups, same_size) (λ most least.
+    let all : found ≡ number * s = omega (arith, most, least) in
+    ap (λ n. n / s) all ∙ whole-groups number s refl pos)
+
+-- turns of whole groups have room if all groups have
+pub turns-room : {number s groups size : ℕ} (n m b : ℕ) → groups ≡ number → size ≡ s
+    → n / s * b ≤ m → n / size / groups * number * b ≤ m
+turns-room {number} {s} n m b same_groups same_size =
+    rw (same_groups, same_size) (λ room.
+    omega (arith, room, mul-le-mul_right b (groups-within (n / s) number)))
+
+pub turns-few : {number s groups size : ℕ} (n : ℕ) → groups ≡ number → size ≡ s
+    → n / size / groups * number * s ≤ n
+turns-few {number} {s} n same_groups same_size =
+    rw (same_groups, same_size)
+    (omega (arith, groups-within n s, mul-le-mul_right s (groups-within (n / s) number)))
+
+-- a turn is within what all turns take
+pub turn-fits : {number s groups size : ℕ} (n count i : ℕ) → groups ≡ number → size ≡ s
+    → count * number * s ≤ n → i < count → i * groups * size + groups * size ≤ n
+turn-fits {number} {s} n count i same_groups same_size =
+    rw (same_groups, same_size) (λ room h.
+    let next : i + 1 ≤ count = omega (arith, h) in
+    let more : (i + 1) * number ≤ count * number = mul-le-mul_right number next in
+    let all : (i + 1) * number * s ≤ count * number * s = mul-le-mul_right s more in
+    omega (arith, room, all))
 
 -- how many groups are left after the first ones
 pub count-left : (n size first : ℕ) → 0 < size → first ≤ n / size

@@ -1,5 +1,5 @@
 -- Entries of a table that is affine by rows of sixteen, at bytes in lanes.
-use Rattle.std.proofs.Common.{◌≡◌, ℕ, ◌+◌, ◌-◌, ◌*◌, ◌/◌, ◌%◌, ◌^◌, ◌<◌, ◌≤◌, cond, eqb, List, [], ◌∷◌, length, map, take, drop, get_or, slice_index, replicate, bit_and, w8, refl, sym, ap, ◌∙◌, subst, arith, ⊎_elim}
+use Rattle.std.proofs.Common.{◌≡◌, ℕ, ◌+◌, ◌-◌, ◌*◌, ◌/◌, ◌%◌, ◌^◌, ◌<◌, ◌≤◌, cond, eqb, List, length, map, take, drop, get_or, slice_index, replicate, bit_and, w8, refl, sym, ap, ◌∙◌, subst, arith, ⊎_elim}
 use Rattle.std.proofs.lemmas.Bool.{cases_lt}
 use Rattle.std.proofs.lemmas.Bool.Decides.{nat_tests}
 use Rattle.std.proofs.lemmas.Nat.{and_le_r}
@@ -7,7 +7,7 @@ use Rattle.std.proofs.lemmas.List.{get_or-drop, get_or-replicate, map-id, ext_ge
 use Rattle.std.proofs.lemmas.List.FromFn.{get_or-map-range_with_len, length-map-range_with_len}
 use Rattle.std.proofs.lemmas.Simd.{length-chunk, zip2_of_maps, zip2_splat, splat_is_map, tops_compared, map-map}
 use Rattle.std.specs.List.{AllByRecursion, range_with_len}
-use Rattle.std.specs.Simd.Lanes.{Each1, chunk, zip2, sel_l, top}
+use Rattle.std.specs.Simd.Lanes.{chunk, zip2, sel_l, top}
 use Rattle.data_encoding_kernel.specs.declared.lanes.affine.Affine.{Affine}
 use Rattle.data_encoding_kernel.specs.Affine.{HoldsAffine, affine_entry, affine_value, bits_of_rows, moved_byte, symbol_bit}
 use Rattle.data_encoding_kernel.specs.Values.{IsRow, in_row}
@@ -114,22 +114,13 @@ high-entry affine byte high fits =
     ∙ omega (arith, and_le_r (in_row affine.symbols 0 byte) 0) in
     ap (λ n. cond (eqb n 0) 255 (affine_value affine byte)) none
 
-entry-is : (values : List ℕ) (affine : Affine) → HoldsAffine values affine → (byte : ℕ)
+pub entry-is : (values : List ℕ) (affine : Affine) → HoldsAffine values affine → (byte : ℕ)
     → byte < 256 → affine_entry affine byte < 128
     → affine_entry affine byte ≡ slice_index values byte
 entry-is values affine held byte fits small =
     held.agrees byte (⊎_elim (λ (low : byte < 128). low)
     (λ (high : 128 ≤ byte). absurd (omega (arith, small, high-entry affine byte high fits)))
     (cases_lt byte 128)) small
-
-pub entries-are : (values : List ℕ) (affine : Affine) → HoldsAffine values affine
-    → (bytes : List ℕ) → Each1 (λ byte. byte < 256) bytes
-    → AllByRecursion (λ entry. entry < 128) (map (affine_entry affine) bytes)
-    → map (affine_entry affine) bytes ≡ map (slice_index values) bytes
-entries-are values affine held [] fits small = refl
-entries-are values affine held (byte ∷ bytes) fits small =
-    λ i. entry-is values affine held byte fits.0 small.0 i
-    ∷ entries-are values affine held bytes fits.1 small.1 i
 
 -- the bytes of a row, as they are computed
 pub row-bytes : (row : ℕ) → row < 8

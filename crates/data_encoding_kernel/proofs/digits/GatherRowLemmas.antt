@@ -5,12 +5,15 @@ use Rattle.std.proofs.lemmas.Bool.Decides.{nat_tests}
 use Rattle.std.proofs.lemmas.Nat.{and_mask, and_le_r, le_or_r}
 use Rattle.std.proofs.lemmas.Nat.Bits.{and_high}
 use Rattle.std.proofs.lemmas.List.{length-map, get_or-map, get_or-take, get_or-drop, ext_get_or, map-append, take_at}
-use Rattle.std.proofs.lemmas.Simd.{swz_l, SwzOk, SwzOk-from_below, length-swz_l, get_or-swz_l_below, zip2_splat, zip2_splat_left, tops_compared, Each1-all, Each1-zip2, Each2-splat, map-map, mask_l-mod, pick_l-range_with_len}
+use Rattle.std.proofs.lemmas.Simd.{swz_l, SwzOk, SwzOk-from_below, length-swz_l, get_or-swz_l_below, zip2_splat, zip2_splat_left, tops_compared, Each1-all, Each1-get_or, Each1-zip2, Each2-splat, map-map, mask_l-mod, pick_l-range_with_len, trailing_mask_l}
+use Rattle.std.proofs.lemmas.List.Sums.{prefix_len-le-length, prefix_len_passes}
 use Rattle.std.specs.Bool.{IsTrue}
 use Rattle.std.specs.Int.Bits.{or_zero_r}
 use Rattle.std.specs.List.{AllByRecursion, concat, range_with_len}
 use Rattle.std.specs.Simd.Lanes.{Each1, zip2, sel_l, mask_l, pick_l, top}
-use Rattle.data_encoding_kernel.specs.Values.{IsRow, chosen_by, in_row}
+use Rattle.std.specs.List.{prefix_len}
+use lib.Count.{count_trailing_zeros}
+use Rattle.data_encoding_kernel.specs.Values.{AreEntries, IsRow, chosen_by, in_row}
 use Rattle.data_encoding_kernel.proofs.digits.LaneLemmas.{selected}
 use Rattle.data_encoding_meaning.proofs.lists.RepeatLemmas.{get_or-repeats}
 
@@ -36,20 +39,54 @@ true-twice : (b : Bool) → IsTrue (not (not b)) → b ≡ true
 true-twice true h = refl
 true-twice false h = h
 
+-- the lanes at least the limit, as a mask
+abbrev pub mask_of : ℕ → ℕ → List ℕ → ℕ
+mask_of limit count lanes =
+    mask_l (map (top 7) (zip2 at_most (replicate count limit) lanes)) % 18446744073709551616
+
+module _ (limit count : ℕ) (lanes : List ℕ) (long : length lanes ≡ count) (few : count ≤ 64) where
+  mask-is : mask_of limit count lanes ≡ mask_l (map (leb limit) lanes)
+  mask-is =
+      ap (λ l. mask_l l % 18446744073709551616)
+      (tops_compared w8 leb (replicate count limit) lanes
+      ∙ zip2_splat_left leb limit count lanes long)
+      ∙ mask_l-mod (map (leb limit) lanes) 64 (omega (arith, length-map lanes (leb limit), long, few))
+
+  pub none-above : mask_of limit count lanes ≡ 0 → AllByRecursion (λ lane. lane < limit) lanes
+  none-above none = below-by_mask limit lanes (sym mask-is ∙ none)
+
+  first-above : (mask_of limit count lanes ≡ 0 → ⊥)
+      → count_trailing_zeros 64 (mask_of limit count lanes)
+      ≡ prefix_len (λ lane. not (leb limit lane)) lanes
+  first-above some =
+      let more : 0 < mask_l (map (leb limit) lanes) = omega (arith, mask-is, some) in
+      ap (count_trailing_zeros 64) mask-is
+      ∙ trailing_mask_l (leb limit) 64 lanes (omega (arith, long, few)) more
+
+  -- how many lanes come before the first that is at least the limit
+  pub few-before : (mask_of limit count lanes ≡ 0 → ⊥)
+      → count_trailing_zeros 64 (mask_of limit count lanes) ≤ count
+  few-before some =
+      omega (
+        arith,
+        first-above some,
+        prefix_len-le-length (λ lane. not (leb limit lane)) lanes,
+        long,
+      )
+
+  pub below-before : (mask_of limit count lanes ≡ 0 → ⊥) → (k : ℕ)
+      → k < count_trailing_zeros 64 (mask_of limit count lanes) → slice_index lanes k < limit
+  below-before some k h =
+      let passes = prefix_len_passes (λ lane. not (leb limit lane)) lanes k 0
+      (omega (arith, h, first-above some)) in
+      let lane = slice_index lanes k in
+      grind (arith, nat_tests, passes)
+
 pub all-below : (limit count : ℕ) (lanes : List ℕ) → length lanes ≡ count → count ≤ 64
-    → IsTrue (not (not (eqb (mask_l (map (top 7)
-    (zip2 at_most (replicate count limit) lanes)) % 18446744073709551616) 0)))
+    → IsTrue (not (not (eqb (mask_of limit count lanes) 0)))
     → AllByRecursion (λ lane. lane < limit) lanes
 all-below limit count lanes long few h =
-    let same : map (top 7) (zip2 at_most (replicate count limit) lanes) ≡ map (leb limit) lanes =
-    tops_compared w8 leb (replicate count limit) lanes ∙ zip2_splat_left leb limit count lanes long
-    in
-    let tests = map (leb limit) lanes in
-    let whole : mask_l tests % 18446744073709551616 ≡ mask_l tests =
-    mask_l-mod tests 64 (omega (arith, length-map lanes (leb limit), long, few)) in
-    below-by_mask limit lanes
-    (sym whole ∙ ap (λ l. mask_l l % 18446744073709551616) (sym same)
-    ∙ eqb-true _ 0 (true-twice _ h))
+    none-above limit count lanes long few (eqb-true _ 0 (true-twice _ h))
 
 -- sixteen entries, as they are loaded
 pub row-of : (start : ℕ) (values : List ℕ)
@@ -186,10 +223,10 @@ of_rows-is values byte h =
     at start e = ap (slice_index values) e
 
 -- a byte from 128 on keeps its highest bit
-abbrev of_byte : List ℕ → ℕ → ℕ
+abbrev pub of_byte : List ℕ → ℕ → ℕ
 of_byte values byte = bit_or (of_rows values byte) (bit_and byte 128)
 
-of_byte-is : (values : List ℕ) (byte : ℕ) → byte < 256 → of_byte values byte < 128
+pub of_byte-is : (values : List ℕ) (byte : ℕ) → byte < 256 → of_byte values byte < 128
     → of_byte values byte ≡ slice_index values byte
 of_byte-is values byte fits h =
     let high : bit_and byte 128 ≡ byte / 128 % 2 * 128 = and_high byte 1 7 in
@@ -198,9 +235,11 @@ of_byte-is values byte fits h =
     ap (bit_or (of_rows values byte)) (omega (arith, high, low)) ∙ or_zero_r (of_rows values byte)
     ∙ of_rows-is values byte low
 
-pub of_bytes-are : (values bytes : List ℕ) → Each1 (λ byte. byte < 256) bytes
-    → AllByRecursion (λ entry. entry < 128) (map (of_byte values) bytes)
-    → map (of_byte values) bytes ≡ map (slice_index values) bytes
-of_bytes-are values [] fits h = refl
-of_bytes-are values (byte ∷ bytes) fits h =
-    λ i. of_byte-is values byte fits.0 h.0 i ∷ of_bytes-are values bytes fits.1 h.1 i
+-- the entries that a function finds for bytes, each if it is below 128
+pub entries-are : (find : ℕ → ℕ) (values bytes found : List ℕ) → found ≡ map find bytes
+    → Each1 (λ byte. byte < 256) bytes
+    → ((byte : ℕ) → byte < 256 → find byte < 128 → find byte ≡ slice_index values byte)
+    → AreEntries values bytes found
+entries-are find values bytes found is fits each k h =
+    rw (is, get_or-map find bytes k 0 0 h)
+    (each (get_or bytes k 0) (Each1-get_or (λ byte. byte < 256) bytes k 0 h fits))

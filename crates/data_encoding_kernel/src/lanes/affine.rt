@@ -1,9 +1,9 @@
 //! The entries of bytes, from a table that is affine by rows of sixteen.
 
 ghost use Rattle.std.specs.Prelude.{◌≡◌, ℕ, ◌+◌, ◌*◌, ◌%◌, ◌/◌, ◌<◌, List, length, map, slice_index, IsTrue, IfSome};
-ghost use Rattle.std.specs.List.{AllByRecursion, range_with_len};
+ghost use Rattle.std.specs.List.{range_with_len};
 ghost use Rattle.data_encoding_kernel.specs.Affine.{HoldsAffine, affine_entry, agrees, bits_of_rows, form_of};
-ghost use Rattle.data_encoding_kernel.specs.Values.{in_row};
+ghost use Rattle.data_encoding_kernel.specs.Values.{AreEntries, in_row};
 
 use crate::lanes::decode::are_below;
 use crate::lanes::rows::{in_row_16, in_row_32, in_row_64};
@@ -219,8 +219,7 @@ fn found<const N: usize>(
 #[inline(always)]
 pub fn affine_entries_16(affine: &Affine, bytes: u8x16) -> u8x16
     ensures { (values : List ℕ) → HoldsAffine values affine.now
-        → AllByRecursion (λ entry. entry < 128) result
-        → result ≡ map (slice_index values) bytes }
+        → AreEntries values bytes result }
 {
     found_16(affine, bytes)
 }
@@ -229,8 +228,7 @@ pub fn affine_entries_16(affine: &Affine, bytes: u8x16) -> u8x16
 #[inline(always)]
 pub fn affine_entries_32(affine: &Affine, bytes: u8x32) -> u8x32
     ensures { (values : List ℕ) → HoldsAffine values affine.now
-        → AllByRecursion (λ entry. entry < 128) result
-        → result ≡ map (slice_index values) bytes }
+        → AreEntries values bytes result }
 {
     found_32(affine, bytes)
 }
@@ -239,8 +237,7 @@ pub fn affine_entries_32(affine: &Affine, bytes: u8x32) -> u8x32
 #[inline(always)]
 pub fn affine_entries_64(affine: &Affine, bytes: u8x64) -> u8x64
     ensures { (values : List ℕ) → HoldsAffine values affine.now
-        → AllByRecursion (λ entry. entry < 128) result
-        → result ≡ map (slice_index values) bytes }
+        → AreEntries values bytes result }
 {
     found_64(affine, bytes)
 }

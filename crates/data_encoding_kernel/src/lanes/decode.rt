@@ -1,6 +1,6 @@
 //! Eight groups of symbols at a time, with a lane for each.
 
-ghost use Rattle.std.specs.Prelude.{◌≡◌, ℕ, ◌+◌, ◌-◌, ◌*◌, ◌/◌, ◌^◌, ◌<◌, ◌≤◌, ◌⊎◌, List, length, map, slice_index, flat_map, IsTrue};
+ghost use Rattle.std.specs.Prelude.{◌≡◌, ℕ, ◌+◌, ◌-◌, ◌*◌, ◌/◌, ◌%◌, ◌^◌, ◌<◌, ◌≤◌, ◌⊎◌, List, length, map, take, slice_index, flat_map, IsTrue};
 ghost use Rattle.std.specs.List.{AllByRecursion, range_with_len};
 ghost use Rattle.std.specs.Simd.{first_chunks};
 ghost use Rattle.data_encoding_kernel.specs.Runs.{IsRunBy};
@@ -92,47 +92,75 @@ fn words_of_eight(order: BitOrder, width: usize, values: u8x64) -> u64x8
 #[inline(always)]
 pub fn are_below<const N: usize>(limit: u8, lanes: Simd<u8, N>) -> bool
     requires { N ≤ 64 }
-    ensures { IsTrue result → AllByRecursion (λ lane. lane < limit) lanes.entry }
+    ensures lanes { length lanes.entry ≡ N }
+    ensures below { IsTrue result → AllByRecursion (λ lane. lane < limit) lanes.entry }
 {
     !lanes.simd_ge(Simd::<u8, N>::splat(limit)).any()
 }
 
-// The words of eight groups of symbols, and whether each byte of them is a symbol.
+// How many lanes come before the first that is not below the limit.
+#[inline(always)]
+fn count_below<const N: usize>(limit: u8, lanes: Simd<u8, N>) -> usize
+    requires { N ≤ 64 }
+    ensures lanes { length lanes.entry ≡ N }
+    ensures few { result ≤ N }
+    ensures below { (k : ℕ) → k < result → slice_index lanes.entry k < limit }
+{
+    let others = lanes.simd_ge(Simd::<u8, N>::splat(limit));
+    if !others.any() {
+        return N;
+    }
+    others.to_bitmask().trailing_zeros() as usize
+}
+
+// The lowest bits of each lane.
+#[inline(always)]
+fn low_bits<const N: usize>(width: usize, lanes: Simd<u8, N>) -> Simd<u8, N>
+    requires { width < 8 }
+    ensures { result ≡ map (λ lane. lane % 2 ^ width) lanes.entry }
+{
+    lanes & Simd::<u8, N>::splat((1 << width) - 1)
+}
+
+// The words of eight groups, and how many bytes come before the first that is no symbol. The words
+// of the groups before it are those of their symbols.
 #[inline(always)]
 fn words_of_groups<L: LookUp, G: GroupSize>(
     look_up: &L,
     order: BitOrder,
     input: &[u8],
-) -> (u64x8, bool)
+) -> (u64x8, usize)
     requires symbols { length input.now ≡ 8 * G.SYMBOLS }
-    ensures words { (values : List ℕ) → L.holds values look_up.now → IsTrue result.1
-        → result.0 ≡ map (word_of order G.WIDTH G.SYMBOLS)
-        (first_chunks G.SYMBOLS 8 (map (slice_index values) input.now)) }
-    ensures symbols { (values : List ℕ) → L.holds values look_up.now → IsTrue result.1
-        → (k : ℕ) → k < length input.now
-        → slice_index values (slice_index input.now k) < 128 }
-    ensures fit { IsTrue result.1
-        → AllByRecursion (λ word. word < 2 ^ (G.WIDTH * G.SYMBOLS)) result.0 }
+    ensures few { result.1 ≤ 8 * G.SYMBOLS }
+    ensures words { (values : List ℕ) → L.holds values look_up.now
+        → take (result.1 / G.SYMBOLS) result.0 ≡ map (word_of order G.WIDTH G.SYMBOLS)
+        (first_chunks G.SYMBOLS (result.1 / G.SYMBOLS) (map (slice_index values) input.now)) }
+    ensures symbols { (values : List ℕ) → L.holds values look_up.now
+        → (k : ℕ) → k < result.1 → slice_index values (slice_index input.now k) < 128 }
+    ensures fit { AllByRecursion (λ word. word < 2 ^ (G.WIDTH * G.SYMBOLS)) result.0 }
 {
     let width = G::WIDTH;
     let limit = 1 << width;
     match G::SYMBOLS {
         2 => {
-            let values = look_up.look_up_16(u8x16::from_slice(input));
-            (words_of_two(order, width, values), are_below(limit, values))
+            let entries = look_up.look_up_16(u8x16::from_slice(input));
+            (
+                words_of_two(order, width, low_bits(width, entries)),
+                count_below(limit, entries),
+            )
         }
         4 => {
-            let values = look_up.look_up_32(u8x32::from_slice(input));
+            let entries = look_up.look_up_32(u8x32::from_slice(input));
             (
-                words_of_four(order, width, values),
-                are_below(limit, values),
+                words_of_four(order, width, low_bits(width, entries)),
+                count_below(limit, entries),
             )
         }
         _ => {
-            let values = look_up.look_up_64(u8x64::from_slice(input));
+            let entries = look_up.look_up_64(u8x64::from_slice(input));
             (
-                words_of_eight(order, width, values),
-                are_below(limit, values),
+                words_of_eight(order, width, low_bits(width, entries)),
+                count_below(limit, entries),
             )
         }
     }
@@ -217,24 +245,22 @@ fn store<G: GroupSize>(order: BitOrder, words: u64x8, output: &mut [u8])
     }
 }
 
-/// Decodes eight whole groups. Returns `false`, with the output unchanged, if a byte of the input
-/// is no symbol.
+/// Decodes eight groups, and returns how many bytes come before the first that is no symbol. Output
+/// bytes after those of the whole groups before it are unspecified.
 #[inline(always)]
 pub fn decode_eight<L: LookUp, G: GroupSize>(
     look_up: &L,
     order: BitOrder,
     input: &[u8],
     output: &mut [u8],
-) -> bool
+) -> usize
     requires symbols { length input.now ≡ 8 * G.SYMBOLS }
     requires exact { length output.old ≡ 8 * G.BYTES }
-    ensures { (values : List ℕ) → L.holds values look_up.now → IsTrue result
-        → IsRunBy values G.WIDTH order input.now 8 output.old output.new }
+    ensures few { result ≤ 8 * G.SYMBOLS }
+    ensures run { (values : List ℕ) → L.holds values look_up.now
+        → IsRunBy values G.WIDTH order input.now (result / G.SYMBOLS) output.old output.new }
 {
-    let (words, are_symbols) = words_of_groups::<L, G>(look_up, order, input);
-    if !are_symbols {
-        return false;
-    }
+    let (words, count) = words_of_groups::<L, G>(look_up, order, input);
     store::<G>(order, words, output);
-    true
+    count
 }

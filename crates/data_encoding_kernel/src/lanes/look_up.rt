@@ -1,17 +1,16 @@
 //! Ways to find the entries of bytes, in a lane for each.
 
-ghost use Rattle.std.specs.Prelude.{◌≡◌, ℕ, ◌<◌, List, map, slice_index, IsTrue};
-ghost use Rattle.std.specs.List.{AllByRecursion};
+ghost use Rattle.std.specs.Prelude.{ℕ, List, IsTrue};
 ghost use Rattle.data_encoding_kernel.specs.Affine.{HoldsAffine, agrees};
-ghost use Rattle.data_encoding_kernel.specs.Values.{HoldsRows};
+ghost use Rattle.data_encoding_kernel.specs.Values.{AreEntries, HoldsRows};
 
 use crate::lanes::affine::{Affine, affine_entries_16, affine_entries_32, affine_entries_64};
 use crate::lanes::rows::{Rows, entries_16, entries_32, entries_64, rows_of};
 use crate::value_table::ValueTable;
 use std::simd::prelude::*;
 
-/// A way to find the entries of a table for bytes. If each entry found is below 128, they are those
-/// of the table.
+/// A way to find the entries of a table for bytes. Each entry found that is below 128 is that of the
+/// table.
 pub trait LookUp: Copy {
     ghost holds: { List ℕ → Self → Type 0 };
 
@@ -22,18 +21,15 @@ pub trait LookUp: Copy {
 
     fn look_up_16(&self, bytes: u8x16) -> u8x16
         ensures { (values : List ℕ) → holds values self.now
-            → AllByRecursion (λ entry. entry < 128) result
-            → result ≡ map (slice_index values) bytes };
+            → AreEntries values bytes result };
 
     fn look_up_32(&self, bytes: u8x32) -> u8x32
         ensures { (values : List ℕ) → holds values self.now
-            → AllByRecursion (λ entry. entry < 128) result
-            → result ≡ map (slice_index values) bytes };
+            → AreEntries values bytes result };
 
     fn look_up_64(&self, bytes: u8x64) -> u8x64
         ensures { (values : List ℕ) → holds values self.now
-            → AllByRecursion (λ entry. entry < 128) result
-            → result ≡ map (slice_index values) bytes };
+            → AreEntries values bytes result };
 }
 
 impl LookUp for Rows {

@@ -1,8 +1,7 @@
 //! The entries of bytes, from a table in rows of sixteen.
 
 ghost use Rattle.std.specs.Prelude.{◌≡◌, ℕ, ◌+◌, ◌%◌, ◌<◌, List, map, slice_index};
-ghost use Rattle.std.specs.List.{AllByRecursion};
-ghost use Rattle.data_encoding_kernel.specs.Values.{HoldsRows, IsRow, chosen_by};
+ghost use Rattle.data_encoding_kernel.specs.Values.{AreEntries, HoldsRows, IsRow, chosen_by};
 
 use std::simd::prelude::*;
 
@@ -126,8 +125,7 @@ macro_rules! entries_by_rows {
 #[inline(always)]
 pub fn entries_16(rows: &Rows, bytes: u8x16) -> u8x16
     ensures { (values : List ℕ) → HoldsRows values rows.now
-        → AllByRecursion (λ entry. entry < 128) result
-        → result ≡ map (slice_index values) bytes }
+        → AreEntries values bytes result }
 {
     entries_by_rows!(rows, bytes, in_row_16, u8x16)
 }
@@ -136,8 +134,7 @@ pub fn entries_16(rows: &Rows, bytes: u8x16) -> u8x16
 #[inline(always)]
 pub fn entries_32(rows: &Rows, bytes: u8x32) -> u8x32
     ensures { (values : List ℕ) → HoldsRows values rows.now
-        → AllByRecursion (λ entry. entry < 128) result
-        → result ≡ map (slice_index values) bytes }
+        → AreEntries values bytes result }
 {
     entries_by_rows!(rows, bytes, in_row_32, u8x32)
 }
@@ -146,8 +143,7 @@ pub fn entries_32(rows: &Rows, bytes: u8x32) -> u8x32
 #[inline(always)]
 pub fn entries_64(rows: &Rows, bytes: u8x64) -> u8x64
     ensures { (values : List ℕ) → HoldsRows values rows.now
-        → AllByRecursion (λ entry. entry < 128) result
-        → result ≡ map (slice_index values) bytes }
+        → AreEntries values bytes result }
 {
     entries_by_rows!(rows, bytes, in_row_64, u8x64)
 }

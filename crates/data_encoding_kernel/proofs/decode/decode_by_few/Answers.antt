@@ -7,4 +7,5 @@ returns-then-input-lt16-clause-run g c = λ base reads.
 
 pub returns-clause-run : goal.returns-clause-run
 returns-clause-run g c = λ base reads.
-    c.decode_turns.ensures.run c.args.values.now c.requires.held base (rw c.ORDER.ensures reads)
+    c.decode_whole_turns.ensures.run c.args.values.now c.requires.held base
+    (rw c.ORDER.ensures reads)

@@ -1,29 +1,90 @@
-use Rattle.std.proofs.Common.{◌≤◌, ◌*◌, ◌/◌, length, refl, arith}
-use Rattle.data_encoding_kernel.proofs.decoding.SymbolRunLemmas.{groups-room, room-left, run-after, within-left}
+use Rattle.std.proofs.Common.{◌≡◌, ◌*◌, ◌/◌, ◌≤◌, length, length-take-le, refl, take, sym, subst, arith}
+use Rattle.std.proofs.lemmas.List.{get_or-take}
+use Rattle.data_encoding_kernel.specs.Runs.{IsRun}
+use Rattle.data_encoding_kernel.proofs.decoding.SymbolRunLemmas.{fewer-groups, groups-room, room-left, run-after, run-all, run-ends, within-left}
 use Rattle.data_encoding_meaning.proofs.digits.SizeLemmas.{IsGroup-same}
-use Rattle.data_encoding_meaning.proofs.lists.PartLemmas.{IsWhole-group}
+use Rattle.data_encoding_meaning.proofs.lists.PartLemmas.{IsWhole-group, IsWhole-same}
 use Rattle.data_encoding_kernel.proofs.decode.decode_by_lanes.Goals as goal
 
-pub returns-then-left-symbols-clause-run : goal.returns-then-left-symbols-clause-run
-returns-then-left-symbols-clause-run g c =
-    let run = c.decode_turns-first.ensures.run c.args.values.now c.requires.held in
-    rw c.ORDER.ensures at run
+pub returns-then-entry_of-ge128-clause-longest : goal.returns-then-entry_of-ge128-clause-longest
+returns-then-entry_of-ge128-clause-longest g c = λ base reads.
+    let at = c.decode_by_turns-at.result in
+    let group = IsGroup-same refl c.BYTES-bytes.ensures c.SYMBOLS-symbols.ensures
+    g.G.GroupSize.is_group in
+    let whole = IsWhole-same c.BYTES-bytes.ensures c.SYMBOLS-symbols.ensures
+    g.G.GroupSize.is_group in
+    let byte = get_or-take c.args.len c.args.input.now at 0 c.if-at-len.true in
+    run-ends base reads.holds.is_width g.G.GroupSize.WIDTH c.BYTES-bytes.result
+    c.SYMBOLS-symbols.result group reads.width_is c.args.values.now
+    (take c.args.len c.args.input.now) at whole.some_symbols reads.holds
+    (rw byte ((c.type_inv.input at).fits))
+    (rw byte (omega (arith, c.entry_of.ensures, c.if-entry_of-ge128.true)))
 
-pub returns-then-entry_of-ge128-clause-run : goal.returns-then-entry_of-ge128-clause-run
-returns-then-entry_of-ge128-clause-run g c =
-    let run = c.decode_turns-first.ensures.run c.args.values.now c.requires.held in
-    rw c.ORDER.ensures at run
+pub returns-clause-longest : goal.returns-clause-longest
+returns-clause-longest g c = λ base reads.
+    let group = IsGroup-same refl c.BYTES-bytes.ensures c.SYMBOLS-symbols.ensures
+    g.G.GroupSize.is_group in
+    run-all base reads.holds.is_width g.G.GroupSize.WIDTH c.BYTES-bytes.result
+    c.SYMBOLS-symbols.result group reads.width_is (take c.args.len c.args.input.now) c.args.len
+    (length-take-le c.args.len c.args.input.now c.requires.few)
 
-pub decode_turns-further-requires : goal.decode_turns-further-requires
-decode_turns-further-requires g c =
+pub slice_bounds-decode_by_few-count-2 : goal.slice_bounds-decode_by_few-count-2
+slice_bounds-decode_by_few-count-2 g c =
     let whole = IsWhole-group g.G.GroupSize.WIDTH g.G.GroupSize.BYTES g.G.GroupSize.SYMBOLS
     g.G.GroupSize.is_group in
-    record {
-      room = room-left c.args.input.now c.decode_turns-first.new.output c.decode_turns-first.result
-          c.BYTES-bytes.ensures c.SYMBOLS-symbols.ensures whole.some_symbols
-          c.decode_turns-first.ensures.within
-          (omega (arith, c.requires.room, c.decode_turns-first.auto.output));
-    }
+    let part = take c.args.len c.args.input.now in
+    let part_len : length part ≡ c.args.len =
+    length-take-le c.args.len c.args.input.now c.requires.few in
+    let at = c.decode_by_turns-at.result in
+    let first = at / c.SYMBOLS-symbols.result in
+    let within : first ≤ length part / g.G.GroupSize.SYMBOLS =
+    subst (λ n. first ≤ n / g.G.GroupSize.SYMBOLS) (sym part_len)
+    (fewer-groups at c.args.len c.SYMBOLS-symbols.ensures whole.some_symbols
+    c.decode_by_turns-at.ensures.within) in
+    let output = c.decode_by_turns-at.new.output in
+    let room : length part / g.G.GroupSize.SYMBOLS * g.G.GroupSize.BYTES ≤ length output =
+    subst (λ n. n / g.G.GroupSize.SYMBOLS * g.G.GroupSize.BYTES ≤ length output) (sym part_len)
+    (omega (arith, c.requires.room, c.decode_by_turns-at.auto.output)) in
+    groups-room _ first (length output) c.BYTES-bytes.ensures within room
+
+pub slice_bounds-decode_by_few-start-2 : goal.slice_bounds-decode_by_few-start-2
+slice_bounds-decode_by_few-start-2 g c =
+    let whole = IsWhole-group g.G.GroupSize.WIDTH g.G.GroupSize.BYTES g.G.GroupSize.SYMBOLS
+    g.G.GroupSize.is_group in
+    let part = take c.args.len c.args.input.now in
+    let part_len : length part ≡ c.args.len =
+    length-take-le c.args.len c.args.input.now c.requires.few in
+    let at = c.decode_by_turns-at.result in
+    let first = at / c.SYMBOLS-symbols.result in
+    let within : first ≤ length part / g.G.GroupSize.SYMBOLS =
+    subst (λ n. first ≤ n / g.G.GroupSize.SYMBOLS) (sym part_len)
+    (fewer-groups at c.args.len c.SYMBOLS-symbols.ensures whole.some_symbols
+    c.decode_by_turns-at.ensures.within) in
+    let output = c.decode_by_turns-at.new.output in
+    let room : length part / g.G.GroupSize.SYMBOLS * g.G.GroupSize.BYTES ≤ length output =
+    subst (λ n. n / g.G.GroupSize.SYMBOLS * g.G.GroupSize.BYTES ≤ length output) (sym part_len)
+    (omega (arith, c.requires.room, c.decode_by_turns-at.auto.output)) in
+    groups-room _ first (length output) c.BYTES-bytes.ensures within room
+
+pub decode_by_few-further-requires-clause-room : goal.decode_by_few-further-requires-clause-room
+decode_by_few-further-requires-clause-room g c =
+    let whole = IsWhole-group g.G.GroupSize.WIDTH g.G.GroupSize.BYTES g.G.GroupSize.SYMBOLS
+    g.G.GroupSize.is_group in
+    let part = take c.args.len c.args.input.now in
+    let part_len : length part ≡ c.args.len =
+    length-take-le c.args.len c.args.input.now c.requires.few in
+    let at = c.decode_by_turns-at.result in
+    let first = at / c.SYMBOLS-symbols.result in
+    let within : first ≤ length part / g.G.GroupSize.SYMBOLS =
+    subst (λ n. first ≤ n / g.G.GroupSize.SYMBOLS) (sym part_len)
+    (fewer-groups at c.args.len c.SYMBOLS-symbols.ensures whole.some_symbols
+    c.decode_by_turns-at.ensures.within) in
+    let output = c.decode_by_turns-at.new.output in
+    let room : length part / g.G.GroupSize.SYMBOLS * g.G.GroupSize.BYTES ≤ length output =
+    subst (λ n. n / g.G.GroupSize.SYMBOLS * g.G.GroupSize.BYTES ≤ length output) (sym part_len)
+    (omega (arith, c.requires.room, c.decode_by_turns-at.auto.output)) in
+    room-left part output first c.BYTES-bytes.ensures c.SYMBOLS-symbols.ensures whole.some_symbols
+    within room
 
 pub returns-clause-run : goal.returns-clause-run
 returns-clause-run g c = λ base reads.
@@ -31,29 +92,51 @@ returns-clause-run g c = λ base reads.
     g.G.GroupSize.is_group in
     let whole = IsWhole-group g.G.GroupSize.WIDTH g.G.GroupSize.BYTES g.G.GroupSize.SYMBOLS
     g.G.GroupSize.is_group in
-    let input = c.args.input.now in
-    let output = c.decode_turns-first.new.output in
-    let first = c.decode_turns-first.result in
-    let within = c.decode_turns-first.ensures.within in
-    let room : length input / g.G.GroupSize.SYMBOLS * g.G.GroupSize.BYTES ≤ length output =
-    omega (arith, c.requires.room, c.decode_turns-first.auto.output) in
-    let left = room-left input output first c.BYTES-bytes.ensures c.SYMBOLS-symbols.ensures
+    let part = take c.args.len c.args.input.now in
+    let part_len : length part ≡ c.args.len =
+    length-take-le c.args.len c.args.input.now c.requires.few in
+    let at = c.decode_by_turns-at.result in
+    let first = at / c.SYMBOLS-symbols.result in
+    let within : first ≤ length part / g.G.GroupSize.SYMBOLS =
+    subst (λ n. first ≤ n / g.G.GroupSize.SYMBOLS) (sym part_len)
+    (fewer-groups at c.args.len c.SYMBOLS-symbols.ensures whole.some_symbols
+    c.decode_by_turns-at.ensures.within) in
+    let output = c.decode_by_turns-at.new.output in
+    let room : length part / g.G.GroupSize.SYMBOLS * g.G.GroupSize.BYTES ≤ length output =
+    subst (λ n. n / g.G.GroupSize.SYMBOLS * g.G.GroupSize.BYTES ≤ length output) (sym part_len)
+    (omega (arith, c.requires.room, c.decode_by_turns-at.auto.output)) in
+    let left = room-left part output first c.BYTES-bytes.ensures c.SYMBOLS-symbols.ensures
     whole.some_symbols within room in
-    let run = c.decode_turns-first.ensures.run c.args.values.now c.requires.held in
-    let further = c.decode_turns-further.ensures.run c.args.values.now c.requires.held in
     run-after base reads.holds.is_width g.G.GroupSize.WIDTH c.BYTES-bytes.result
-    c.SYMBOLS-symbols.result group reads.width_is input c.args.output.now output _
-    c.decode_turns-further.new.output first c.decode_turns-further.result _
-    (groups-room _ first (length output) c.BYTES-bytes.ensures within room)
-    (groups-room _ c.decode_turns-further.result (length c.decode_turns-further.new.output)
-    c.BYTES-bytes.ensures c.decode_turns-further.ensures.within
-    (omega (arith, left, c.decode_turns-further.auto.output)))
-    ((rw c.ORDER.ensures at run) base reads) ((rw c.ORDER-2.ensures at further) base reads)
+    c.SYMBOLS-symbols.result group reads.width_is part c.args.output.now output _
+    c.decode_by_few-further.new.output first c.decode_by_few-further.result _ (length part)
+    (omega arith) (groups-room _ first (length output) c.BYTES-bytes.ensures within room)
+    (groups-room _ c.decode_by_few-further.result (length c.decode_by_few-further.new.output)
+    c.BYTES-bytes.ensures c.decode_by_few-further.ensures.within
+    (omega (arith, left, c.decode_by_few-further.auto.output)))
+    (subst (λ n. IsRun base part (at / n) c.args.output.now output)
+    (sym c.SYMBOLS-symbols.ensures)
+    (c.decode_by_turns-at.ensures.run c.args.values.now c.requires.held base reads))
+    (c.decode_by_few-further.ensures.run base reads)
 
-pub returns-clause-within : goal.returns-clause-within
-returns-clause-within g c =
+pub returns-clause-ordered : goal.returns-clause-ordered
+returns-clause-ordered g c =
     let whole = IsWhole-group g.G.GroupSize.WIDTH g.G.GroupSize.BYTES g.G.GroupSize.SYMBOLS
     g.G.GroupSize.is_group in
-    within-left c.args.input.now c.decode_turns-first.result c.decode_turns-further.result
-    c.SYMBOLS-symbols.ensures whole.some_symbols c.decode_turns-first.ensures.within
-    c.decode_turns-further.ensures.within
+    let part = take c.args.len c.args.input.now in
+    let part_len : length part ≡ c.args.len =
+    length-take-le c.args.len c.args.input.now c.requires.few in
+    let at = c.decode_by_turns-at.result in
+    let first = at / c.SYMBOLS-symbols.result in
+    let within : first ≤ length part / g.G.GroupSize.SYMBOLS =
+    subst (λ n. first ≤ n / g.G.GroupSize.SYMBOLS) (sym part_len)
+    (fewer-groups at c.args.len c.SYMBOLS-symbols.ensures whole.some_symbols
+    c.decode_by_turns-at.ensures.within) in
+    let same : length part / g.G.GroupSize.SYMBOLS ≡ c.args.len / c.SYMBOLS-symbols.result =
+    (λ i. part_len i / (sym c.SYMBOLS-symbols.ensures) i) in
+    omega (
+      arith,
+      same,
+      within-left part first c.decode_by_few-further.result
+          c.SYMBOLS-symbols.ensures whole.some_symbols within c.decode_by_few-further.ensures.within,
+    )

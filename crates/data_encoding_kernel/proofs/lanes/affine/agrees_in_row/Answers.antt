@@ -6,4 +6,4 @@ pub returns : goal.returns
 returns c = λ passes.
     agreed c.args.affine.now c.args.values.now c.bytes_of_row.result c.found_16-found.result
     c.args.row (omega arith) c.requires c.bytes_of_row.ensures c.found_16-found.ensures
-    (c.are_below.ensures passes)
+    (c.are_below.ensures.below passes)

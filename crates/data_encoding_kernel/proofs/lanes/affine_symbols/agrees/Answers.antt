@@ -11,4 +11,4 @@ pub returns : goal.returns
 returns c = λ passes.
     agreed-all c.args.affine.now c.args.symbols.now c.each_value.result
     c.affine_symbols_64-found.result (omega arith) c.each_value.ensures
-    c.affine_symbols_64-found.ensures (c.are_below.ensures passes)
+    c.affine_symbols_64-found.ensures (c.are_below.ensures.below passes)

@@ -1,32 +1,43 @@
-use Rattle.std.proofs.Common.{◌≡◌, IsTrue, sym, ◌∙◌, arith}
+use Rattle.std.proofs.Common.{sym, ◌∙◌, arith}
 use Rattle.data_encoding_kernel.proofs.decoding.GroupRunLemmas.{words-found}
 use Rattle.data_encoding_meaning.proofs.digits.SizeLemmas.{symbols-are}
+use Rattle.data_encoding_meaning.proofs.lists.PartLemmas.{IsWhole-group}
 use Rattle.data_encoding_kernel.proofs.lanes.decode.words_of_groups.Goals as goal
 
 pub returns-in-2 : goal.returns-in-2
 returns-in-2 g c =
-    words-found 8 g.G.GroupSize.is_group.is_width c.WIDTH-width.ensures
+    let whole = IsWhole-group g.G.GroupSize.WIDTH g.G.GroupSize.BYTES g.G.GroupSize.SYMBOLS
+    g.G.GroupSize.is_group in
+    words-found whole.is_width whole.some_symbols c.WIDTH-width.ensures
     (sym c.SYMBOLS.ensures ∙ c.in-2.is) (λ values. g.L.LookUp.holds values c.args.look_up.now)
-    (IsTrue c.are_below.result) c.args.order c.args.input.now c.look_up_16-values.result
-    c.words_of_two.result c.requires.symbols c.are_below.ensures c.look_up_16-values.ensures
+    c.args.order c.args.input.now c.look_up_16-entries.result c.low_bits.result
+    c.words_of_two.result c.count_below.result c.requires.symbols
+    c.count_below.ensures.lanes c.count_below.ensures.few
+    c.count_below.ensures.below c.look_up_16-entries.ensures c.low_bits.ensures
     c.words_of_two.ensures.words c.words_of_two.ensures.fit
 
 pub returns-in-4 : goal.returns-in-4
 returns-in-4 g c =
-    words-found 8 g.G.GroupSize.is_group.is_width c.WIDTH-width.ensures
+    let whole = IsWhole-group g.G.GroupSize.WIDTH g.G.GroupSize.BYTES g.G.GroupSize.SYMBOLS
+    g.G.GroupSize.is_group in
+    words-found whole.is_width whole.some_symbols c.WIDTH-width.ensures
     (sym c.SYMBOLS.ensures ∙ c.in-4.is) (λ values. g.L.LookUp.holds values c.args.look_up.now)
-    (IsTrue c.are_below-in-4.result) c.args.order c.args.input.now c.look_up_32-values.result
-    c.words_of_four.result c.requires.symbols c.are_below-in-4.ensures c.look_up_32-values.ensures
+    c.args.order c.args.input.now c.look_up_32-entries.result c.low_bits-in-4.result
+    c.words_of_four.result c.count_below-in-4.result c.requires.symbols
+    c.count_below-in-4.ensures.lanes c.count_below-in-4.ensures.few
+    c.count_below-in-4.ensures.below c.look_up_32-entries.ensures c.low_bits-in-4.ensures
     c.words_of_four.ensures.words c.words_of_four.ensures.fit
 
 pub returns-in_default : goal.returns-in_default
 returns-in_default g c =
-    let eight : g.G.GroupSize.SYMBOLS ≡ 8 =
-    omega (arith, symbols-are g.G.GroupSize.is_group, c.in_default) in
-    words-found 8 g.G.GroupSize.is_group.is_width c.WIDTH-width.ensures eight
-    (λ values. g.L.LookUp.holds values c.args.look_up.now) (IsTrue c.are_below-in_default.result)
-    c.args.order c.args.input.now c.look_up_64-values.result c.words_of_eight.result
-    c.requires.symbols c.are_below-in_default.ensures c.look_up_64-values.ensures
+    let whole = IsWhole-group g.G.GroupSize.WIDTH g.G.GroupSize.BYTES g.G.GroupSize.SYMBOLS
+    g.G.GroupSize.is_group in
+    words-found whole.is_width whole.some_symbols c.WIDTH-width.ensures
+    (omega (arith, symbols-are g.G.GroupSize.is_group, c.in_default)) (λ values. g.L.LookUp.holds values c.args.look_up.now)
+    c.args.order c.args.input.now c.look_up_64-entries.result c.low_bits-in_default.result
+    c.words_of_eight.result c.count_below-in_default.result c.requires.symbols
+    c.count_below-in_default.ensures.lanes c.count_below-in_default.ensures.few
+    c.count_below-in_default.ensures.below c.look_up_64-entries.ensures c.low_bits-in_default.ensures
     c.words_of_eight.ensures.words c.words_of_eight.ensures.fit
 
 pub bounds-input-0-in_default : goal.bounds-input-0-in_default

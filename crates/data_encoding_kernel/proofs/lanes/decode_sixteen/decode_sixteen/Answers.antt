@@ -13,7 +13,7 @@ bounds-input-0 g c =
 pub store_sixteen-requires-clause-small : goal.store_sixteen-requires-clause-small
 store_sixteen-requires-clause-small g c =
     all-small g.G.GroupSize.is_group.is_width c.WIDTH.ensures _
-    (c.are_below.ensures c.if-not-are_below.false)
+    (c.are_below.ensures.below c.if-not-are_below.false)
 
 pub returns : goal.returns
 returns g c = λ values held all base reads.
@@ -22,9 +22,10 @@ returns g c = λ values held all base reads.
     let symbols = g.G.GroupSize.SYMBOLS in
     let number = 16 / group_symbols width in
     let small = all-small group.is_width c.WIDTH.ensures _
-    (c.are_below.ensures c.if-not-are_below.false) in
+    (c.are_below.ensures.below c.if-not-are_below.false) in
     let found = values-found group.is_width values c.args.input.now c.look_up_16-values.result
-    (c.requires.symbols ∙ sixteen-symbols group) small (c.look_up_16-values.ensures values held) in
+    (c.requires.symbols ∙ sixteen-symbols group) small
+    c.are_below.ensures.lanes (c.look_up_16-values.ensures values held) in
     groups-run base values width g.G.GroupSize.BYTES symbols c.args.order group reads number
     c.args.input.now c.args.output.now c.store_sixteen.new.output c.requires.symbols
     (c.store_sixteen.auto.output ∙ c.requires.exact) (λ j. (c.type_inv.input j).fits) found.symbols

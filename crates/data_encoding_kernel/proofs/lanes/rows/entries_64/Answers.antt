@@ -1,11 +1,10 @@
-use Rattle.std.proofs.Common.{◌<◌, bit_and, bit_or, w8, ◌∙◌, subst}
+use Rattle.std.proofs.Common.{bit_and, bit_or, w8}
 use Rattle.std.proofs.lemmas.Simd.{zip2_splat, zip2_of_maps, below_from_Fits}
-use Rattle.std.specs.List.{AllByRecursion}
-use Rattle.data_encoding_kernel.proofs.digits.GatherRowLemmas.{of_bytes-are, of_rows}
+use Rattle.data_encoding_kernel.proofs.digits.GatherRowLemmas.{entries-are, of_byte, of_byte-is, of_rows}
 use Rattle.data_encoding_kernel.proofs.lanes.rows.entries_64.Goals as goal
 
 pub returns : goal.returns
-returns c = λ values rows small.
+returns c = λ values rows.
     let bytes = c.args.bytes in
     let first = c.by_bit-first.ensures _ _ (c.in_row_64.ensures values 16 rows.second)
     (c.in_row_64-2.ensures values 0 rows.first) in
@@ -19,6 +18,5 @@ returns c = λ values rows small.
     (c.by_bit-below.ensures _ _ second first) in
     let all = zip2_of_maps bit_or (of_rows values) (λ byte. bit_and byte 128) bytes whole
     (zip2_splat bit_and bytes 64 128 c.fits-bytes.0) in
-    all
-    ∙ of_bytes-are values bytes (below_from_Fits w8 bytes c.fits-bytes.1)
-    (subst (AllByRecursion (λ entry. entry < 128)) all small)
+    entries-are (of_byte values) values bytes _ all
+    (below_from_Fits w8 bytes c.fits-bytes.1) (of_byte-is values)

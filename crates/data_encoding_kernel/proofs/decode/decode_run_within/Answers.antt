@@ -1,0 +1,226 @@
+use Rattle.std.proofs.Common.{◌≡◌, ℕ, ◌+◌, ◌*◌, ◌/◌, ◌<◌, ◌≤◌, length, length-take-le, take, refl, sym, ap, ◌∙◌, subst, arith}
+use Rattle.data_encoding_meaning.proofs.decoding.GroupJudgementLemmas.{part_bytes}
+use Rattle.std.proofs.Math.Nat.{mul-le-mul_right}
+use Rattle.data_encoding_meaning.proofs.digits.SizeLemmas.{IsGroup-same}
+use Rattle.data_encoding_kernel.proofs.decoding.SymbolRunLemmas.{group-next, run-kept, run-longest}
+use Rattle.data_encoding_meaning.proofs.lists.PartLemmas.{IsWhole-same, group-before, group-room, groups-within, length-part}
+use Rattle.data_encoding_kernel.proofs.decode.decode_run_within.Goals as goal
+
+-- a group that is left to be tried is one of the part
+before-count : {s symbols : ℕ} (i count len n : ℕ) → symbols ≡ s → count ≤ len / s → n ≡ len
+    → i < count → i < n / symbols
+before-count {s} i count len n same few long =
+    rw (same, long) (λ h. omega (arith, h, few))
+
+pub slice_bounds-decode_symbols-end : goal.slice_bounds-decode_symbols-end
+slice_bounds-decode_symbols-end g c =
+    let part = take c.args.len c.args.input.now in
+    let part_len : length part ≡ c.args.len =
+    length-take-le c.args.len c.args.input.now c.requires.few in
+    let inside = before-count c.loop-index.index (c.decode_by_several-first.result.1) c.args.len
+    (length part) c.SYMBOLS-symbols.ensures c.decode_by_several-first.ensures.within part_len
+    c.loop-index-test.true in
+    group-before (length part) c.SYMBOLS-symbols.result c.loop-index.index inside
+
+pub overflow_mul-read : goal.overflow_mul-read
+overflow_mul-read g c = omega (arith, slice_bounds-decode_symbols-end g c, length-take-le c.args.len c.args.input.now c.requires.few, c.ranges.len)
+
+pub overflow_add-read : goal.overflow_add-read
+overflow_add-read g c = omega (arith, slice_bounds-decode_symbols-end g c, length-take-le c.args.len c.args.input.now c.requires.few, c.ranges.len)
+
+pub slice_bounds-decode_symbols-end-in-loop-index :
+    goal.slice_bounds-decode_symbols-end-in-loop-index
+slice_bounds-decode_symbols-end-in-loop-index g c =
+    let part = take c.args.len c.args.input.now in
+    let part_len : length part ≡ c.args.len =
+    length-take-le c.args.len c.args.input.now c.requires.few in
+    let inside = before-count c.loop-index.index (c.decode_by_several-first.result.1) c.args.len
+    (length part) c.SYMBOLS-symbols.ensures c.decode_by_several-first.ensures.within part_len
+    c.loop-index-test.true in
+    let all : length part / g.G.GroupSize.SYMBOLS * g.G.GroupSize.BYTES
+    ≤ length c.args.output.now =
+    subst (λ n. n / g.G.GroupSize.SYMBOLS * g.G.GroupSize.BYTES ≤ length c.args.output.now)
+    (sym part_len) c.requires.room in
+    let room : c.loop-index.index * c.BYTES-bytes.result + c.BYTES-bytes.result
+    ≤ length c.loop-index.output =
+    rw (c.loop-index.auto.output, c.decode_by_several-first.auto.output)
+    (group-room (length part) c.loop-index.index _ c.BYTES-bytes.ensures c.SYMBOLS-symbols.ensures
+    all inside) in
+    room
+
+pub overflow_mul-written : goal.overflow_mul-written
+overflow_mul-written g c =
+    let part = take c.args.len c.args.input.now in
+    let part_len : length part ≡ c.args.len =
+    length-take-le c.args.len c.args.input.now c.requires.few in
+    let inside = before-count c.loop-index.index (c.decode_by_several-first.result.1) c.args.len
+    (length part) c.SYMBOLS-symbols.ensures c.decode_by_several-first.ensures.within part_len
+    c.loop-index-test.true in
+    let all : length part / g.G.GroupSize.SYMBOLS * g.G.GroupSize.BYTES
+    ≤ length c.args.output.now =
+    subst (λ n. n / g.G.GroupSize.SYMBOLS * g.G.GroupSize.BYTES ≤ length c.args.output.now)
+    (sym part_len) c.requires.room in
+    let room : c.loop-index.index * c.BYTES-bytes.result + c.BYTES-bytes.result
+    ≤ length c.loop-index.output =
+    rw (c.loop-index.auto.output, c.decode_by_several-first.auto.output)
+    (group-room (length part) c.loop-index.index _ c.BYTES-bytes.ensures c.SYMBOLS-symbols.ensures
+    all inside) in
+    omega (arith, room)
+
+pub overflow_add-written : goal.overflow_add-written
+overflow_add-written g c = omega (arith, slice_bounds-decode_symbols-end-in-loop-index g c)
+
+pub decode_symbols-requires-clause-few : goal.decode_symbols-requires-clause-few
+decode_symbols-requires-clause-few g c =
+    let part = take c.args.len c.args.input.now in
+    let part_len : length part ≡ c.args.len =
+    length-take-le c.args.len c.args.input.now c.requires.few in
+    let inside = before-count c.loop-index.index (c.decode_by_several-first.result.1) c.args.len
+    (length part) c.SYMBOLS-symbols.ensures c.decode_by_several-first.ensures.within part_len
+    c.loop-index-test.true in
+    omega (
+      arith,
+      length-part (c.loop-index.index * c.SYMBOLS-symbols.result) c.SYMBOLS-symbols.result part
+          (group-before _ c.SYMBOLS-symbols.result c.loop-index.index inside),
+    )
+
+pub decode_symbols-requires-clause-exact : goal.decode_symbols-requires-clause-exact
+decode_symbols-requires-clause-exact g c =
+    let part = take c.args.len c.args.input.now in
+    let part_len : length part ≡ c.args.len =
+    length-take-le c.args.len c.args.input.now c.requires.few in
+    let inside = before-count c.loop-index.index (c.decode_by_several-first.result.1) c.args.len
+    (length part) c.SYMBOLS-symbols.ensures c.decode_by_several-first.ensures.within part_len
+    c.loop-index-test.true in
+    let all : length part / g.G.GroupSize.SYMBOLS * g.G.GroupSize.BYTES
+    ≤ length c.args.output.now =
+    subst (λ n. n / g.G.GroupSize.SYMBOLS * g.G.GroupSize.BYTES ≤ length c.args.output.now)
+    (sym part_len) c.requires.room in
+    let room : c.loop-index.index * c.BYTES-bytes.result + c.BYTES-bytes.result
+    ≤ length c.loop-index.output =
+    rw (c.loop-index.auto.output, c.decode_by_several-first.auto.output)
+    (group-room (length part) c.loop-index.index _ c.BYTES-bytes.ensures c.SYMBOLS-symbols.ensures
+    all inside) in
+    let bytes = c.BYTES-bytes.result in
+    let symbols = c.SYMBOLS-symbols.result in
+    let i = c.loop-index.index in
+    let read = length-part (i * symbols) symbols part (group-before _ symbols i inside) in
+    let wrote = length-part (i * bytes) bytes c.loop-index.output room in
+    let same = (IsWhole-same c.BYTES-bytes.ensures c.SYMBOLS-symbols.ensures
+    g.G.GroupSize.is_group).same_bits in
+    omega (arith, wrote, ap (λ n. g.G.GroupSize.WIDTH * n) read, same)
+
+pub returns-then-not-decode_symbols-clause-run : goal.returns-then-not-decode_symbols-clause-run
+returns-then-not-decode_symbols-clause-run g c = λ base reads.
+    let part = take c.args.len c.args.input.now in
+    let part_len : length part ≡ c.args.len =
+    length-take-le c.args.len c.args.input.now c.requires.few in
+    let inside = before-count c.loop-index.index (c.decode_by_several-first.result.1) c.args.len
+    (length part) c.SYMBOLS-symbols.ensures c.decode_by_several-first.ensures.within part_len
+    c.loop-index-test.true in
+    let all : length part / g.G.GroupSize.SYMBOLS * g.G.GroupSize.BYTES
+    ≤ length c.args.output.now =
+    subst (λ n. n / g.G.GroupSize.SYMBOLS * g.G.GroupSize.BYTES ≤ length c.args.output.now)
+    (sym part_len) c.requires.room in
+    let room : c.loop-index.index * c.BYTES-bytes.result + c.BYTES-bytes.result
+    ≤ length c.loop-index.output =
+    rw (c.loop-index.auto.output, c.decode_by_several-first.auto.output)
+    (group-room (length part) c.loop-index.index _ c.BYTES-bytes.ensures c.SYMBOLS-symbols.ensures
+    all inside) in
+    let group = IsGroup-same refl c.BYTES-bytes.ensures c.SYMBOLS-symbols.ensures
+    g.G.GroupSize.is_group in
+    run-kept base reads.holds.is_width g.G.GroupSize.WIDTH c.BYTES-bytes.result
+    c.SYMBOLS-symbols.result group reads.width_is part _ c.loop-index.output
+    c.decode_symbols.new.output c.loop-index.index _ (omega (arith, room))
+    (c.loop-index.invariant.run base (rw c.ORDER-order.ensures reads))
+
+pub returns-then-not-decode_symbols-clause-longest :
+    goal.returns-then-not-decode_symbols-clause-longest
+returns-then-not-decode_symbols-clause-longest g c = λ base reads.
+    let group = IsGroup-same refl c.BYTES-bytes.ensures c.SYMBOLS-symbols.ensures
+    g.G.GroupSize.is_group in
+    run-longest base reads.holds.is_width g.G.GroupSize.WIDTH c.BYTES-bytes.result
+    c.SYMBOLS-symbols.result group reads.width_is
+    c.args.values.now (take c.args.len c.args.input.now) c.loop-index.index _ refl reads.holds
+    (part_bytes c.args.input.now (λ j. (c.type_inv.input j).fits) c.args.len)
+    (λ all. sym c.if-not-decode_symbols.true ∙ c.decode_symbols.ensures.symbols.1 all)
+
+pub returns-then-not-decode_symbols-clause-within :
+    goal.returns-then-not-decode_symbols-clause-within
+returns-then-not-decode_symbols-clause-within g c =
+    let part = take c.args.len c.args.input.now in
+    let part_len : length part ≡ c.args.len =
+    length-take-le c.args.len c.args.input.now c.requires.few in
+    let inside = before-count c.loop-index.index (c.decode_by_several-first.result.1) c.args.len
+    (length part) c.SYMBOLS-symbols.ensures c.decode_by_several-first.ensures.within part_len
+    c.loop-index-test.true in
+    omega (
+      arith,
+      group-before (length part) c.SYMBOLS-symbols.result c.loop-index.index inside,
+      ap (λ n. c.loop-index.index * n) c.SYMBOLS-symbols.ensures,
+      part_len,
+    )
+
+pub loop-index-init : goal.loop-index-init
+loop-index-init g c =
+    record {
+      run = λ base reads.
+          c.decode_by_several-first.ensures.run base (rw c.ORDER-order.ensures at reads);
+    }
+
+pub loop-index-preserved : goal.loop-index-preserved
+loop-index-preserved g c =
+    let part = take c.args.len c.args.input.now in
+    let part_len : length part ≡ c.args.len =
+    length-take-le c.args.len c.args.input.now c.requires.few in
+    let inside = before-count c.loop-index.index (c.decode_by_several-first.result.1) c.args.len
+    (length part) c.SYMBOLS-symbols.ensures c.decode_by_several-first.ensures.within part_len
+    c.loop-index-test.true in
+    let all : length part / g.G.GroupSize.SYMBOLS * g.G.GroupSize.BYTES
+    ≤ length c.args.output.now =
+    subst (λ n. n / g.G.GroupSize.SYMBOLS * g.G.GroupSize.BYTES ≤ length c.args.output.now)
+    (sym part_len) c.requires.room in
+    let room : c.loop-index.index * c.BYTES-bytes.result + c.BYTES-bytes.result
+    ≤ length c.loop-index.output =
+    rw (c.loop-index.auto.output, c.decode_by_several-first.auto.output)
+    (group-room (length part) c.loop-index.index _ c.BYTES-bytes.ensures c.SYMBOLS-symbols.ensures
+    all inside) in
+    let group = IsGroup-same refl c.BYTES-bytes.ensures c.SYMBOLS-symbols.ensures
+    g.G.GroupSize.is_group in
+    let i = c.loop-index.index in
+    let output = c.loop-index.output in
+    let enc = c.BYTES-bytes.result in
+    let dec = c.SYMBOLS-symbols.result in
+    let within : i * dec + dec ≤ length part = group-before (length part) dec i inside in
+    let shown_len : length c.decode_symbols.new.output ≡ enc =
+    c.decode_symbols.auto.output ∙ length-part (i * enc) enc output room in
+    record {
+      run = λ base reads.
+          group-next base reads.holds.is_width g.G.GroupSize.WIDTH enc dec group
+          reads.width_is c.args.values.now
+          part _ output c.decode_symbols.new.output i _ _ refl within (omega (arith, room))
+          shown_len reads.holds (c.loop-index.invariant.run base reads)
+          (part_bytes c.args.input.now (λ j. (c.type_inv.input j).fits) c.args.len)
+          (c.decode_symbols.ensures.symbols.0 c.if-not-decode_symbols.false)
+          (c.decode_symbols.ensures.bytes base reads
+          c.if-not-decode_symbols.false);
+    }
+
+pub returns-clause-run : goal.returns-clause-run
+returns-clause-run g c = λ base reads.
+    let all : c.loop-index.index ≡ c.decode_by_several-first.result.1 =
+    omega (
+      arith,
+      c.decode_by_several-first.ensures.ordered,
+      c.loop-index-test.false,
+      c.loop-index.auto.index-end,
+    ) in
+    rw all at (c.loop-index.invariant.run base (rw c.ORDER-order.ensures reads))
+
+pub returns-clause-within : goal.returns-clause-within
+returns-clause-within g c =
+    omega (
+      arith,
+      mul-le-mul_right g.G.GroupSize.SYMBOLS c.decode_by_several-first.ensures.within,
+      groups-within c.args.len g.G.GroupSize.SYMBOLS,
+    )
