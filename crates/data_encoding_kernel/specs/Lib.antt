@@ -6,3 +6,4 @@ pub mod Values
 pub mod Affine
 pub mod AffineSymbols
 pub mod Runs
+pub mod Ignore

@@ -8,6 +8,7 @@
 pub mod decode;
 pub mod encode;
 pub mod group_size;
+pub mod ignore;
 pub mod lanes;
 pub mod order;
 pub mod turn;

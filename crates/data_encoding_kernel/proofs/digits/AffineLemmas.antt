@@ -19,7 +19,7 @@ use Rattle.data_encoding_meaning.proofs.lists.EachLemmas.{all-at}
 abbrev pub equal : ℕ → ℕ → ℕ
 equal a b = cond (eqb a b) 255 0
 
-abbrev plus : ℕ → ℕ → ℕ
+abbrev pub plus : ℕ → ℕ → ℕ
 plus a b = (a + b) % 2 ^ 8
 
 -- lanes chosen by whether two others are equal
@@ -36,13 +36,13 @@ abbrev pub at_row : List ℕ → ℕ → ℕ
 at_row row byte = in_row row 0 (byte / 16)
 
 -- a row, as the entries from its own start on
-own-row : (row : List ℕ) → IsRow row 0 row
+pub own-row : (row : List ℕ) → IsRow row 0 row
 own-row row k h = ap (λ j. get_or row j 0) (omega arith)
 
-abbrev down : ℕ → ℕ → ℕ
+abbrev pub down : ℕ → ℕ → ℕ
 down a b = a / 2 ^ b
 
-at-rows : (row : List ℕ) (count : ℕ) (bytes entries : List ℕ) → length bytes ≡ count
+pub at-rows : (row : List ℕ) (count : ℕ) (bytes entries : List ℕ) → length bytes ≡ count
     → entries ≡ map (in_row row 0) (zip2 down bytes (replicate count 4))
     → entries ≡ map (at_row row) bytes
 at-rows row count bytes entries long e =
@@ -96,7 +96,7 @@ found-are affine count bytes symbols bits deltas shared long at_symbols at_bits 
     (zip2 plus bytes deltas) long moved)
 
 -- no row from 128 on has a bit
-no-bit : (row : ℕ) → 8 ≤ row → row < 16 → get_or bits_of_rows row 0 ≡ 0
+pub no-bit : (row : ℕ) → 8 ≤ row → row < 16 → get_or bits_of_rows row 0 ≡ 0
 no-bit row high low =
     ap (λ k. get_or bits_of_rows k 0) (omega (arith, high))
     ∙ sym (get_or-drop 8 bits_of_rows (row - 8) 0)
@@ -149,8 +149,18 @@ same-entry : (entry own : ℕ) → entry < 128 → cond (eqb entry own) 0 (plus 
 same-entry entry own small passes = grind (arith, nat_tests)
 
 -- the entries of a row, as they are loaded
-abbrev entries_of : ℕ → List ℕ → List ℕ
+abbrev pub entries_of : ℕ → List ℕ → List ℕ
 entries_of row values = take 16 (take (16 * row + 16 - 16 * row) (drop (16 * row) values))
+
+pub row-entries : (row : ℕ) (values : List ℕ) → length values ≡ 256 → row < 8
+    → entries_of row values ≡ map (λ k. slice_index values (16 * row + k)) (range_with_len 0 16)
+row-entries row values long few =
+    let size : 16 * row + 16 - 16 * row ≡ 16 = omega arith in
+    ap (λ n. take 16 (take n (drop (16 * row) values))) size
+    ∙ listed (λ k. slice_index values (16 * row + k)) 16 (chunk 0 16 (chunk (16 * row) 16 values))
+    (length-chunk 0 16 (chunk (16 * row) 16 values)
+    (omega (arith, length-chunk (16 * row) 16 values (omega (arith, long, few)))))
+    (row-of (16 * row) values)
 
 -- a row in which no entry below 128 differs from that of the table
 pub agreed : (affine : Affine) (values bytes found : List ℕ) (row : ℕ) → length values ≡ 256
@@ -169,13 +179,7 @@ agreed affine values bytes found row long few are_bytes are_found passes k h sma
     let found_are : found ≡ map entry places =
     are_found ∙ ap (map (affine_entry affine)) are_bytes
     ∙ map-map (affine_entry affine) (λ j. 16 * row + j) places in
-    let size : 16 * row + 16 - 16 * row ≡ 16 = omega arith in
-    let own_are : entries_of row values ≡ map own places =
-    ap (λ n. take 16 (take n (drop (16 * row) values))) size
-    ∙ listed own 16 (chunk 0 16 (chunk (16 * row) 16 values))
-    (length-chunk 0 16 (chunk (16 * row) 16 values)
-    (omega (arith, length-chunk (16 * row) 16 values (omega (arith, long, few)))))
-    (row-of (16 * row) values) in
+    let own_are : entries_of row values ≡ map own places = row-entries row values long few in
     let lanes_are =
     chosen-equal entry own (λ _. 0) (λ j. plus (entry j) 128) places (replicate 16 0)
     (zip2 plus found (replicate 16 128)) found_are own_are

@@ -186,7 +186,7 @@ fn found_64(affine: &Affine, bytes: u8x64) -> u8x64
 
 // The bit of each row, or 0 if its bytes are 128 or more.
 #[inline(always)]
-fn bits() -> u8x16
+pub(crate) fn bits() -> u8x16
     ensures { result ≡ bits_of_rows }
 {
     u8x16::from_array([1, 2, 4, 8, 16, 32, 64, 128, 0, 0, 0, 0, 0, 0, 0, 0])

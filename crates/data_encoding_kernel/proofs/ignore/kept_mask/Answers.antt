@@ -1,0 +1,7 @@
+use Rattle.data_encoding_kernel.proofs.packing.IgnoredLemmas.{mask-kept}
+use Rattle.data_encoding_kernel.proofs.ignore.kept_mask.Goals as goal
+
+pub returns : goal.returns
+returns c =
+    mask-kept c.args.ignored.now c.args.bytes c.bits.result c.bits.ensures c.fits-bytes.0
+    c.in_row_16-rows.ensures c.in_row_16-row_bits.ensures

@@ -1,0 +1,175 @@
+//! The bytes of a text that are not ignored, packed sixteen at a time by a table of moves.
+
+ghost use Rattle.std.specs.Prelude.{◌≡◌, ℕ, ◌+◌, ◌-◌, ◌*◌, ◌^◌, ◌<◌, ◌≤◌, ◌==◌, ◌++◌, ◌∷◌, Bool, not, List, length, map, take, drop, filter};
+ghost use Rattle.std.specs.List.{AllByRecursion, range_with_len};
+ghost use Rattle.std.specs.Simd.Lanes.{mask_l};
+ghost use Rattle.data_encoding_meaning.specs.text.Base.{Base, is_ignored, meaning};
+ghost use Rattle.data_encoding_meaning.specs.text.Grammar.{bytes_in, kept};
+ghost use Rattle.data_encoding_kernel.specs.Ignore.{HoldsIgnored, IsPacked, ignored_bit};
+ghost use Rattle.data_encoding_kernel.specs.Tables.{HoldsValues};
+
+mod moves;
+
+use crate::ignore::moves::moves;
+use crate::lanes::affine::bits;
+use crate::lanes::rows::in_row_16;
+use std::simd::prelude::*;
+
+/// The bytes that are ignored.
+#[derive(Clone, Copy, Drop)]
+pub struct IgnoredBytes {
+    /// By the lowest four bits of a byte: the bits of those rows of sixteen in which such a byte is
+    /// ignored.
+    pub rows: u8x16,
+}
+
+/// What was packed.
+#[derive(Clone, Copy, Drop)]
+pub struct Packed {
+    /// The number of bytes that are not ignored.
+    pub count: usize,
+    /// The number of those sixteens that had an ignored byte.
+    pub mixed: usize,
+}
+
+// The entry of bytes that are ignored.
+const IGNORED: u8 = 129;
+
+impl IgnoredBytes {
+    /// Returns the bytes below 128 that are ignored, by a table of values.
+    #[inline(always)]
+    pub fn of(values: &[u8; 256]) -> IgnoredBytes
+        ensures { (base : Base) → HoldsValues base values.now → length base.meanings ≤ 128
+            → HoldsIgnored base result }
+    {
+        let mut rows = u8x16::splat(0);
+        for below in 0..8 {
+            let start = 16 * (7 - below);
+            let entries = u8x16::from_slice(&values[start..start + 16]);
+            rows = with_row(entries, rows);
+        }
+        IgnoredBytes { rows }
+    }
+}
+
+// The bits of one row more, before those of the rows after it.
+#[inline(always)]
+fn with_row(entries: u8x16, rows: u8x16) -> u8x16
+    ensures { (entry : ℕ → ℕ) → (flags : ℕ → List Bool) → ((k : ℕ) → mask_l (flags k) < 128)
+        → entries ≡ map entry (range_with_len 0 16)
+        → rows ≡ map (λ k. mask_l (flags k)) (range_with_len 0 16)
+        → result ≡ map (λ k. mask_l ((entry k == 129) ∷ flags k)) (range_with_len 0 16) }
+{
+    let are_ignored = entries.simd_eq(u8x16::splat(IGNORED));
+    (rows + rows) + are_ignored.select(u8x16::splat(1), u8x16::splat(0))
+}
+
+// The mask of the lanes whose byte is not ignored.
+#[inline(always)]
+fn kept_mask(ignored: &IgnoredBytes, bytes: u8x16) -> u64
+    ensures { result ≡ mask_l (map (λ byte. ignored_bit ignored.now byte == 0) bytes) }
+{
+    let rows = in_row_16(ignored.rows, bytes);
+    let row_bits = in_row_16(bits(), bytes >> u8x16::splat(4));
+    (rows & row_bits).simd_eq(u8x16::splat(0)).to_bitmask()
+}
+
+// Writes those of the first eight lanes whose bit is set in the mask, and returns how many they
+// are. What follows them is written too.
+#[inline(always)]
+fn pack_eight(mask: u64, bytes: u8x16, room: &mut [u8]) -> usize
+    requires mask { mask < 256 }
+    requires room { length room.old ≡ 8 }
+    ensures few { result ≤ 8 }
+    ensures packed { (flags : List Bool) → length flags ≡ 8 → mask ≡ mask_l flags
+        → IsPacked flags (take 8 bytes) result room.new }
+{
+    let places = u64x2::from_array([moves(mask), 0]).to_le_bytes();
+    bytes
+        .swizzle_dyn(places)
+        .swizzle::<8>([0, 1, 2, 3, 4, 5, 6, 7])
+        .copy_to_slice(room);
+    mask.count_ones() as usize
+}
+
+// The same of sixteen lanes.
+#[inline(always)]
+fn pack_sixteen(mask: u64, bytes: u8x16, room: &mut [u8]) -> usize
+    requires mask { mask < 2 ^ 16 }
+    requires room { length room.old ≡ 16 }
+    ensures few { result ≤ 16 }
+    ensures packed { (flags : List Bool) → length flags ≡ 16 → mask ≡ mask_l flags
+        → IsPacked flags bytes result room.new }
+{
+    let others = bytes.swizzle::<16>([8, 9, 10, 11, 12, 13, 14, 15, 0, 1, 2, 3, 4, 5, 6, 7]);
+    let count = pack_eight(mask & 255, bytes, &mut room[..8]);
+    count + pack_eight(mask >> 8, others, &mut room[count..count + 8])
+}
+
+// Packs those of sixteen bytes that are not ignored, from this lane on.
+#[inline(always)]
+fn pack_more(
+    ignored: &IgnoredBytes,
+    bytes: u8x16,
+    first: usize,
+    packed: Packed,
+    room: &mut [u8],
+) -> Packed
+    requires first { first ≤ 16 }
+    requires room { packed.count + 16 ≤ length room.old }
+    requires mixed { packed.mixed ≤ length room.old }
+    ensures few { result.count + result.mixed ≤ packed.count + packed.mixed + (16 - first) }
+    ensures many { packed.count + 16 * packed.mixed + (16 - first)
+        ≤ result.count + 16 * result.mixed }
+    ensures kept { (base : Base) → HoldsIgnored base ignored.now
+        → take result.count room.new ≡ take packed.count room.old
+        ++ filter (λ byte. not (is_ignored (meaning base byte))) (drop first bytes) }
+{
+    let mask = kept_mask(ignored, bytes) >> first << first;
+    let start = packed.count;
+    let count = pack_sixteen(mask, bytes, &mut room[start..start + 16]);
+    let mixed = if count < 16 - first { 1 } else { 0 };
+    Packed {
+        count: start + count,
+        mixed: packed.mixed + mixed,
+    }
+}
+
+// The last sixteen bytes of a part. If it has fewer, they come last.
+#[inline(always)]
+fn last_sixteen(part: &[u8]) -> u8x16
+    ensures { (rest : ℕ) → rest ≤ 16 → rest ≤ length part.now
+        → drop (16 - rest) result ≡ drop (length part.now - rest) part.now }
+{
+    let len = part.len();
+    if len >= 16 {
+        return u8x16::from_slice(&part[len - 16..]);
+    }
+    let mut lanes = [0; 16];
+    lanes[16 - len..].copy_from_slice(part);
+    u8x16::from_array(lanes)
+}
+
+/// Packs the bytes of a part of a text that are not ignored, in order, to the start of the room. Up
+/// to sixteen bytes after them are written too.
+#[inline]
+pub fn pack(ignored: &IgnoredBytes, part: &[u8], room: &mut [u8]) -> Packed
+    requires room { length part.now + 16 ≤ length room.old }
+    ensures few { result.count + result.mixed ≤ length part.now }
+    ensures many { length part.now ≤ result.count + 16 * result.mixed }
+    ensures kept { (base : Base) → HoldsIgnored base ignored.now
+        → bytes_in (kept base part.now) ≡ take result.count room.new }
+{
+    let turns = part.len() / 16;
+    let mut packed = Packed { count: 0, mixed: 0 };
+    for turn in 0..turns {
+        let read = 16 * turn;
+        let bytes = u8x16::from_slice(&part[read..read + 16]);
+        packed = pack_more(ignored, bytes, 0, packed, room);
+    }
+    let rest = part.len() % 16;
+    if rest == 0 {
+        return packed;
+    }
+    pack_more(ignored, last_sixteen(part), 16 - rest, packed, room)
+}
