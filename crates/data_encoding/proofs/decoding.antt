@@ -1,6 +1,5 @@
 -- The steps of a decoding.
 pub mod TrailingBitLemmas
 pub mod StepLemmas
-pub mod GatheredLemmas
+pub mod BlockLemmas
 pub mod GroupTableLemmas
-pub mod LineLemmas

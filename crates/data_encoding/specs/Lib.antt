@@ -8,8 +8,7 @@ pub mod Shown
 pub mod PlainTables
 pub mod Plain
 pub mod Steps
-pub mod Gathered
-pub mod Lines
+pub mod Blocks
 pub use Rattle.data_encoding_meaning.specs.text.Base
 pub use Rattle.data_encoding_meaning.specs.text.Bits
 pub use Rattle.data_encoding_meaning.specs.text.Text

@@ -1,9 +1,8 @@
 //! From text to data.
 
-pub(crate) mod gathered;
+pub(crate) mod blocks;
 pub(crate) mod group;
 pub(crate) mod length;
-pub(crate) mod lines;
 pub(crate) mod next_group;
 pub(crate) mod steps;
 pub(crate) mod text;

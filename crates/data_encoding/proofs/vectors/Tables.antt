@@ -18,7 +18,7 @@ use Rattle.data_encoding.specs.Meanings.{meanings_of_table, HasEntries}
 use Rattle.data_encoding.specs.Tables.{HasTables}
 use Rattle.data_encoding_kernel.specs.Tables.{HoldsSymbols, HoldsValues, Reads, Writes}
 use Rattle.data_encoding_meaning.specs.decoding.Decoding.{HasDecodedTo, IsStop, HasRoom, IsDecoded}
-use Rattle.data_encoding.specs.Gathered.{AreKept, EndsBefore}
+use Rattle.data_encoding.specs.Blocks.{AreKept, EndsBefore}
 use Rattle.data_encoding.specs.Steps.{HasEnded, HasStepped, fault_of_stop, HasStopped}
 use Rattle.data_encoding.proofs.tables.TableLemmas.{Reads-seen, Writes-tables}
 use Rattle.data_encoding_meaning.proofs.vectors.Examples.{built, Has}

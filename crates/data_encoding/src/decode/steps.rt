@@ -7,11 +7,11 @@ ghost use Rattle.data_encoding.specs.Steps.{HasEnded, HasStepped};
 ghost use Rattle.data_encoding_meaning.specs.text.Lengths.{decoded_len};
 ghost use Rattle.data_encoding_kernel.specs.Tables.{HoldsValues, Reads};
 
-use crate::decode::lines::PIECE_LEN;
 use crate::decode::{DECODE_LIMIT, Stop};
-use crate::encoding::{BitOrder, EncodingRef, IGNORED};
+use crate::encoding::{BitOrder, EncodingRef, IGNORED, PADDING};
 use crate::error::DecodeKind;
-use data_encoding_kernel::decode::decode_run;
+use data_encoding_kernel::decode::{decode_by_turns, decode_run};
+use data_encoding_kernel::words::entry_of;
 use data_encoding_kernel::group_size::GroupSize;
 use data_encoding_kernel::lanes::look_up::LookUp;
 use data_encoding_kernel::order::ConstantOrder;
@@ -35,6 +35,9 @@ pub(crate) struct Reached {
     pub(crate) read: usize,
     pub(crate) written: usize,
     pub(crate) ignored: usize,
+
+    // Whether the run that follows is short.
+    pub(crate) is_short: bool,
 }
 
 impl EncodingRef<'_> {
@@ -58,46 +61,33 @@ impl EncodingRef<'_> {
         ensures { HasEnded self.now input.now output.new stop.new result }
     {
         let order = O::ORDER;
-        let mut gathers = false;
-        let mut lines_from = 0;
-        let mut groups_from = 0;
+        let mut least = LEAST_GROUPS * G::SYMBOLS;
         while stop.read < input.len() {
             let mut at = self.decode_runs::<L, O, G>(
                 values,
                 look_up,
                 stop.read,
                 stop.written,
-                &mut lines_from,
-                &mut groups_from,
+                least,
                 input,
                 output,
             );
-            if gathers {
-                at = self.decode_expected_groups::<L, O, G>(
-                    values,
-                    look_up,
-                    at.read - stop.read,
-                    at,
-                    &mut groups_from,
-                    input,
-                    output,
-                );
+            least = LEAST_GROUPS * G::SYMBOLS;
+            if at.is_short {
+                at = self.decode_by_blocks::<L, O, G>(at, input, output);
+                least = 0;
             }
             match self.decode_next::<G>(order, self.fields.ignores, at, input, output, stop) {
                 Step::More => {}
                 Step::Ended => return true,
                 Step::Faulty => return false,
             }
-            // A group of symbols only is no run of its own if bytes are ignored among them. If
-            // these are many, the next group is not far faster in a block either.
-            gathers = stop.written == at.written + G::BYTES;
-            gathers &= (stop.read - at.read) / 4 <= G::SYMBOLS;
         }
         true
     }
 
-    /// Decodes runs of whole groups of symbols only, with ignored bytes between them. Lines, and
-    /// blocks of short runs, are each tried from a position on.
+    // Decodes runs of whole groups of symbols only, with ignored bytes between them, up to one that
+    // is shorter than the least.
     #[inline(always)]
     fn decode_runs<L: LookUp, O: ConstantOrder, G: GroupSize>(
         &self,
@@ -105,8 +95,7 @@ impl EncodingRef<'_> {
         look_up: &L,
         read: usize,
         written: usize,
-        lines_from: &mut usize,
-        groups_from: &mut usize,
+        least: usize,
         input: &[u8],
         output: &mut [u8],
     ) -> Reached
@@ -124,76 +113,52 @@ impl EncodingRef<'_> {
             read,
             written,
             ignored: ignored_front(values, &input[read..]),
+            is_short: false,
         };
-        let mut goes_on = at.read + at.ignored < input.len();
-        while goes_on {
-            let next = self.decode_run_after_ignored::<L, O, G>(values, look_up, at, input, output);
-            if next.read == at.read {
-                return next;
+        let mut least = least;
+        let mut len = 0;
+        for _ in 0..input.len() {
+            let start = at.read + at.ignored;
+            let rest = &input[start..];
+            if rest.len() < 8 * G::SYMBOLS {
+                break;
             }
-            let len = next.read - at.read - at.ignored;
-            at = Reached {
-                read: next.read,
-                written: next.written,
-                ignored: ignored_front(values, &input[next.read..]),
-            };
-            if at.ignored == 0 {
+            if entry_of(values, rest[G::SYMBOLS - 1]) == PADDING {
                 return at;
             }
-            at = self.decode_expected_runs::<L, O, G>(
-                values,
-                look_up,
-                len,
-                at,
-                lines_from,
-                groups_from,
-                input,
-                output,
-            );
-            goes_on = at.read + at.ignored < input.len();
+            let most = expected_len(values, len, rest);
+            let done = decode_by_turns::<L, O, G>(look_up, rest, most, &mut output[at.written..]);
+            if done == len && done > 0 {
+                at = after_run::<G>(values, len, at, input);
+                if at.ignored == 0 {
+                    return at;
+                }
+                continue;
+            }
+            let is_short = self.fields.ignores && done < least;
+            if is_short {
+                at.is_short = true;
+                return at;
+            }
+            if done < G::SYMBOLS {
+                return at;
+            }
+            len = done / G::SYMBOLS * G::SYMBOLS;
+            at = after_run::<G>(values, len, at, input);
+            if at.ignored == 0 {
+                if input.len() - at.read < 8 * G::SYMBOLS { break; }
+                return at;
+            }
+            least = LEAST_GROUPS * G::SYMBOLS;
         }
-        at
-    }
-
-    // Decodes the runs that follow one of this length, if more like it may follow: lines if it is
-    // long enough for one, or else a block.
-    #[inline(always)]
-    fn decode_expected_runs<L: LookUp, O: ConstantOrder, G: GroupSize>(
-        &self,
-        values: &[u8; 256],
-        look_up: &L,
-        len: usize,
-        at: Reached,
-        lines_from: &mut usize,
-        groups_from: &mut usize,
-        input: &[u8],
-        output: &mut [u8],
-    ) -> Reached
-        requires reads { Reads self.now values.now G.WIDTH O.ORDER }
-        requires held { L.holds values.now look_up.now }
-        requires limit { length input.now ≤ DECODE_LIMIT }
-        requires exact { decoded_len self.now (length input.now) ≡ Ok (length output.old) }
-        requires few { len ≤ length input.now }
-        requires whole { len % G.SYMBOLS ≡ 0 }
-        requires so_far { HasDecodedTo self.now input.now at.read at.written false output.old }
-        requires front { IsIgnoredFront self.now (drop at.read input.now) at.ignored }
-        ensures so_far { HasDecodedTo self.now input.now result.read result.written false
-            output.new }
-        ensures front { IsIgnoredFront self.now (drop result.read input.now) result.ignored }
-        ensures further { at.read ≤ result.read }
-    {
-        if len < PIECE_LEN {
-            return self.decode_short_runs::<L, O, G>(
-                values,
-                look_up,
-                len,
-                at,
-                groups_from,
-                input,
-                output,
-            );
+        let next = self.decode_run_after_ignored::<L, O, G>(values, look_up, at, input, output);
+        let left = input.len() - next.read;
+        Reached {
+            read: next.read,
+            written: next.written,
+            ignored: next.ignored,
+            is_short: self.fields.ignores && least > 0 && left > 8,
         }
-        self.decode_expected_lines::<L, O, G>(values, len, at, lines_from, input, output)
     }
 
     /// Decodes a run of whole groups of symbols only, which follows ignored bytes. The ignored
@@ -234,6 +199,7 @@ impl EncodingRef<'_> {
             read: start + count * G::SYMBOLS,
             written: at.written + count * G::BYTES,
             ignored: 0,
+            is_short: false,
         }
     }
 
@@ -311,6 +277,34 @@ impl EncodingRef<'_> {
         false
     }
 }
+
+// The length of the run before, if an ignored byte is where a run of that length would end, or else
+// the length of the rest.
+#[inline(always)]
+fn expected_len(values: &[u8; 256], len: usize, rest: &[u8]) -> usize
+    requires never { ⊥ }
+{
+    if len < rest.len() && entry_of(values, rest[len]) == IGNORED {
+        return len;
+    }
+    rest.len()
+}
+
+#[inline(always)]
+fn after_run<G: GroupSize>(values: &[u8; 256], len: usize, at: Reached, input: &[u8]) -> Reached
+    requires never { ⊥ }
+{
+    let read = at.read + at.ignored + len;
+    Reached {
+        read,
+        written: at.written + len / G::SYMBOLS * G::BYTES,
+        ignored: ignored_front(values, &input[read..]),
+        is_short: false,
+    }
+}
+
+// A run of fewer groups is short.
+const LEAST_GROUPS: usize = 6;
 
 // Returns how many bytes are ignored before the first that is not.
 #[inline(always)]

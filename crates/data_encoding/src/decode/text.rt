@@ -104,6 +104,7 @@ impl EncodingRef<'_> {
                 read: 0,
                 written: 0,
                 ignored: 0,
+                is_short: false,
             },
             input,
             output,

@@ -1,4 +1,4 @@
--- Symbols that are gathered among ignored bytes, and decoded as one run.
+-- What is packed of a text, and decoded from there.
 use Rattle.std.proofs.Common.{◌≡◌, ℕ, zero, suc, ◌+◌, ◌-◌, ◌*◌, ◌/◌, ◌<◌, ◌≤◌, true, false, List, [], ◌∷◌, ◌++◌, length, take, drop, get_or, sym, ap, ◌∙◌, arith, length-append, length-take-le, inl}
 use Rattle.std.specs.Prelude.{flat_map}
 use Rattle.std.proofs.Math.Nat.{zero-mod, add-mod, mul-le-mul_right, mul-mod_left}
@@ -12,7 +12,7 @@ use Rattle.data_encoding_meaning.specs.text.Grammar.{Positioned, bytes_in, group
 use Rattle.data_encoding_meaning.specs.decoding.Decoding.{HasDecodedTo, IsGathered, run_bytes}
 use Rattle.data_encoding_meaning.specs.decoding.Fault.{bytes_of_group, symbol_bytes}
 use Rattle.data_encoding_meaning.specs.decoding.Partial.{position_after}
-use Rattle.data_encoding_meaning.proofs.decoding.GatherLemmas.{HasGathered}
+use Rattle.data_encoding_meaning.proofs.decoding.GatherLemmas.{more-here, none-here}
 use Rattle.data_encoding_meaning.proofs.decoding.ProgressLemmas.{IsPart, room-run, whole-before}
 use Rattle.data_encoding_meaning.proofs.digits.WidthLemmas.{group_symbols-pos}
 use Rattle.data_encoding_meaning.proofs.grammar.KeptLemmas.{kept-more, kept-split, kept_in-append, position_after-append}
@@ -25,20 +25,8 @@ use Rattle.data_encoding_meaning.proofs.lists.RunLemmas.{runs-join}
 use Rattle.data_encoding_meaning.proofs.lists.PartLemmas.{groups-within}
 use Rattle.data_encoding_meaning.proofs.lists.WriteLemmas.{length-rewritten_same, rewritten, take-rewritten}
 use Rattle.data_encoding_kernel.specs.Runs.{IsRun}
-use Rattle.data_encoding.specs.Gathered.{AreKept, EndsBefore}
+use Rattle.data_encoding.specs.Blocks.{AreKept, EndsBefore, HasPacked}
 use Rattle.data_encoding.proofs.decoding.StepLemmas.{IsUnderWay, Sizes}
-
--- what was gathered holds if other bytes follow it in the room
-pub gathered-room : {base : Base} {part : List ℕ} {index count span : ℕ} {room : List ℕ}
-    (other : List ℕ) → take count other ≡ take count room
-    → HasGathered base part index count span room → HasGathered base part index count span other
-gathered-room other same so_far = record {
-  before = so_far.before;
-  same = so_far.same;
-  bytes_are = so_far.bytes_are ∙ sym same;
-  count_is = so_far.count_is;
-  ends = so_far.ends;
-}
 
 -- what is gathered from the next bytes follows what was gathered before them
 pub gathered-further : (base : Base) (part block new : List ℕ) (read size count more : ℕ)
@@ -249,3 +237,32 @@ module _ {base : Base} {text : List ℕ} {sizes : Sizes} {read written : ℕ} {o
             (take-rewritten written output rest s.so_far.fits (count * enc)
             ∙ ap (λ l. take written output ++ l) run.bytes));
       }
+
+-- where the last of the bytes that are not ignored begin
+ends-before : (base : Base) (part : List ℕ) (last n : ℕ) → n ≤ length part
+    → last ≤ length (kept base (take n part))
+    → (short : ℕ) × (short ≤ n)
+    × (length (kept base (take short part)) + last ≡ length (kept base (take n part)))
+    × (0 < short → is_ignored (meaning base (get_or part (short - 1) 0)) ≡ false)
+ends-before base part last zero few many =
+    (0, omega arith, omega (arith, many), λ some. absurd (omega (arith, some)))
+ends-before base part last (suc n) few many =
+    by (is_ignored (meaning base (get_or part n 0))) refl last many where
+  by : (b : Bool) → is_ignored (meaning base (get_or part n 0)) ≡ b → (last : ℕ)
+      → last ≤ length (kept base (take (suc n) part))
+      → (short : ℕ) × (short ≤ suc n)
+      × (length (kept base (take short part)) + last ≡ length (kept base (take (suc n) part)))
+      × (0 < short → is_ignored (meaning base (get_or part (short - 1) 0)) ≡ false)
+  by true is last many =
+      let next : n + 1 ≡ suc n = omega arith in
+      let same = rw next at (none-here base part n (omega (arith, few)) is) in
+      let before = ends-before base part last n (omega (arith, few)) (omega (arith, many, same)) in
+      (before.0, omega (arith, before.1), omega (arith, before.2, same), before.3)
+  by false is zero many =
+      let place : n ≡ suc n - 1 = omega arith in
+      (suc n, omega arith, omega arith, λ some. rw place at is)
+  by false is (suc last) many =
+      let next : n + 1 ≡ suc n = omega arith in
+      let more = rw next at (more-here base part n (omega (arith, few)) is) in
+      let before = ends-before base part last n (omega (arith, few)) (omega (arith, many, more)) in
+      (before.0, omega (arith, before.1), omega (arith, before.2, more), before.3)

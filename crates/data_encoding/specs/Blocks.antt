@@ -1,7 +1,8 @@
--- What is gathered from a part of a text: its bytes that are not ignored.
-use Rattle.std.specs.Prelude.{◌≡◌, ℕ, ◌+◌, ◌-◌, ◌<◌, false, List, length, take, slice_index}
+-- What is packed of a text: its bytes that are not ignored.
+use Rattle.std.specs.Prelude.{◌≡◌, ℕ, ◌+◌, ◌-◌, ◌<◌, ◌≤◌, false, List, length, take, drop, slice_index}
 use Rattle.data_encoding_meaning.specs.text.Base.{Base, meaning, is_ignored}
 use Rattle.data_encoding_meaning.specs.text.Grammar.{bytes_in, kept}
+use Rattle.data_encoding_meaning.specs.decoding.Decoding.{HasDecodedTo}
 
 -- These are the bytes of the prefix of this length that are not ignored.
 abbrev pub AreKept : Base → List ℕ → ℕ → List ℕ → Type 0
@@ -12,3 +13,14 @@ AreKept base part span bytes = bytes_in (kept base (take span part)) ≡ bytes
 pub record EndsBefore (base : Base) (part : List ℕ) (last span : ℕ) : Type 0 where
   pub before : length (kept base (take span part)) + last ≡ length (kept base part)
   pub ends : 0 < span → is_ignored (meaning base (slice_index part (span - 1))) ≡ false
+
+-- A text was decoded from a position on, and packed further: these are the bytes between that are
+-- not ignored.
+pub record HasPacked (base : Base) (text : List ℕ) (first packed written : ℕ)
+    (bytes output : List ℕ) : Type 0 where
+  pub read : ℕ
+  pub after : first ≤ read
+  pub few : read ≤ packed
+  pub within : packed ≤ length text
+  pub are : AreKept base (drop read text) (packed - read) bytes
+  pub so_far : HasDecodedTo base text read written false output
