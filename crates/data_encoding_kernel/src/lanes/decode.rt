@@ -144,24 +144,18 @@ fn words_of_groups<L: LookUp, G: GroupSize>(
     match G::SYMBOLS {
         2 => {
             let entries = look_up.look_up_16(u8x16::from_slice(input));
-            (
-                words_of_two(order, width, low_bits(width, entries)),
-                count_below(limit, entries),
-            )
+            let low = low_bits(width, entries);
+            (words_of_two(order, width, low), count_below(limit, entries))
         }
         4 => {
             let entries = look_up.look_up_32(u8x32::from_slice(input));
-            (
-                words_of_four(order, width, low_bits(width, entries)),
-                count_below(limit, entries),
-            )
+            let low = low_bits(width, entries);
+            (words_of_four(order, width, low), count_below(limit, entries))
         }
         _ => {
             let entries = look_up.look_up_64(u8x64::from_slice(input));
-            (
-                words_of_eight(order, width, low_bits(width, entries)),
-                count_below(limit, entries),
-            )
+            let low = low_bits(width, entries);
+            (words_of_eight(order, width, low), count_below(limit, entries))
         }
     }
 }
