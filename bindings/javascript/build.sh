@@ -73,9 +73,9 @@ by_words() {
     put $kernel encode.rt 'encode_short::<G>(symbols,' \
         'encode_by_order::<OneGroup, G>(\&OneGroup, symbols,'
     put $kernel encode.rt 'input.len() >= LONG_DATA_LEN' 'input.len() >= LONG_DATA_LEN \&\& false'
-    put $kernel decode.rt 'if input.len() < eight ||' 'if input.len() < eight || true ||'
-    put $kernel decode.rt 'return decode_by_few::<L, O, G>(values, look_up, ' \
-        'return decode_turns::<[u8; 256], G>(values, O::ORDER, '
+    put $kernel decode.rt 'if input.len() < eight {' 'if input.len() < eight || true {'
+    put $kernel decode.rt 'let first = decode_by_few::<L, O, G>(values, look_up, ' \
+        'let first = decode_whole_turns::<[u8; 256], G>(values, O::ORDER, '
     put data_encoding encode/lines.rt 'line_bytes / 8 >= G::BYTES' \
         'line_bytes / 8 >= G::BYTES \&\& false'
 }

@@ -32,6 +32,11 @@ AreEntries values bytes found =
     (k : ℕ) → k < length bytes → slice_index found k < 128
     → slice_index found k ≡ slice_index values (slice_index bytes k)
 
+-- Each entry of the table below 128 is the value of a symbol of this many bits.
+abbrev pub AreValues : List ℕ → ℕ → Type 0
+AreValues values width =
+    (byte : ℕ) → byte < 256 → slice_index values byte < 128 → slice_index values byte < 2 ^ width
+
 -- the entry of a row at the lowest four bits of a byte
 abbrev pub in_row : List ℕ → ℕ → ℕ → ℕ
 in_row values start byte = slice_index values (start + byte % 16)

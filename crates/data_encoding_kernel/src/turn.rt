@@ -76,7 +76,7 @@ impl<L: LookUp> DecodeTurn for Few<L> {
         if !decode_sixteen::<L, G>(&self.look_up, order, input, output) {
             return 0;
         }
-        16 / G::SYMBOLS * G::SYMBOLS
+        16
     }
 }
 

@@ -12,7 +12,7 @@ use Rattle.data_encoding_meaning.specs.declared.encoding.BitOrder.{BitOrder}
 use Rattle.data_encoding_meaning.specs.text.Base.{Base, IsWidth, group_bytes, group_symbols, is_symbol, meaning, IsGroup}
 use Rattle.data_encoding_meaning.specs.text.Bits.{runs}
 use Rattle.data_encoding_kernel.specs.Runs.{IsRun}
-use Rattle.data_encoding_kernel.specs.Values.{AreEntries}
+use Rattle.data_encoding_kernel.specs.Values.{AreEntries, AreValues}
 use Rattle.data_encoding_meaning.specs.decoding.Fault.{symbol_bytes}
 use Rattle.data_encoding_kernel.specs.Tables.{Reads}
 use Rattle.data_encoding_kernel.specs.Words.{digit, word_of}
@@ -168,7 +168,7 @@ all-low size (lane ∷ lanes) =
 module _ {width number : ℕ} (is : IsWidth width) (some : 0 < number) (values : List ℕ)
     (input entries : List ℕ) (found : ℕ) (long : length input ≡ 8 * number)
     (lanes : length entries ≡ 8 * number) (few : found ≤ 8 * number)
-    (below : (j : ℕ) → j < found → slice_index entries j < 2 ^ width)
+    (below : (j : ℕ) → j < found → slice_index entries j < 128)
     (are : AreEntries values (take (8 * number) input) entries) where
   abbrev groups : ℕ
   groups = found / number
@@ -183,16 +183,16 @@ module _ {width number : ℕ} (is : IsWidth width) (some : 0 < number) (values :
       → slice_index entries j ≡ slice_index values (slice_index input j)
   entry-found j h =
       are j (omega (arith, h, few, long, length-take-le (8 * number) input (omega (arith, long))))
-      (omega (arith, below j h, symbols-few width is))
+      (below j h)
       ∙ ap (slice_index values) (get_or-take (8 * number) input j 0 (omega (arith, h, few)))
 
   pub found-symbols : (j : ℕ) → j < found → slice_index values (slice_index input j) < 128
   found-symbols j h =
-      rw (← entry-found j h) (omega (arith, below j h, symbols-few width is))
+      rw (← entry-found j h) (below j h)
 
-  low-found : take (groups * number) low
-      ≡ take (groups * number) (map (slice_index values) input)
-  low-found =
+  low-found : AreValues values width → ((j : ℕ) → slice_index input j < 256)
+      → take (groups * number) low ≡ take (groups * number) (map (slice_index values) input)
+  low-found own fits =
       let size = groups * number in
       let shown = λ (lane : ℕ). lane % 2 ^ width in
       let first_len : length (take size low) ≡ size =
@@ -207,16 +207,18 @@ module _ {width number : ℕ} (is : IsWidth width) (some : 0 < number) (values :
       let early : k < found = omega (arith, inside, whole-groups) in
       get_or-take size low k 0 inside
       ∙ get_or-map shown entries k 0 0 (omega (arith, early, few, lanes))
-      ∙ mod-eq_of_lt (below k early)
+      ∙ mod-eq_of_lt (rw (entry-found k early)
+      (own (slice_index input k) (fits k) (found-symbols k early)))
       ∙ entry-found k early
       ∙ sym (get_or-map (slice_index values) input k 0 0 (omega (arith, early, few, long)))
       ∙ sym (get_or-take size (map (slice_index values) input) k 0 inside))
 
-  pub found-words : (order : BitOrder) (made : List ℕ)
+  pub found-words : AreValues values width → ((j : ℕ) → slice_index input j < 256)
+      → (order : BitOrder) (made : List ℕ)
       → made ≡ map (word_of order width number) (first_chunks number 8 low)
       → take groups made ≡ map (word_of order width number)
       (first_chunks number groups (map (slice_index values) input))
-  found-words order made is_made =
+  found-words own fits order made is_made =
       let most : groups ≤ 8 =
       omega (
         arith,
@@ -226,15 +228,15 @@ module _ {width number : ℕ} (is : IsWidth width) (some : 0 < number) (values :
       rw (is_made, take-map, first-groups number groups 8 low most)
       (ap (map (word_of order width number))
       (sym (groups-front number groups low)
-      ∙ ap (first_chunks number groups) low-found
+      ∙ ap (first_chunks number groups) (low-found own fits)
       ∙ groups-front number groups (map (slice_index values) input)))
 
 -- the same for a look-up, with the sizes under other names
 pub words-found : {width number read count : ℕ} → IsWidth width → 0 < number → read ≡ width
     → number ≡ count → (holds : List ℕ → Type 0) (order : BitOrder)
     (input entries low made : List ℕ) (found : ℕ) → length input ≡ 8 * number
-    → length entries ≡ 8 * count → found ≤ 8 * count
-    → ((j : ℕ) → j < found → slice_index entries j < 1 * 2 ^ read % 256)
+    → ((j : ℕ) → slice_index input j < 256) → length entries ≡ 8 * count → found ≤ 8 * count
+    → ((j : ℕ) → j < found → slice_index entries j < 128)
     → ((values : List ℕ) → holds values → AreEntries values (take (8 * count) input) entries)
     → low ≡ map (λ lane. lane % 2 ^ read) entries
     → (AllByRecursion (λ entry. entry < 2 ^ read) low
@@ -243,22 +245,22 @@ pub words-found : {width number read count : ℕ} → IsWidth width → 0 < numb
     → AllByRecursion (λ word. word < 2 ^ (read * count)) made)
     → record {
       few : found ≤ 8 * number;
-      words : (values : List ℕ) → holds values
+      words : (values : List ℕ) → holds values → AreValues values width
           → take (found / number) made ≡ map (word_of order width number)
           (first_chunks number (found / number) (map (slice_index values) input));
       symbols : (values : List ℕ) → holds values → (j : ℕ) → j < found
           → slice_index values (slice_index input j) < 128;
       fit : AllByRecursion (λ word. word < 2 ^ (width * number)) made;
     }
-words-found {width} {number} is some same many holds order input entries low made found long =
-    rw (same, ← many, limit-is width is) (λ lanes few below look low_is are fit.
+words-found {width} {number} is some same many holds order input entries low made found long fits =
+    rw (same, ← many) (λ lanes few below look low_is are fit.
     let small = subst (AllByRecursion (λ entry. entry < 2 ^ width)) (sym low_is)
     (all-low width entries) in
     record {
       few = few;
-      words = λ values held.
+      words = λ values held own.
           found-words is some values input entries found long lanes few below (look values held)
-          order made (are small
+          own fits order made (are small
           ∙ ap (λ l. map (word_of order width number) (first_chunks number 8 l)) low_is);
       symbols = λ values held.
           found-symbols is some values input entries found long lanes few below

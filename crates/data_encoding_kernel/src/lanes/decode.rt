@@ -4,7 +4,7 @@ ghost use Rattle.std.specs.Prelude.{◌≡◌, ℕ, ◌+◌, ◌-◌, ◌*◌, �
 ghost use Rattle.std.specs.List.{AllByRecursion, range_with_len};
 ghost use Rattle.std.specs.Simd.{first_chunks};
 ghost use Rattle.data_encoding_kernel.specs.Runs.{IsRunBy};
-ghost use Rattle.data_encoding_kernel.specs.Values.{joined};
+ghost use Rattle.data_encoding_kernel.specs.Values.{AreValues, joined};
 ghost use Rattle.data_encoding_kernel.specs.Words.{digit, word_of};
 
 use crate::group_size::GroupSize;
@@ -122,8 +122,9 @@ fn low_bits<const N: usize>(width: usize, lanes: Simd<u8, N>) -> Simd<u8, N>
     lanes & Simd::<u8, N>::splat((1 << width) - 1)
 }
 
-// The words of eight groups, and how many bytes come before the first that is no symbol. The words
-// of the groups before it are those of their symbols.
+// The words of eight groups, and how many bytes come before the first whose entry is no value. The
+// words of the groups before it are those of their symbols. An entry below 128 is a value, so that
+// this test alone is enough.
 #[inline(always)]
 fn words_of_groups<L: LookUp, G: GroupSize>(
     look_up: &L,
@@ -132,7 +133,7 @@ fn words_of_groups<L: LookUp, G: GroupSize>(
 ) -> (u64x8, usize)
     requires symbols { length input.now ≡ 8 * G.SYMBOLS }
     ensures few { result.1 ≤ 8 * G.SYMBOLS }
-    ensures words { (values : List ℕ) → L.holds values look_up.now
+    ensures words { (values : List ℕ) → L.holds values look_up.now → AreValues values G.WIDTH
         → take (result.1 / G.SYMBOLS) result.0 ≡ map (word_of order G.WIDTH G.SYMBOLS)
         (first_chunks G.SYMBOLS (result.1 / G.SYMBOLS) (map (slice_index values) input.now)) }
     ensures symbols { (values : List ℕ) → L.holds values look_up.now
@@ -140,28 +141,21 @@ fn words_of_groups<L: LookUp, G: GroupSize>(
     ensures fit { AllByRecursion (λ word. word < 2 ^ (G.WIDTH * G.SYMBOLS)) result.0 }
 {
     let width = G::WIDTH;
-    let limit = 1 << width;
     match G::SYMBOLS {
         2 => {
             let entries = look_up.look_up_16(u8x16::from_slice(input));
-            (
-                words_of_two(order, width, low_bits(width, entries)),
-                count_below(limit, entries),
-            )
+            let low = low_bits(width, entries);
+            (words_of_two(order, width, low), count_below(128, entries))
         }
         4 => {
             let entries = look_up.look_up_32(u8x32::from_slice(input));
-            (
-                words_of_four(order, width, low_bits(width, entries)),
-                count_below(limit, entries),
-            )
+            let low = low_bits(width, entries);
+            (words_of_four(order, width, low), count_below(128, entries))
         }
         _ => {
             let entries = look_up.look_up_64(u8x64::from_slice(input));
-            (
-                words_of_eight(order, width, low_bits(width, entries)),
-                count_below(limit, entries),
-            )
+            let low = low_bits(width, entries);
+            (words_of_eight(order, width, low), count_below(128, entries))
         }
     }
 }

@@ -19,4 +19,4 @@ returns-clause-run g c = λ values held base reads.
     c.store.new.output c.words_of_groups-count.result.0 c.words_of_groups-count.result.1
     c.requires.symbols (c.store.auto.output ∙ c.requires.exact)
     (λ j. (c.type_inv.input j).fits) found.few (found.symbols values held)
-    (found.words values held) c.store.ensures
+    (found.words values held (rw reads.width_is at reads.holds.below)) c.store.ensures
