@@ -248,21 +248,21 @@ ends-before base part last zero few many =
     (0, omega arith, omega (arith, many), λ some. absurd (omega (arith, some)))
 ends-before base part last (suc n) few many =
     by (is_ignored (meaning base (get_or part n 0))) refl last many where
-  by : (b : Bool) → is_ignored (meaning base (get_or part n 0)) ≡ b → (last : ℕ)
-      → last ≤ length (kept base (take (suc n) part))
-      → (short : ℕ) × (short ≤ suc n)
-      × (length (kept base (take short part)) + last ≡ length (kept base (take (suc n) part)))
-      × (0 < short → is_ignored (meaning base (get_or part (short - 1) 0)) ≡ false)
-  by true is last many =
-      let next : n + 1 ≡ suc n = omega arith in
-      let same = rw next at (none-here base part n (omega (arith, few)) is) in
-      let before = ends-before base part last n (omega (arith, few)) (omega (arith, many, same)) in
-      (before.0, omega (arith, before.1), omega (arith, before.2, same), before.3)
-  by false is zero many =
-      let place : n ≡ suc n - 1 = omega arith in
-      (suc n, omega arith, omega arith, λ some. rw place at is)
-  by false is (suc last) many =
-      let next : n + 1 ≡ suc n = omega arith in
-      let more = rw next at (more-here base part n (omega (arith, few)) is) in
-      let before = ends-before base part last n (omega (arith, few)) (omega (arith, many, more)) in
-      (before.0, omega (arith, before.1), omega (arith, before.2, more), before.3)
+      by : (b : Bool) → is_ignored (meaning base (get_or part n 0)) ≡ b → (last : ℕ)
+          → last ≤ length (kept base (take (suc n) part))
+          → (short : ℕ) × (short ≤ suc n)
+          × (length (kept base (take short part)) + last ≡ length (kept base (take (suc n) part)))
+          × (0 < short → is_ignored (meaning base (get_or part (short - 1) 0)) ≡ false)
+      by true is last many =
+          let next : n + 1 ≡ suc n = omega arith in
+          let same = rw next at (none-here base part n (omega (arith, few)) is) in
+          let before = ends-before base part last n (omega (arith, few)) (omega (arith, many, same)) in
+          (before.0, omega (arith, before.1), omega (arith, before.2, same), before.3)
+      by false is zero many =
+          let place : n ≡ suc n - 1 = omega arith in
+          (suc n, omega arith, omega arith, λ some. rw place at is)
+      by false is (suc last) many =
+          let next : n + 1 ≡ suc n = omega arith in
+          let more = rw next at (more-here base part n (omega (arith, few)) is) in
+          let before = ends-before base part last n (omega (arith, few)) (omega (arith, many, more)) in
+          (before.0, omega (arith, before.1), omega (arith, before.2, more), before.3)

@@ -19,7 +19,7 @@ use data_encoding_kernel::lanes::look_up::LookUp;
 use data_encoding_kernel::order::ConstantOrder;
 
 // The length of the first block. It is short, since ignored bytes that are few may follow.
-const FIRST_LEN: usize = 64;
+const FIRST_LEN: usize = 128;
 
 // The greatest length of a block.
 const BLOCK_LEN: usize = 512;
@@ -48,8 +48,7 @@ impl EncodingRef<'_> {
         at: Reached,
         input: &[u8],
         output: &mut [u8],
-    ) -> Reached
-    {
+    ) -> Reached {
         if input.len() - at.read <= FIRST_LEN {
             let mut room = [0; FIRST_LEN + SLACK];
             return self.decode_in_room::<L, O, G>(at, input, &mut room, output);
@@ -65,8 +64,7 @@ impl EncodingRef<'_> {
         input: &[u8],
         room: &mut [u8],
         output: &mut [u8],
-    ) -> Reached
-    {
+    ) -> Reached {
         let values = &self.fields.values.entries;
         let look_up = L::of(&self.fields.values);
         let ignored = IgnoredBytes::of(values);
@@ -82,7 +80,11 @@ impl EncodingRef<'_> {
             move_front(first, room);
             let left = now.end - first;
             let span = len.min(input.len() - now.read);
-            let packed = pack(&ignored, &input[now.read..now.read + span], &mut room[left..]);
+            let packed = pack(
+                &ignored,
+                &input[now.read..now.read + span],
+                &mut room[left..],
+            );
             now = self.decode_packed::<L, O, G>(
                 values,
                 &look_up,
@@ -96,16 +98,20 @@ impl EncodingRef<'_> {
                 room,
                 output,
             );
-            if now.end - now.first >= G::SYMBOLS || now.read == input.len() || packed.mixed * MIXED < span {
+            if now.end - now.first >= G::SYMBOLS
+                || now.read == input.len()
+                || packed.mixed * MIXED < span
+            {
                 break;
             }
             len = next_len(len, room.len());
         }
-        let part = &input[at.read..now.read];
+        let left = now.end - now.first;
+        let read = span_before(values, &input[..now.read], left);
         Reached {
-            read: at.read + span_before(values, part, now.end - now.first),
+            read,
             written: now.written,
-            ignored: 0,
+            ignored: if left == 0 { now.read - read } else { 0 },
             is_short: false,
         }
     }
@@ -119,8 +125,7 @@ impl EncodingRef<'_> {
         input: &[u8],
         room: &[u8],
         output: &mut [u8],
-    ) -> Packing
-    {
+    ) -> Packing {
         let mut first = at.first;
         let mut written = at.written;
         for _ in 0..input.len() {
@@ -156,8 +161,7 @@ impl EncodingRef<'_> {
 
 // Moves the bytes from this one on to the front of the room, as far as a group may have them.
 #[inline(always)]
-fn move_front(first: usize, room: &mut [u8])
-{
+fn move_front(first: usize, room: &mut [u8]) {
     let mut bytes = [0; 8];
     bytes.copy_from_slice(&room[first..first + 8]);
     room[..8].copy_from_slice(&bytes);
@@ -165,9 +169,12 @@ fn move_front(first: usize, room: &mut [u8])
 
 // The length of the next block.
 #[inline(always)]
-fn next_len(len: usize, room: usize) -> usize
-{
-    if 2 * len + SLACK <= room { 2 * len } else { len }
+fn next_len(len: usize, room: usize) -> usize {
+    if 2 * len + SLACK <= room {
+        2 * len
+    } else {
+        len
+    }
 }
 
 const MIXED: usize = 96;

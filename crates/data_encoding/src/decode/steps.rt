@@ -11,10 +11,10 @@ use crate::decode::{DECODE_LIMIT, Stop};
 use crate::encoding::{BitOrder, EncodingRef, IGNORED, PADDING};
 use crate::error::DecodeKind;
 use data_encoding_kernel::decode::{decode_by_turns, decode_run};
-use data_encoding_kernel::words::entry_of;
 use data_encoding_kernel::group_size::GroupSize;
 use data_encoding_kernel::lanes::look_up::LookUp;
 use data_encoding_kernel::order::ConstantOrder;
+use data_encoding_kernel::words::entry_of;
 
 // How a step ended.
 #[derive(Clone, Copy, Drop)]
@@ -61,21 +61,20 @@ impl EncodingRef<'_> {
         ensures { HasEnded self.now input.now output.new stop.new result }
     {
         let order = O::ORDER;
-        let mut least = LEAST_GROUPS * G::SYMBOLS;
+        let mut was_packed = false;
         while stop.read < input.len() {
             let mut at = self.decode_runs::<L, O, G>(
                 values,
                 look_up,
+                was_packed,
                 stop.read,
                 stop.written,
-                least,
                 input,
                 output,
             );
-            least = LEAST_GROUPS * G::SYMBOLS;
-            if at.is_short {
+            was_packed = at.is_short;
+            if was_packed {
                 at = self.decode_by_blocks::<L, O, G>(at, input, output);
-                least = 0;
             }
             match self.decode_next::<G>(order, self.fields.ignores, at, input, output, stop) {
                 Step::More => {}
@@ -86,16 +85,16 @@ impl EncodingRef<'_> {
         true
     }
 
-    // Decodes runs of whole groups of symbols only, with ignored bytes between them, up to one that
-    // is shorter than the least.
+    // Decodes runs of whole groups of symbols only, with ignored bytes between them, where they
+    // stand. A run after a block counts as long, since its first part was in the block.
     #[inline(always)]
     fn decode_runs<L: LookUp, O: ConstantOrder, G: GroupSize>(
         &self,
         values: &[u8; 256],
         look_up: &L,
+        was_packed: bool,
         read: usize,
         written: usize,
-        least: usize,
         input: &[u8],
         output: &mut [u8],
     ) -> Reached
@@ -109,56 +108,141 @@ impl EncodingRef<'_> {
         ensures front { IsIgnoredFront self.now (drop result.read input.now) result.ignored }
         ensures further { read ≤ result.read }
     {
-        let mut at = Reached {
+        let at = Reached {
             read,
             written,
             ignored: ignored_front(values, &input[read..]),
             is_short: false,
         };
-        let mut least = least;
+        if is_padded_next::<G>(values, at, input) {
+            return at;
+        }
+        let packs = self.fields.ignores && !was_packed;
+        let at = self.decode_long_runs::<L, O, G>(values, look_up, packs, at, input, output);
+        if at.is_short || input.len() - at.read - at.ignored >= 8 * G::SYMBOLS {
+            return at;
+        }
+        self.decode_last_runs::<L, O, G>(values, look_up, packs, at, input, output)
+    }
+
+    // Decodes runs by turns of eight groups, as long as the text has as many. With `packs`, a run
+    // may be short, and then it is not decoded if what follows it may be decoded by blocks.
+    #[inline(always)]
+    fn decode_long_runs<L: LookUp, O: ConstantOrder, G: GroupSize>(
+        &self,
+        values: &[u8; 256],
+        look_up: &L,
+        packs: bool,
+        at: Reached,
+        input: &[u8],
+        output: &mut [u8],
+    ) -> Reached
+        requires reads { Reads self.now values.now G.WIDTH O.ORDER }
+        requires held { L.holds values.now look_up.now }
+        requires limit { length input.now ≤ DECODE_LIMIT }
+        requires exact { decoded_len self.now (length input.now) ≡ Ok (length output.old) }
+        requires so_far { HasDecodedTo self.now input.now at.read at.written false output.old }
+        requires front { IsIgnoredFront self.now (drop at.read input.now) at.ignored }
+        ensures so_far { HasDecodedTo self.now input.now result.read result.written false
+            output.new }
+        ensures front { IsIgnoredFront self.now (drop result.read input.now) result.ignored }
+        ensures further { at.read ≤ result.read }
+    {
+        let mut at = at;
         let mut len = 0;
+        let mut packs = packs;
         for _ in 0..input.len() {
-            let start = at.read + at.ignored;
-            let rest = &input[start..];
-            if rest.len() < 8 * G::SYMBOLS {
+            if input.len() - at.read - at.ignored < 8 * G::SYMBOLS {
                 break;
             }
-            if entry_of(values, rest[G::SYMBOLS - 1]) == PADDING {
-                return at;
-            }
-            let most = expected_len(values, len, rest);
-            let done = decode_by_turns::<L, O, G>(look_up, rest, most, &mut output[at.written..]);
-            if done == len && done > 0 {
-                at = after_run::<G>(values, len, at, input);
-                if at.ignored == 0 {
-                    return at;
-                }
-                continue;
-            }
-            let is_short = self.fields.ignores && done < least;
-            if is_short {
+            let next = self.decode_run_by_turns::<L, O, G>(values, look_up, len, at, input, output);
+            len = next.read - at.read - at.ignored.min(next.read - at.read);
+            if packs && is_short::<G>(values, len, next, input) {
                 at.is_short = true;
-                return at;
+                break;
             }
-            if done < G::SYMBOLS {
-                return at;
+            at = next;
+            if len == 0 || at.ignored == 0 {
+                break;
             }
-            len = done / G::SYMBOLS * G::SYMBOLS;
-            at = after_run::<G>(values, len, at, input);
+            packs = self.fields.ignores;
+        }
+        at
+    }
+
+    // Decodes a run by turns of eight groups, with the length of the run before it.
+    #[inline(always)]
+    fn decode_run_by_turns<L: LookUp, O: ConstantOrder, G: GroupSize>(
+        &self,
+        values: &[u8; 256],
+        look_up: &L,
+        len: usize,
+        at: Reached,
+        input: &[u8],
+        output: &mut [u8],
+    ) -> Reached
+        requires reads { Reads self.now values.now G.WIDTH O.ORDER }
+        requires held { L.holds values.now look_up.now }
+        requires limit { length input.now ≤ DECODE_LIMIT }
+        requires exact { decoded_len self.now (length input.now) ≡ Ok (length output.old) }
+        requires so_far { HasDecodedTo self.now input.now at.read at.written false output.old }
+        requires front { IsIgnoredFront self.now (drop at.read input.now) at.ignored }
+        requires whole { len % G.SYMBOLS ≡ 0 }
+        ensures so_far { HasDecodedTo self.now input.now result.read result.written false
+            output.new }
+        ensures front { IsIgnoredFront self.now (drop result.read input.now) result.ignored }
+        ensures further { at.read ≤ result.read }
+        ensures past { at.read < result.read → at.read + at.ignored ≤ result.read }
+        ensures whole { (result.read - at.read - at.ignored) % G.SYMBOLS ≡ 0 }
+    {
+        let rest = &input[at.read + at.ignored..];
+        let most = expected_len(values, len, rest);
+        let count = decode_by_turns::<L, O, G>(look_up, rest, most, &mut output[at.written..]);
+        // The next position does not wait for the count if the run is as long as the one before.
+        if count == len {
+            return after_run::<G>(values, len, at, input);
+        }
+        after_run::<G>(values, count - count % G::SYMBOLS, at, input)
+    }
+
+    // Decodes the runs at the end of a text.
+    #[inline(always)]
+    fn decode_last_runs<L: LookUp, O: ConstantOrder, G: GroupSize>(
+        &self,
+        values: &[u8; 256],
+        look_up: &L,
+        packs: bool,
+        at: Reached,
+        input: &[u8],
+        output: &mut [u8],
+    ) -> Reached
+        requires reads { Reads self.now values.now G.WIDTH O.ORDER }
+        requires held { L.holds values.now look_up.now }
+        requires limit { length input.now ≤ DECODE_LIMIT }
+        requires exact { decoded_len self.now (length input.now) ≡ Ok (length output.old) }
+        requires so_far { HasDecodedTo self.now input.now at.read at.written false output.old }
+        requires front { IsIgnoredFront self.now (drop at.read input.now) at.ignored }
+        ensures so_far { HasDecodedTo self.now input.now result.read result.written false
+            output.new }
+        ensures front { IsIgnoredFront self.now (drop result.read input.now) result.ignored }
+        ensures further { at.read ≤ result.read }
+    {
+        let mut at = at;
+        for _ in 0..input.len() {
+            let next = self.decode_run_after_ignored::<L, O, G>(values, look_up, at, input, output);
+            if next.read == at.read {
+                break;
+            }
+            at = next;
+            at.ignored = ignored_front(values, &input[at.read..]);
             if at.ignored == 0 {
-                if input.len() - at.read < 8 * G::SYMBOLS { break; }
-                return at;
+                break;
             }
-            least = LEAST_GROUPS * G::SYMBOLS;
         }
-        let next = self.decode_run_after_ignored::<L, O, G>(values, look_up, at, input, output);
-        let left = input.len() - next.read;
-        Reached {
-            read: next.read,
-            written: next.written,
-            ignored: next.ignored,
-            is_short: self.fields.ignores && least > 0 && left > 8,
-        }
+        at.is_short = packs
+            && input.len() - at.read > LEAST_LEN
+            && !is_padded_next::<G>(values, at, input);
+        at
     }
 
     /// Decodes a run of whole groups of symbols only, which follows ignored bytes. The ignored
@@ -282,7 +366,7 @@ impl EncodingRef<'_> {
 // the length of the rest.
 #[inline(always)]
 fn expected_len(values: &[u8; 256], len: usize, rest: &[u8]) -> usize
-    requires never { ⊥ }
+    ensures { result ≤ length rest.now }
 {
     if len < rest.len() && entry_of(values, rest[len]) == IGNORED {
         return len;
@@ -290,10 +374,12 @@ fn expected_len(values: &[u8; 256], len: usize, rest: &[u8]) -> usize
     rest.len()
 }
 
+// How far a text is decoded after a run of this length, which is that of whole groups.
 #[inline(always)]
-fn after_run<G: GroupSize>(values: &[u8; 256], len: usize, at: Reached, input: &[u8]) -> Reached
-    requires never { ⊥ }
-{
+fn after_run<G: GroupSize>(values: &[u8; 256], len: usize, at: Reached, input: &[u8]) -> Reached {
+    if len == 0 {
+        return at;
+    }
     let read = at.read + at.ignored + len;
     Reached {
         read,
@@ -303,8 +389,33 @@ fn after_run<G: GroupSize>(values: &[u8; 256], len: usize, at: Reached, input: &
     }
 }
 
-// A run of fewer groups is short.
-const LEAST_GROUPS: usize = 6;
+// Whether the next group ends in padding.
+#[inline(always)]
+fn is_padded_next<G: GroupSize>(values: &[u8; 256], at: Reached, input: &[u8]) -> bool
+    requires limit { length input.now ≤ DECODE_LIMIT }
+    requires within { at.read + at.ignored ≤ length input.now }
+{
+    let end = at.read + at.ignored + G::SYMBOLS;
+    end <= input.len() && entry_of(values, input[end - 1]) == PADDING
+}
+
+// Whether blocks may take less time than runs like this one, of so many symbols, after which the
+// text goes on: it is shorter than a turn, and so many symbols are left that the room of a block is
+// worth its time; or it ends within a group.
+#[inline(always)]
+fn is_short<G: GroupSize>(values: &[u8; 256], len: usize, at: Reached, input: &[u8]) -> bool
+    requires limit { length input.now ≤ DECODE_LIMIT }
+    requires within { at.read + at.ignored ≤ length input.now }
+{
+    let left = input.len() - at.read;
+    if len > 0 && at.ignored > 0 {
+        return len < 6 * G::SYMBOLS && left > 12 * len;
+    }
+    len < 16 * G::SYMBOLS && left > LEAST_LEN && !is_padded_next::<G>(values, at, input)
+}
+
+// With fewer bytes left no block is worth its time.
+const LEAST_LEN: usize = 16;
 
 // Returns how many bytes are ignored before the first that is not.
 #[inline(always)]
