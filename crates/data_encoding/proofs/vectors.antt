@@ -4,4 +4,3 @@ pub mod Calls
 pub mod Encoders
 pub mod Specifications
 pub mod Tables
-pub mod Lines

@@ -1,8 +1,10 @@
 -- What is packed of a text: its bytes that are not ignored.
 use Rattle.std.specs.Prelude.{◌≡◌, ℕ, ◌+◌, ◌-◌, ◌<◌, ◌≤◌, false, List, length, take, drop, slice_index}
+use Rattle.data_encoding.specs.declared.decode.blocks.Packing.{Packing}
+use Rattle.data_encoding.specs.declared.decode.steps.Reached.{Reached}
 use Rattle.data_encoding_meaning.specs.text.Base.{Base, meaning, is_ignored}
 use Rattle.data_encoding_meaning.specs.text.Grammar.{bytes_in, kept}
-use Rattle.data_encoding_meaning.specs.decoding.Decoding.{HasDecodedTo}
+use Rattle.data_encoding_meaning.specs.decoding.Decoding.{HasDecodedTo, IsIgnoredFront}
 
 -- These are the bytes of the prefix of this length that are not ignored.
 abbrev pub AreKept : Base → List ℕ → ℕ → List ℕ → Type 0
@@ -24,3 +26,18 @@ pub record HasPacked (base : Base) (text : List ℕ) (first packed written : ℕ
   pub within : packed ≤ length text
   pub are : AreKept base (drop read text) (packed - read) bytes
   pub so_far : HasDecodedTo base text read written false output
+
+-- The bytes of the room from the first on, up to the end, are packed and not decoded.
+pub record IsPacking (base : Base) (text room : List ℕ) (at : Packing) (output : List ℕ)
+    : Type 0 where
+  pub ordered : at.first ≤ at.end
+  pub within : at.end ≤ length room
+  pub packed : HasPacked base text at.start at.read at.written (drop at.first (take at.end room))
+      output
+
+-- A text is decoded up to a position, and no less far than up to the start; ignored bytes follow.
+pub record HasReached (base : Base) (text : List ℕ) (start : ℕ) (at : Reached) (output : List ℕ)
+    : Type 0 where
+  pub further : start ≤ at.read
+  pub so_far : HasDecodedTo base text at.read at.written false output
+  pub front : IsIgnoredFront base (drop at.read text) at.ignored

@@ -1,15 +1,16 @@
 -- What is packed of a text, and decoded from there.
-use Rattle.std.proofs.Common.{◌≡◌, ℕ, zero, suc, ◌+◌, ◌-◌, ◌*◌, ◌/◌, ◌<◌, ◌≤◌, true, false, List, [], ◌∷◌, ◌++◌, length, take, drop, get_or, sym, ap, ◌∙◌, arith, length-append, length-take-le, inl}
+use Rattle.std.proofs.Common.{◌≡◌, ℕ, zero, suc, ◌+◌, ◌-◌, ◌*◌, ◌/◌, ◌<◌, ◌≤◌, true, false, List, [], ◌∷◌, ◌++◌, Bool, not, nat_lt, ◌&&◌, length, take, drop, get_or, refl, sym, ap, ◌∙◌, arith, length-append, length-take-le, inl, ⊎_elim}
 use Rattle.std.specs.Prelude.{flat_map}
-use Rattle.std.proofs.Math.Nat.{zero-mod, add-mod, mul-le-mul_right, mul-mod_left}
+use Rattle.std.proofs.Math.Nat.{zero-mod, zero-mul, add-mod, mul-le-mul_right, mul-mod_left}
 use Rattle.std.proofs.Math.Seq.{take-add, take-suc}
-use Rattle.std.proofs.lemmas.List.{get_or-take, length-drop, length-map, map-append, take-take, take_at, take_rest}
+use Rattle.std.proofs.lemmas.Bool.{cases_lt}
+use Rattle.std.proofs.lemmas.List.{append-nil, drop-drop, drop-take, drop_at, get_or-take, length-drop, length-map, map-append, nil_from_length, take-take, take_all, take_at, take_rest}
 use Rattle.std.proofs.lemmas.List.Concat.{flat_map-append}
 use Rattle.std.proofs.lemmas.List.Folds.{flat_map-map}
 use Rattle.data_encoding_meaning.specs.text.Base.{Base, IsWidth, group_bytes, group_symbols, is_ignored, is_symbol, meaning}
 use Rattle.data_encoding_meaning.specs.text.Bits.{runs}
 use Rattle.data_encoding_meaning.specs.text.Grammar.{Positioned, bytes_in, groups, kept, kept_from, kept_in, meanings_in}
-use Rattle.data_encoding_meaning.specs.decoding.Decoding.{HasDecodedTo, IsGathered, run_bytes}
+use Rattle.data_encoding_meaning.specs.decoding.Decoding.{HasDecodedTo, IsDecodedGroup, IsGathered, IsIgnoredFront, run_bytes}
 use Rattle.data_encoding_meaning.specs.decoding.Fault.{bytes_of_group, symbol_bytes}
 use Rattle.data_encoding_meaning.specs.decoding.Partial.{position_after}
 use Rattle.data_encoding_meaning.proofs.decoding.GatherLemmas.{more-here, none-here}
@@ -26,7 +27,7 @@ use Rattle.data_encoding_meaning.proofs.lists.PartLemmas.{groups-within}
 use Rattle.data_encoding_meaning.proofs.lists.WriteLemmas.{length-rewritten_same, rewritten, take-rewritten}
 use Rattle.data_encoding_kernel.specs.Runs.{IsRun}
 use Rattle.data_encoding.specs.Blocks.{AreKept, EndsBefore, HasPacked}
-use Rattle.data_encoding.proofs.decoding.StepLemmas.{IsUnderWay, Sizes}
+use Rattle.data_encoding.proofs.decoding.StepLemmas.{IsUnderWay, Sizes, after_group, after_none, room-next_group}
 
 -- what is gathered from the next bytes follows what was gathered before them
 pub gathered-further : (base : Base) (part block new : List ℕ) (read size count more : ℕ)
@@ -238,31 +239,283 @@ module _ {base : Base} {text : List ℕ} {sizes : Sizes} {read written : ℕ} {o
             ∙ ap (λ l. take written output ++ l) run.bytes));
       }
 
--- where the last of the bytes that are not ignored begin
-ends-before : (base : Base) (part : List ℕ) (last n : ℕ) → n ≤ length part
-    → last ≤ length (kept base (take n part))
-    → (short : ℕ) × (short ≤ n)
+-- where so many of the last bytes that are not ignored begin, of a prefix
+abbrev EndsIn : Base → List ℕ → ℕ → ℕ → Type 0
+EndsIn base part n last =
+    (short : ℕ) × (short ≤ n)
     × (length (kept base (take short part)) + last ≡ length (kept base (take n part)))
     × (0 < short → is_ignored (meaning base (get_or part (short - 1) 0)) ≡ false)
-ends-before base part last zero few many =
+
+ends-next : (base : Base) (part : List ℕ) (n : ℕ) → n < length part
+    → ((last : ℕ) → last ≤ length (kept base (take n part)) → EndsIn base part n last)
+    → (ignored : Bool) → is_ignored (meaning base (get_or part n 0)) ≡ ignored
+    → (last : ℕ) → last ≤ length (kept base (take (n + 1) part)) → EndsIn base part (n + 1) last
+ends-next base part n inside before true is last many =
+    let same = none-here base part n inside is in
+    let found = before last (omega (arith, many, same)) in
+    (found.0, omega (arith, found.1), omega (arith, found.2, same), found.3)
+ends-next base part n inside before false is zero many =
+    let place : n ≡ n + 1 - 1 = omega arith in
+    (n + 1, omega arith, omega arith, λ some. rw (← place) is)
+ends-next base part n inside before false is (suc last) many =
+    let more = more-here base part n inside is in
+    let found = before last (omega (arith, many, more)) in
+    (found.0, omega (arith, found.1), omega (arith, found.2, more), found.3)
+
+ends-before : (base : Base) (part : List ℕ) (n : ℕ) → n ≤ length part → (last : ℕ)
+    → last ≤ length (kept base (take n part)) → EndsIn base part n last
+ends-before base part zero few last many =
     (0, omega arith, omega (arith, many), λ some. absurd (omega (arith, some)))
-ends-before base part last (suc n) few many =
-    by (is_ignored (meaning base (get_or part n 0))) refl last many where
-      by : (b : Bool) → is_ignored (meaning base (get_or part n 0)) ≡ b → (last : ℕ)
-          → last ≤ length (kept base (take (suc n) part))
-          → (short : ℕ) × (short ≤ suc n)
-          × (length (kept base (take short part)) + last ≡ length (kept base (take (suc n) part)))
-          × (0 < short → is_ignored (meaning base (get_or part (short - 1) 0)) ≡ false)
-      by true is last many =
-          let next : n + 1 ≡ suc n = omega arith in
-          let same = rw next at (none-here base part n (omega (arith, few)) is) in
-          let before = ends-before base part last n (omega (arith, few)) (omega (arith, many, same)) in
-          (before.0, omega (arith, before.1), omega (arith, before.2, same), before.3)
-      by false is zero many =
-          let place : n ≡ suc n - 1 = omega arith in
-          (suc n, omega arith, omega arith, λ some. rw place at is)
-      by false is (suc last) many =
-          let next : n + 1 ≡ suc n = omega arith in
-          let more = rw next at (more-here base part n (omega (arith, few)) is) in
-          let before = ends-before base part last n (omega (arith, few)) (omega (arith, many, more)) in
-          (before.0, omega (arith, before.1), omega (arith, before.2, more), before.3)
+ends-before base part (suc n) few last many =
+    let next : n + 1 ≡ suc n = omega arith in
+    rw next at (ends-next base part n (omega (arith, few))
+    (ends-before base part n (omega (arith, few))) _ refl last (rw next many))
+
+-- the bytes after some of those that are kept
+kept-after : (base : Base) (part bytes : List ℕ) (size last short : ℕ) → short ≤ length part
+    → bytes_in (kept base part) ≡ bytes
+    → length (kept base (take short part)) + last ≡ length (kept base part)
+    → length bytes ≡ size + last
+    → bytes_in (kept base (drop short part)) ≡ drop size bytes
+kept-after base part bytes size last short few are before many =
+    let first = kept base (take short part) in
+    let rest = kept_from base short part in
+    let byte_of : Positioned → ℕ = λ k. k.byte in
+    let len = length-by_bytes (kept base part) bytes are in
+    let first_len : length (bytes_in first) ≡ size =
+    length-map first byte_of ∙ omega (arith, before, len, many) in
+    let parts : bytes ≡ bytes_in first ++ bytes_in rest =
+    sym are ∙ ap bytes_in (kept-split base short part few) ∙ map-append byte_of first rest in
+    let same : bytes_in (kept base (drop short part)) ≡ bytes_in rest =
+    bytes-kept_in base 0 (drop short part) ∙ sym (bytes-kept_in base short (drop short part)) in
+    same ∙ sym (ap (drop size) parts ∙ drop_at (bytes_in first) (bytes_in rest) size first_len)
+
+-- nothing is packed where packing begins
+pub packed-nothing : {base : Base} {text : List ℕ} {read written : ℕ} {output : List ℕ}
+    → HasDecodedTo base text read written false output
+    → HasPacked base text read read written [] output
+packed-nothing {base} {text} {read} so_far =
+    let none : read - read ≡ 0 = omega arith in
+    record {
+      read = read;
+      after = omega arith;
+      few = omega arith;
+      within = so_far.within;
+      are = rw none refl;
+      so_far = so_far;
+    }
+
+-- what is packed of the next bytes follows what was packed before
+pub packed-further : {base : Base} {text : List ℕ} {start packed written : ℕ}
+    {output : List ℕ} (block : List ℕ) (count size more : ℕ) (new : List ℕ)
+    → HasPacked base text start packed written (take count block) output → count ≤ length block
+    → packed + size ≤ length text
+    → bytes_in (kept base (take size (drop packed text))) ≡ take more new
+    → HasPacked base text start (packed + size) written
+    (take (count + more) (rewritten count block new)) output
+packed-further {base} {text} {start} {packed} block count size more new c few within
+    next =
+    let place : c.read + (packed - c.read) ≡ packed = omega (arith, c.few) in
+    let span : packed + size - c.read ≡ packed - c.read + size = omega (arith, c.few) in
+    record {
+      read = c.read;
+      after = c.after;
+      few = omega (arith, c.few);
+      within = within;
+      are = rw span
+          (gathered-further base (drop c.read text) block new (packed - c.read) size count more
+          c.are few (rw (drop-drop (packed - c.read) c.read text, place) next));
+      so_far = c.so_far;
+    }
+
+-- A text is packed, and its decoding under way.
+module _ {base : Base} {text : List ℕ} {sizes : Sizes} {start packed written : ℕ}
+    {bytes output : List ℕ} (c : HasPacked base text start packed written bytes output)
+    (s : IsUnderWay base text sizes c.read written false output) where
+  abbrev gap : ℕ
+  gap = packed - c.read
+
+  abbrev part : List ℕ
+  part = drop c.read text
+
+  abbrev front : List ℕ
+  front = take gap part
+
+  place : c.read + gap ≤ length text
+  place = omega (arith, c.few, c.within)
+
+  front_in : gap ≤ length part
+  front_in = omega (arith, place, length-drop c.read text)
+
+  front_len : length front ≡ gap
+  front_len = length-take-le gap part front_in
+
+  -- its groups have room
+  pub packed-room : length bytes / sizes.symbols * sizes.bytes
+      ≤ length (take (length output - written) (drop written output))
+  packed-room = room-block s gap bytes place c.are
+
+  -- where so many of its bytes end
+  ends-after : (size : ℕ) → size ≤ length bytes
+      → (short : ℕ) × (short ≤ gap) × EndsBefore base front (length bytes - size) short
+      × AreKept base (drop (c.read + short) text) (packed - (c.read + short)) (drop size bytes)
+  ends-after size few =
+      let last = length bytes - size in
+      let all : take (length front) front ≡ front = take_all (length front) front (omega arith) in
+      let len = length-by_bytes (kept base front) bytes c.are in
+      let found = ends-before base front (length front) (omega arith) last
+      (rw all (omega (arith, len))) in
+      let short = found.0 in
+      let inside : short ≤ gap = omega (arith, found.1, front_len) in
+      let before = rw all at found.2 in
+      let both : gap ≡ short + (gap - short) = omega (arith, inside) in
+      let rest : drop short front ≡ take (gap - short) (drop short part) =
+      rw both at (drop-take short (gap - short) part) in
+      let left : packed - (c.read + short) ≡ gap - short = omega arith in (
+        short,
+        inside,
+        record { before = before; ends = found.3 },
+        rw (left, ← (drop-drop short c.read text), ← rest)
+            (kept-after base front bytes size last short (omega (arith, inside, front_len)) c.are
+            before (omega (arith, few))),
+      )
+
+  -- what a run of its first groups does
+  pub packed-run : (count : ℕ) {new old : List ℕ}
+      → length new ≡ length (take (length output - written) (drop written output))
+      → IsRun base bytes count old new
+      → HasPacked base text start packed (written + count * sizes.bytes)
+      (drop (count * sizes.symbols) bytes) (rewritten written output new)
+  packed-run zero {new} new_len run =
+      let none : written + 0 ≡ written = omega arith in
+      rw (zero-mul, zero-mul, none)
+      (record {
+        read = c.read;
+        after = c.after;
+        few = c.few;
+        within = c.within;
+        are = c.are;
+        so_far = (after_none s new new_len).so_far;
+      })
+  packed-run (suc count) {new} new_len run =
+      let size = suc count * sizes.symbols in
+      let enough : size ≤ length bytes = rw s.symbols_is run.within in
+      let found = ends-after size enough in
+      let next = after_block s gap bytes place c.are new_len run (omega arith)
+      (omega (arith, enough)) found.2 (omega (arith, found.1, front_len)) in
+      record {
+        read = c.read + found.0;
+        after = omega (arith, c.after);
+        few = omega (arith, found.1, c.few);
+        within = c.within;
+        are = found.3;
+        so_far = next.so_far;
+      }
+
+  -- its first group
+  module _ (enough : sizes.symbols ≤ length bytes) where
+    abbrev group : List ℕ
+    group = take sizes.symbols bytes
+
+    group_len : length group ≡ sizes.symbols
+    group_len = length-take-le sizes.symbols bytes enough
+
+    gathered : IsGathered base sizes.symbols (take (length text - c.read) (drop c.read text)) group
+        (ends-after sizes.symbols enough).0
+    gathered =
+        let found = ends-after sizes.symbols enough in
+        rw (take_rest text c.read)
+        (gathered-before c.are front_in found.2 (omega (arith, found.1, front_len)) sizes.symbols
+        (omega (arith, enough)))
+
+    -- it has room
+    pub packed-group_room : sizes.width * length group / 8
+        ≤ length (take (length output - written) (drop written output))
+    packed-group_room = room-next_group s gathered (λ padded. group_len)
+
+    -- and what it does, unless it is final
+    pub packed-group : {count : ℕ} {new : List ℕ}
+        → length new ≡ length (take (length output - written) (drop written output))
+        → IsDecodedGroup base group count new
+        → (not base.concatenates && nat_lt count (length group)) ≡ false
+        → HasPacked base text start packed (written + sizes.width * count / 8)
+        (drop sizes.symbols bytes) (rewritten written output new)
+    packed-group {count} {new} new_len has final =
+        let found = ends-after sizes.symbols enough in
+        let some : 0 < length group =
+        omega (arith, group_len, s.symbols_is, group_symbols-pos base.width s.width) in
+        let next = after_group s gathered some new_len has (c.read + found.0) refl final in
+        record {
+          read = c.read + found.0;
+          after = omega (arith, c.after);
+          few = omega (arith, found.1, c.few);
+          within = c.within;
+          are = found.3;
+          so_far = next.so_far;
+        }
+
+-- as many kept bytes before two positions are the same
+same-kept : (base : Base) (text : List ℕ) (a b : ℕ) → a ≤ b → b ≤ length text
+    → length (kept base (take a text)) ≡ length (kept base (take b text))
+    → kept base (take a text) ≡ kept base (take b text)
+same-kept base text a b few within same =
+    let rest = kept_in base a (take (b - a) (drop a text)) in
+    let more = kept-more base a text (omega (arith, few, within)) b few within in
+    let none : rest ≡ [] =
+    nil_from_length rest
+    (omega (arith, same, ap length more, length-append (kept base (take a text)) rest)) in
+    sym (more ∙ rw none (append-nil (kept base (take a text))))
+
+-- a prefix that ends with a byte that is not ignored ends after the last of these
+end-is : (base : Base) (text : List ℕ) (n : ℕ) → n ≤ length text
+    → (0 < n → is_ignored (meaning base (get_or text (n - 1) 0)) ≡ false)
+    → position_after (kept base (take n text)) ≡ n
+end-is base text zero few ends = refl
+end-is base text (suc n) few ends =
+    let next : n + 1 ≡ suc n = omega arith in
+    let place : suc n - 1 ≡ n = omega arith in
+    let more = rw next at (more-here base text n (omega (arith, few))
+    (rw place at (ends (omega arith)))) in
+    kept-ends base 0 text (suc n) few ends (omega (arith, more)) ∙ omega arith
+
+-- The bytes that are packed and not decoded begin where the decoding has come to.
+pub packed-end : {base : Base} {text : List ℕ} {start packed written short : ℕ}
+    {bytes output : List ℕ} (c : HasPacked base text start packed written bytes output)
+    → EndsBefore base (take packed text) (length bytes) short
+    → short ≤ length (take packed text) → c.read ≡ short
+packed-end {base} {text} {start} {packed} {written} {short} {bytes} c ends few =
+    let inside : short ≤ packed = omega (arith, few, length-take-le packed text c.within) in
+    let part = kept_in base c.read (take (packed - c.read) (drop c.read text)) in
+    let alike : bytes_in part ≡ bytes =
+    bytes-kept_in base c.read (take (packed - c.read) (drop c.read text))
+    ∙ sym (bytes-kept_in base 0 (take (packed - c.read) (drop c.read text))) ∙ c.are in
+    let part_len = length-by_bytes part bytes alike in
+    let more = kept-more base c.read text c.so_far.within packed c.few c.within in
+    let all = ap length more ∙ length-append (kept base (take c.read text)) part in
+    let front_is : take short (take packed text) ≡ take short text =
+    take-take short packed text inside in
+    let before = rw front_is at ends.before in
+    let same : length (kept base (take short text)) ≡ length (kept base (take c.read text)) =
+    omega (arith, before, all, part_len) in
+    let alike_kept : kept base (take short text) ≡ kept base (take c.read text) =
+    ⊎_elim {C = kept base (take short text) ≡ kept base (take c.read text)}
+    (λ below. same-kept base text short c.read (omega (arith, below)) c.so_far.within same)
+    (λ above. sym (same-kept base text c.read short above (omega (arith, inside, c.within))
+    (sym same)))
+    (cases_lt short c.read) in
+    sym c.so_far.ends ∙ ap position_after (sym alike_kept) ∙ end-is base text short
+    (omega (arith, inside, c.within))
+    (λ some. rw (get_or-take packed text (short - 1) 0 (omega (arith, some, inside)))
+    at (ends.ends some))
+
+-- If nothing is left, what follows is ignored.
+pub packed-ignored : {base : Base} {text : List ℕ} {start packed written : ℕ}
+    {bytes output : List ℕ} (c : HasPacked base text start packed written bytes output)
+    → length bytes ≡ 0 → IsIgnoredFront base (drop c.read text) (packed - c.read)
+packed-ignored {base} {text} {start} {packed} {written} {bytes} c none =
+    let part = take (packed - c.read) (drop c.read text) in
+    record {
+      within = omega (arith, c.few, c.within, length-drop c.read text);
+      none = nil_from_length (kept base part)
+          (length-by_bytes (kept base part) bytes c.are ∙ none);
+    }

@@ -1,54 +1,69 @@
 //! Decoding by blocks: the bytes of a part of a text that are not ignored are packed, and decoded
-//! as one run.
+//! from there.
 
-ghost use Rattle.std.specs.Prelude.{◌≡◌, ℕ, false, ◌+◌, ◌-◌, ◌<◌, ◌≤◌, length, take, drop, Ok};
+ghost use Rattle.std.specs.Prelude.{◌≡◌, ℕ, List, false, ◌+◌, ◌-◌, ◌<◌, ◌≤◌, length, take, drop, Ok};
 ghost use Rattle.data_encoding_meaning.specs.text.Base.{Base};
 ghost use Rattle.data_encoding_meaning.specs.text.Grammar.{kept};
 ghost use Rattle.data_encoding_meaning.specs.text.Lengths.{decoded_len};
-ghost use Rattle.data_encoding_meaning.specs.decoding.Decoding.{HasDecodedTo};
+ghost use Rattle.data_encoding_meaning.specs.decoding.Decoding.{HasDecodedTo, IsIgnoredFront};
+ghost use Rattle.data_encoding_kernel.specs.Ignore.{HoldsIgnored};
 ghost use Rattle.data_encoding_kernel.specs.Tables.{HoldsValues, Reads};
-ghost use Rattle.data_encoding.specs.Blocks.{EndsBefore, HasPacked};
+ghost use Rattle.data_encoding.specs.Blocks.{EndsBefore, HasReached, IsPacking};
 
 use crate::decode::DECODE_LIMIT;
 use crate::decode::steps::Reached;
-use crate::encoding::{EncodingRef, IGNORED};
+use crate::encoding::{BitOrder, EncodingRef, IGNORED};
 use data_encoding_kernel::decode::decode_run_within;
 use data_encoding_kernel::group_size::GroupSize;
 use data_encoding_kernel::ignore::{IgnoredBytes, pack};
 use data_encoding_kernel::lanes::look_up::LookUp;
 use data_encoding_kernel::order::ConstantOrder;
 
-// The length of the first block. It is short, since ignored bytes that are few may follow.
+// The length of the part of a text that the first block has. It is short, since ignored bytes that
+// are few may follow.
 const FIRST_LEN: usize = 128;
 
-// The greatest length of a block.
+// The greatest length of such a part.
 const BLOCK_LEN: usize = 512;
 
-// How many bytes more the room of a block has: those of a group that is not complete, and what is
-// loaded or written beyond the bytes that are packed.
-const SLACK: usize = 8 + 64;
+// The room that a block has beyond such a part: for less than a group that is left of the block
+// before it, and for bytes that a turn loads after those that are packed.
+const SLACK: usize = 72;
 
-// How far a text was packed and decoded. The next bytes of the block are not decoded.
+// Blocks go on if at least one of this many bytes is in a sixteen that has an ignored one.
+const MIXED: usize = 96;
+
+// How far a text was packed from where packing began, and how far its output is written. The bytes
+// of the block from `first` on are not decoded.
 #[derive(Clone, Copy, Drop)]
 pub(crate) struct Packing {
-    // How far the text was packed.
+    pub(crate) start: usize,
     pub(crate) read: usize,
     pub(crate) written: usize,
-
-    // How many bytes of the block were decoded, and how many bytes it has.
     pub(crate) first: usize,
     pub(crate) end: usize,
 }
 
 impl EncodingRef<'_> {
     /// Decodes whole groups block by block, while many bytes are ignored.
+    // Not inlined, so that other texts do not pay for the stack that a block takes.
     #[inline(never)]
     pub(crate) fn decode_by_blocks<L: LookUp, O: ConstantOrder, G: GroupSize>(
         &self,
         at: Reached,
         input: &[u8],
         output: &mut [u8],
-    ) -> Reached {
+    ) -> Reached
+        requires width { self.now.width ≡ G.WIDTH }
+        requires order { self.now.order ≡ O.ORDER }
+        requires limit { length input.now ≤ DECODE_LIMIT }
+        requires exact { decoded_len self.now (length input.now) ≡ Ok (length output.old) }
+        requires so_far { HasDecodedTo self.now input.now at.read at.written false output.old }
+        ensures so_far { HasDecodedTo self.now input.now result.read result.written false
+            output.new }
+        ensures front { IsIgnoredFront self.now (drop result.read input.now) result.ignored }
+        ensures further { at.read ≤ result.read }
+    {
         if input.len() - at.read <= FIRST_LEN {
             let mut room = [0; FIRST_LEN + SLACK];
             return self.decode_in_room::<L, O, G>(at, input, &mut room, output);
@@ -57,6 +72,9 @@ impl EncodingRef<'_> {
         self.decode_in_room::<L, O, G>(at, input, &mut room, output)
     }
 
+    // The blocks have twice as many bytes each time, as long as there is room. What is left of a
+    // block is less than a group, and is moved to the front of the next, so that each byte is
+    // packed once.
     #[inline(never)]
     fn decode_in_room<L: LookUp, O: ConstantOrder, G: GroupSize>(
         &self,
@@ -64,58 +82,43 @@ impl EncodingRef<'_> {
         input: &[u8],
         room: &mut [u8],
         output: &mut [u8],
-    ) -> Reached {
+    ) -> Reached
+        requires width { self.now.width ≡ G.WIDTH }
+        requires order { self.now.order ≡ O.ORDER }
+        requires limit { length input.now ≤ DECODE_LIMIT }
+        requires exact { decoded_len self.now (length input.now) ≡ Ok (length output.old) }
+        requires room { FIRST_LEN + SLACK ≤ length room.old }
+        requires so_far { HasDecodedTo self.now input.now at.read at.written false output.old }
+        ensures so_far { HasDecodedTo self.now input.now result.read result.written false
+            output.new }
+        ensures front { IsIgnoredFront self.now (drop result.read input.now) result.ignored }
+        ensures further { at.read ≤ result.read }
+    {
         let values = &self.fields.values.entries;
         let look_up = L::of(&self.fields.values);
         let ignored = IgnoredBytes::of(values);
-        let mut len = FIRST_LEN;
         let mut now = Packing {
+            start: at.read,
             read: at.read,
             written: at.written,
             first: 0,
             end: 0,
         };
+        let mut len = FIRST_LEN;
         for _ in 0..input.len() {
-            let first = now.first;
-            move_front(first, room);
-            let left = now.end - first;
             let span = len.min(input.len() - now.read);
-            let packed = pack(
-                &ignored,
-                &input[now.read..now.read + span],
-                &mut room[left..],
-            );
-            now = self.decode_packed::<L, O, G>(
-                values,
-                &look_up,
-                Packing {
-                    read: now.read + span,
-                    written: now.written,
-                    first: 0,
-                    end: left + packed.count,
-                },
-                input,
-                room,
-                output,
-            );
-            if now.end - now.first >= G::SYMBOLS
-                || now.read == input.len()
-                || packed.mixed * MIXED < span
-            {
+            let (next, mixed) = pack_next(&ignored, span, now, input, room);
+            now = self.decode_packed::<L, O, G>(values, &look_up, next, input, room, output);
+            let is_last = now.read == input.len() || mixed * MIXED < span;
+            if is_last || now.end - now.first >= G::SYMBOLS {
                 break;
             }
             len = next_len(len, room.len());
         }
-        let left = now.end - now.first;
-        let read = span_before(values, &input[..now.read], left);
-        Reached {
-            read,
-            written: now.written,
-            ignored: if left == 0 { now.read - read } else { 0 },
-            is_short: false,
-        }
+        after_blocks(values, now, input)
     }
 
+    // Decodes the groups of a block, up to one with a fault or the end of the text.
     #[inline(always)]
     fn decode_packed<L: LookUp, O: ConstantOrder, G: GroupSize>(
         &self,
@@ -125,59 +128,192 @@ impl EncodingRef<'_> {
         input: &[u8],
         room: &[u8],
         output: &mut [u8],
-    ) -> Packing {
-        let mut first = at.first;
-        let mut written = at.written;
-        for _ in 0..input.len() {
-            let groups = decode_run_within::<L, O, G>(
-                values,
-                look_up,
-                &room[first..],
-                at.end - first,
-                &mut output[written..],
-            );
-            first += groups * G::SYMBOLS;
-            written += groups * G::BYTES;
-            if at.end - first < G::SYMBOLS {
+    ) -> Packing
+        requires reads { Reads self.now values.now G.WIDTH O.ORDER }
+        requires held { L.holds values.now look_up.now }
+        requires limit { length input.now ≤ DECODE_LIMIT }
+        requires exact { decoded_len self.now (length input.now) ≡ Ok (length output.old) }
+        requires packing { IsPacking self.now input.now room.now at output.old }
+        ensures packing { IsPacking self.now input.now room.now result output.new }
+        ensures start { result.start ≡ at.start }
+        ensures read { result.read ≡ at.read }
+        ensures end { result.end ≡ at.end }
+    {
+        let mut now = at;
+        for _ in 0..at.end {
+            now = self.decode_packed_run::<L, O, G>(values, look_up, now, input, room, output);
+            if now.end - now.first < G::SYMBOLS {
                 break;
             }
-            let group = &room[first..first + G::SYMBOLS];
-            match self.decode_group::<G>(O::ORDER, group, &mut output[written..]) {
-                Ok(count) if count == G::SYMBOLS || self.fields.concatenates => {
-                    first += G::SYMBOLS;
-                    written += G::WIDTH * count / 8;
-                }
-                _ => break,
+            let first = now.first;
+            now = self.decode_packed_group::<G>(O::ORDER, now, input, room, output);
+            if now.first == first {
+                break;
             }
         }
+        now
+    }
+
+    // Decodes the next groups of a block that are symbols only.
+    #[inline(always)]
+    fn decode_packed_run<L: LookUp, O: ConstantOrder, G: GroupSize>(
+        &self,
+        values: &[u8; 256],
+        look_up: &L,
+        at: Packing,
+        input: &[u8],
+        room: &[u8],
+        output: &mut [u8],
+    ) -> Packing
+        requires reads { Reads self.now values.now G.WIDTH O.ORDER }
+        requires held { L.holds values.now look_up.now }
+        requires limit { length input.now ≤ DECODE_LIMIT }
+        requires exact { decoded_len self.now (length input.now) ≡ Ok (length output.old) }
+        requires packing { IsPacking self.now input.now room.now at output.old }
+        ensures packing { IsPacking self.now input.now room.now result output.new }
+        ensures start { result.start ≡ at.start }
+        ensures read { result.read ≡ at.read }
+        ensures end { result.end ≡ at.end }
+    {
+        let count = decode_run_within::<L, O, G>(
+            values,
+            look_up,
+            &room[at.first..],
+            at.end - at.first,
+            &mut output[at.written..],
+        );
         Packing {
+            start: at.start,
             read: at.read,
-            written,
-            first,
+            written: at.written + count * G::BYTES,
+            first: at.first + count * G::SYMBOLS,
+            end: at.end,
+        }
+    }
+
+    // Decodes the next group of a block, which may be padded. A group with a fault, or one that
+    // ends the text, is not decoded.
+    #[inline(always)]
+    fn decode_packed_group<G: GroupSize>(
+        &self,
+        order: BitOrder,
+        at: Packing,
+        input: &[u8],
+        room: &[u8],
+        output: &mut [u8],
+    ) -> Packing
+        requires width { self.now.width ≡ G.WIDTH }
+        requires order { self.now.order ≡ order }
+        requires limit { length input.now ≤ DECODE_LIMIT }
+        requires exact { decoded_len self.now (length input.now) ≡ Ok (length output.old) }
+        requires packing { IsPacking self.now input.now room.now at output.old }
+        requires whole { at.first + G.SYMBOLS ≤ at.end }
+        ensures packing { IsPacking self.now input.now room.now result output.new }
+        ensures start { result.start ≡ at.start }
+        ensures read { result.read ≡ at.read }
+        ensures end { result.end ≡ at.end }
+    {
+        let group = &room[at.first..at.first + G::SYMBOLS];
+        let count = match self.decode_group::<G>(order, group, &mut output[at.written..]) {
+            Ok(count) => count,
+            Err(_) => return at,
+        };
+        if count < G::SYMBOLS && !self.fields.concatenates {
+            return at;
+        }
+        Packing {
+            start: at.start,
+            read: at.read,
+            written: at.written + G::WIDTH * count / 8,
+            first: at.first + G::SYMBOLS,
             end: at.end,
         }
     }
 }
 
-// Moves the bytes from this one on to the front of the room, as far as a group may have them.
+// Moves what is left of a block to the front of the room, and packs the next bytes of the text
+// behind it, as many as the span. Returns how many sixteens of them had an ignored byte, too.
 #[inline(always)]
-fn move_front(first: usize, room: &mut [u8]) {
+fn pack_next(
+    ignored: &IgnoredBytes,
+    span: usize,
+    at: Packing,
+    input: &[u8],
+    room: &mut [u8],
+) -> (Packing, usize)
+    requires within { at.read + span ≤ length input.now }
+    requires few { at.end - at.first < 8 }
+    requires first { at.end + 8 ≤ length room.old }
+    requires room { span + 24 ≤ length room.old }
+    ensures packing { (base : Base) → HoldsIgnored base ignored.now → (output : List ℕ)
+        → IsPacking base input.now room.old at output
+        → IsPacking base input.now room.new result.0 output }
+    ensures start { result.0.start ≡ at.start }
+    ensures read { result.0.read ≡ at.read + span }
+    ensures end { result.0.end ≤ 8 + span }
+    ensures few { result.1 ≤ span }
+{
+    let left = at.end - at.first;
+    move_front(at.first, room);
+    let part = &input[at.read..at.read + span];
+    let packed = pack(ignored, part, &mut room[left..]);
+    let next = Packing {
+        start: at.start,
+        read: at.read + span,
+        written: at.written,
+        first: 0,
+        end: left + packed.count,
+    };
+    (next, packed.mixed)
+}
+
+// Copies eight bytes to the front.
+#[inline(always)]
+fn move_front(first: usize, room: &mut [u8])
+    requires within { first + 8 ≤ length room.old }
+    ensures { take 8 room.new ≡ take 8 (drop first room.old) }
+{
     let mut bytes = [0; 8];
     bytes.copy_from_slice(&room[first..first + 8]);
     room[..8].copy_from_slice(&bytes);
 }
 
-// The length of the next block.
+// The length of the part that the next block has.
 #[inline(always)]
-fn next_len(len: usize, room: usize) -> usize {
-    if 2 * len + SLACK <= room {
-        2 * len
+fn next_len(len: usize, room_len: usize) -> usize
+    requires limit { len ≤ BLOCK_LEN }
+    requires fits { len + SLACK ≤ room_len }
+    ensures limit { result ≤ BLOCK_LEN }
+    ensures fits { result + SLACK ≤ room_len }
+{
+    let most = 2 * len;
+    if most <= BLOCK_LEN && most + SLACK <= room_len {
+        most
     } else {
         len
     }
 }
 
-const MIXED: usize = 96;
+// How far a text is decoded after a block. If nothing of the block is left, what follows is ignored
+// up to where it was packed.
+#[inline(always)]
+fn after_blocks(values: &[u8; 256], now: Packing, input: &[u8]) -> Reached
+    requires within { now.read ≤ length input.now }
+    requires ordered { now.first ≤ now.end }
+    ensures { (base : Base) → HoldsValues base values.now → (room output : List ℕ)
+        → IsPacking base input.now room now output
+        → HasReached base input.now now.start result output }
+{
+    let left = now.end - now.first;
+    let read = span_before(values, &input[..now.read], left);
+    let ignored = if left == 0 { now.read - read } else { 0 };
+    Reached {
+        read,
+        written: now.written,
+        ignored,
+        is_short: false,
+    }
+}
 
 // Returns the length of a part without its last bytes that are not ignored, as many as these, and
 // without the ignored bytes before and after them.

@@ -156,7 +156,7 @@ impl EncodingRef<'_> {
                 break;
             }
             let next = self.decode_run_by_turns::<L, O, G>(values, look_up, len, at, input, output);
-            len = next.read - at.read - at.ignored.min(next.read - at.read);
+            len = (next.read - at.read).saturating_sub(at.ignored);
             if packs && is_short::<G>(values, len, next, input) {
                 at.is_short = true;
                 break;
