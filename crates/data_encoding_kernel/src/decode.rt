@@ -244,7 +244,7 @@ fn decode_turns<T: DecodeTurn, G: GroupSize>(
             &input[read..read + groups * symbols],
             &mut output[written..written + groups * bytes],
         );
-        if found < groups * symbols {
+        if found != groups * symbols {
             return read + found;
         }
     }
