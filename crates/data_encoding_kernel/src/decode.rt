@@ -1,6 +1,6 @@
 //! Runs of whole groups of symbols only, which are decoded without a judgement.
 
-ghost use Rattle.std.specs.Prelude.{◌≡◌, ℕ, ◌*◌, ◌/◌, ◌≤◌, List, length, take};
+ghost use Rattle.std.specs.Prelude.{◌≡◌, ℕ, ◌*◌, ◌/◌, ◌≤◌, List, length, take, IsTrue};
 ghost use Rattle.data_encoding_kernel.specs.Runs.{IsLongestBy, IsRunBy};
 
 use crate::group_size::GroupSize;
@@ -52,7 +52,11 @@ pub fn decode_run_within<L: LookUp, O: ConstantOrder, G: GroupSize>(
     let symbols = G::SYMBOLS;
     let bytes = G::BYTES;
     let part = &input[..len];
-    let (first, count) = decode_by_several::<L, O, G>(values, look_up, input, len, output);
+    let count = len / symbols;
+    let (first, is_longest) = decode_by_several::<L, O, G>(values, look_up, input, len, output);
+    if is_longest {
+        return first;
+    }
     for index in first..count {
         let read = index * symbols;
         let written = index * bytes;
@@ -68,8 +72,8 @@ pub fn decode_run_within<L: LookUp, O: ConstantOrder, G: GroupSize>(
     count
 }
 
-// By eight groups in lanes if the input has as many, or else in shorter turns. Returns the number
-// of groups that are decoded, and of those that are left to be tried after them.
+// By eight groups in lanes if the input has as many, or else in shorter turns. Also returns whether
+// the next group is known to have a byte that is no symbol.
 #[inline(always)]
 fn decode_by_several<L: LookUp, O: ConstantOrder, G: GroupSize>(
     values: &[u8; 256],
@@ -77,20 +81,20 @@ fn decode_by_several<L: LookUp, O: ConstantOrder, G: GroupSize>(
     input: &[u8],
     len: usize,
     output: &mut [u8],
-) -> (usize, usize)
+) -> (usize, bool)
     requires held { L.holds values.now look_up.now }
     requires few { len ≤ length input.now }
     requires room { len / G.SYMBOLS * G.BYTES ≤ length output.old }
     ensures run { IsRunBy values.now G.WIDTH O.ORDER (take len input.now) result.0 output.old
         output.new }
-    ensures longest { IsLongestBy values.now G.WIDTH O.ORDER (take len input.now) result.1 }
-    ensures ordered { result.0 ≤ result.1 }
-    ensures within { result.1 ≤ len / G.SYMBOLS }
+    ensures longest { IsTrue result.1
+        → IsLongestBy values.now G.WIDTH O.ORDER (take len input.now) result.0 }
+    ensures within { result.0 ≤ len / G.SYMBOLS }
 {
     let eight = 8 * G::SYMBOLS;
     if input.len() < eight {
         let first = decode_by_few::<L, O, G>(values, look_up, &input[..len], output);
-        return (first, len / G::SYMBOLS);
+        return (first, false);
     }
     decode_by_lanes::<L, O, G>(values, look_up, input, len, output)
 }
@@ -122,28 +126,33 @@ fn decode_by_lanes<L: LookUp, O: ConstantOrder, G: GroupSize>(
     input: &[u8],
     len: usize,
     output: &mut [u8],
-) -> (usize, usize)
+) -> (usize, bool)
     requires held { L.holds values.now look_up.now }
     requires few { len ≤ length input.now }
     requires room { len / G.SYMBOLS * G.BYTES ≤ length output.old }
     ensures run { IsRunBy values.now G.WIDTH O.ORDER (take len input.now) result.0 output.old
         output.new }
-    ensures longest { IsLongestBy values.now G.WIDTH O.ORDER (take len input.now) result.1 }
-    ensures ordered { result.0 ≤ result.1 }
-    ensures within { result.1 ≤ len / G.SYMBOLS }
+    ensures longest { IsTrue result.1
+        → IsLongestBy values.now G.WIDTH O.ORDER (take len input.now) result.0 }
+    ensures within { result.0 ≤ len / G.SYMBOLS }
 {
     let symbols = G::SYMBOLS;
     let bytes = G::BYTES;
     let at = decode_by_turns::<L, O, G>(look_up, input, len, output);
     let first = at / symbols;
     if at < len && entry_of(values, input[at]) >= 128 {
-        return (first, first);
+        return (first, true);
     }
     let part = &input[..len];
     let read = first * symbols;
+    let left = len - read;
+    // Eight groups are left only if they were refused. Fewer than sixteen symbols make no turn.
+    if left >= 8 * symbols || left < 16 {
+        return (first, false);
+    }
     let written = first * bytes;
     let further = decode_by_few::<L, O, G>(values, look_up, &part[read..], &mut output[written..]);
-    (first + further, len / symbols)
+    (first + further, false)
 }
 
 /// Decodes by turns of eight groups, up to the first byte that is no symbol or up to a length, as
@@ -171,13 +180,20 @@ pub fn decode_by_turns<L: LookUp, O: ConstantOrder, G: GroupSize>(
 // How many turns of eight groups start before `len`, if the input and the output have them whole.
 #[inline(always)]
 fn count_turns<G: GroupSize>(input_len: usize, len: usize, output_len: usize) -> usize
+    requires few { len ≤ input_len }
     ensures symbols { result * 8 * G.SYMBOLS ≤ input_len }
     ensures bytes { result * 8 * G.BYTES ≤ output_len }
 {
     let symbols = 8 * G::SYMBOLS;
     let bytes = 8 * G::BYTES;
-    let count = len.div_ceil(symbols).min(input_len / symbols);
-    if count > output_len / bytes {
+    let most = if input_len - len < symbols {
+        input_len
+    } else {
+        len + (symbols - 1)
+    };
+    let count = most / symbols;
+    // Less than a division, where the output has room.
+    if output_len < count * bytes {
         return output_len / bytes;
     }
     count
@@ -228,7 +244,7 @@ fn decode_turns<T: DecodeTurn, G: GroupSize>(
             &input[read..read + groups * symbols],
             &mut output[written..written + groups * bytes],
         );
-        if found < groups * symbols {
+        if found != groups * symbols {
             return read + found;
         }
     }

@@ -1,13 +1,13 @@
-use Rattle.std.proofs.Common.{◌≡◌, ◌*◌, ◌/◌, ◌≤◌, length, length-take-le, refl, take, sym, subst, arith}
+use Rattle.std.proofs.Common.{◌≡◌, ◌+◌, ◌*◌, ◌/◌, ◌≤◌, length, length-take-le, refl, take, sym, subst, arith}
 use Rattle.std.proofs.lemmas.List.{get_or-take}
 use Rattle.data_encoding_kernel.specs.Runs.{IsRun}
-use Rattle.data_encoding_kernel.proofs.decoding.SymbolRunLemmas.{fewer-groups, groups-room, room-left, run-after, run-all, run-ends, within-left}
+use Rattle.data_encoding_kernel.proofs.decoding.SymbolRunLemmas.{fewer-groups, groups-room, room-left, run-after, run-ends, within-left}
 use Rattle.data_encoding_meaning.proofs.digits.SizeLemmas.{IsGroup-same}
 use Rattle.data_encoding_meaning.proofs.lists.PartLemmas.{IsWhole-group, IsWhole-same}
 use Rattle.data_encoding_kernel.proofs.decode.decode_by_lanes.Goals as goal
 
 pub returns-then-entry_of-ge128-clause-longest : goal.returns-then-entry_of-ge128-clause-longest
-returns-then-entry_of-ge128-clause-longest g c = λ base reads.
+returns-then-entry_of-ge128-clause-longest g c = λ ended base reads.
     let at = c.decode_by_turns-at.result in
     let group = IsGroup-same refl c.BYTES-bytes.ensures c.SYMBOLS-symbols.ensures
     g.G.GroupSize.is_group in
@@ -19,14 +19,6 @@ returns-then-entry_of-ge128-clause-longest g c = λ base reads.
     (take c.args.len c.args.input.now) at whole.some_symbols reads.holds
     (rw byte ((c.type_inv.input at).fits))
     (rw byte (omega (arith, c.entry_of.ensures, c.if-entry_of-ge128.true)))
-
-pub returns-clause-longest : goal.returns-clause-longest
-returns-clause-longest g c = λ base reads.
-    let group = IsGroup-same refl c.BYTES-bytes.ensures c.SYMBOLS-symbols.ensures
-    g.G.GroupSize.is_group in
-    run-all base reads.holds.is_width g.G.GroupSize.WIDTH c.BYTES-bytes.result
-    c.SYMBOLS-symbols.result group reads.width_is (take c.args.len c.args.input.now) c.args.len
-    (length-take-le c.args.len c.args.input.now c.requires.few)
 
 pub slice_bounds-decode_by_few-count-2 : goal.slice_bounds-decode_by_few-count-2
 slice_bounds-decode_by_few-count-2 g c =
@@ -119,8 +111,8 @@ returns-clause-run g c = λ base reads.
     (c.decode_by_turns-at.ensures.run c.args.values.now c.requires.held base reads))
     (c.decode_by_few-further.ensures.run base reads)
 
-pub returns-clause-ordered : goal.returns-clause-ordered
-returns-clause-ordered g c =
+pub returns-clause-within : goal.returns-clause-within
+returns-clause-within g c =
     let whole = IsWhole-group g.G.GroupSize.WIDTH g.G.GroupSize.BYTES g.G.GroupSize.SYMBOLS
     g.G.GroupSize.is_group in
     let part = take c.args.len c.args.input.now in
@@ -132,11 +124,6 @@ returns-clause-ordered g c =
     subst (λ n. first ≤ n / g.G.GroupSize.SYMBOLS) (sym part_len)
     (fewer-groups at c.args.len c.SYMBOLS-symbols.ensures whole.some_symbols
     c.decode_by_turns-at.ensures.within) in
-    let same : length part / g.G.GroupSize.SYMBOLS ≡ c.args.len / c.SYMBOLS-symbols.result =
-    (λ i. part_len i / (sym c.SYMBOLS-symbols.ensures) i) in
-    omega (
-      arith,
-      same,
-      within-left part first c.decode_by_few-further.result
-          c.SYMBOLS-symbols.ensures whole.some_symbols within c.decode_by_few-further.ensures.within,
-    )
+    subst (λ n. first + c.decode_by_few-further.result ≤ n / g.G.GroupSize.SYMBOLS) part_len
+    (within-left part first c.decode_by_few-further.result c.SYMBOLS-symbols.ensures
+    whole.some_symbols within c.decode_by_few-further.ensures.within)

@@ -1,24 +1,18 @@
-use Rattle.std.proofs.Common.{◌≡◌, ℕ, ◌+◌, ◌*◌, ◌/◌, ◌<◌, ◌≤◌, length, length-take-le, take, refl, sym, ap, ◌∙◌, subst, arith}
+use Rattle.std.proofs.Common.{◌≡◌, ◌+◌, ◌*◌, ◌/◌, ◌<◌, ◌≤◌, length, length-take-le, take, refl, sym, ap, ◌∙◌, subst, arith}
 use Rattle.data_encoding_meaning.proofs.decoding.GroupJudgementLemmas.{part_bytes}
 use Rattle.std.proofs.Math.Nat.{mul-le-mul_right}
 use Rattle.data_encoding_meaning.proofs.digits.SizeLemmas.{IsGroup-same}
-use Rattle.data_encoding_kernel.proofs.decoding.SymbolRunLemmas.{group-next, run-kept, run-longest}
+use Rattle.data_encoding_kernel.proofs.decoding.SymbolRunLemmas.{group-next, run-all, run-kept, run-longest}
 use Rattle.data_encoding_meaning.proofs.lists.PartLemmas.{IsWhole-same, group-before, group-room, groups-within, length-part}
 use Rattle.data_encoding_kernel.proofs.decode.decode_run_within.Goals as goal
-
--- a group that is left to be tried is one of the part
-before-count : {s symbols : ℕ} (i count len n : ℕ) → symbols ≡ s → count ≤ len / s → n ≡ len
-    → i < count → i < n / symbols
-before-count {s} i count len n same few long =
-    rw (same, long) (λ h. omega (arith, h, few))
 
 pub slice_bounds-decode_symbols-end : goal.slice_bounds-decode_symbols-end
 slice_bounds-decode_symbols-end g c =
     let part = take c.args.len c.args.input.now in
     let part_len : length part ≡ c.args.len =
     length-take-le c.args.len c.args.input.now c.requires.few in
-    let inside = before-count c.loop-index.index (c.decode_by_several-first.result.1) c.args.len
-    (length part) c.SYMBOLS-symbols.ensures c.decode_by_several-first.ensures.within part_len
+    let inside : c.loop-index.index < length part / c.SYMBOLS-symbols.result =
+    subst (λ n. c.loop-index.index < n / c.SYMBOLS-symbols.result) (sym part_len)
     c.loop-index-test.true in
     group-before (length part) c.SYMBOLS-symbols.result c.loop-index.index inside
 
@@ -34,8 +28,8 @@ slice_bounds-decode_symbols-end-in-loop-index g c =
     let part = take c.args.len c.args.input.now in
     let part_len : length part ≡ c.args.len =
     length-take-le c.args.len c.args.input.now c.requires.few in
-    let inside = before-count c.loop-index.index (c.decode_by_several-first.result.1) c.args.len
-    (length part) c.SYMBOLS-symbols.ensures c.decode_by_several-first.ensures.within part_len
+    let inside : c.loop-index.index < length part / c.SYMBOLS-symbols.result =
+    subst (λ n. c.loop-index.index < n / c.SYMBOLS-symbols.result) (sym part_len)
     c.loop-index-test.true in
     let all : length part / g.G.GroupSize.SYMBOLS * g.G.GroupSize.BYTES
     ≤ length c.args.output.now =
@@ -53,8 +47,8 @@ overflow_mul-written g c =
     let part = take c.args.len c.args.input.now in
     let part_len : length part ≡ c.args.len =
     length-take-le c.args.len c.args.input.now c.requires.few in
-    let inside = before-count c.loop-index.index (c.decode_by_several-first.result.1) c.args.len
-    (length part) c.SYMBOLS-symbols.ensures c.decode_by_several-first.ensures.within part_len
+    let inside : c.loop-index.index < length part / c.SYMBOLS-symbols.result =
+    subst (λ n. c.loop-index.index < n / c.SYMBOLS-symbols.result) (sym part_len)
     c.loop-index-test.true in
     let all : length part / g.G.GroupSize.SYMBOLS * g.G.GroupSize.BYTES
     ≤ length c.args.output.now =
@@ -75,8 +69,8 @@ decode_symbols-requires-clause-few g c =
     let part = take c.args.len c.args.input.now in
     let part_len : length part ≡ c.args.len =
     length-take-le c.args.len c.args.input.now c.requires.few in
-    let inside = before-count c.loop-index.index (c.decode_by_several-first.result.1) c.args.len
-    (length part) c.SYMBOLS-symbols.ensures c.decode_by_several-first.ensures.within part_len
+    let inside : c.loop-index.index < length part / c.SYMBOLS-symbols.result =
+    subst (λ n. c.loop-index.index < n / c.SYMBOLS-symbols.result) (sym part_len)
     c.loop-index-test.true in
     omega (
       arith,
@@ -89,8 +83,8 @@ decode_symbols-requires-clause-exact g c =
     let part = take c.args.len c.args.input.now in
     let part_len : length part ≡ c.args.len =
     length-take-le c.args.len c.args.input.now c.requires.few in
-    let inside = before-count c.loop-index.index (c.decode_by_several-first.result.1) c.args.len
-    (length part) c.SYMBOLS-symbols.ensures c.decode_by_several-first.ensures.within part_len
+    let inside : c.loop-index.index < length part / c.SYMBOLS-symbols.result =
+    subst (λ n. c.loop-index.index < n / c.SYMBOLS-symbols.result) (sym part_len)
     c.loop-index-test.true in
     let all : length part / g.G.GroupSize.SYMBOLS * g.G.GroupSize.BYTES
     ≤ length c.args.output.now =
@@ -115,8 +109,8 @@ returns-then-not-decode_symbols-clause-run g c = λ base reads.
     let part = take c.args.len c.args.input.now in
     let part_len : length part ≡ c.args.len =
     length-take-le c.args.len c.args.input.now c.requires.few in
-    let inside = before-count c.loop-index.index (c.decode_by_several-first.result.1) c.args.len
-    (length part) c.SYMBOLS-symbols.ensures c.decode_by_several-first.ensures.within part_len
+    let inside : c.loop-index.index < length part / c.SYMBOLS-symbols.result =
+    subst (λ n. c.loop-index.index < n / c.SYMBOLS-symbols.result) (sym part_len)
     c.loop-index-test.true in
     let all : length part / g.G.GroupSize.SYMBOLS * g.G.GroupSize.BYTES
     ≤ length c.args.output.now =
@@ -151,8 +145,8 @@ returns-then-not-decode_symbols-clause-within g c =
     let part = take c.args.len c.args.input.now in
     let part_len : length part ≡ c.args.len =
     length-take-le c.args.len c.args.input.now c.requires.few in
-    let inside = before-count c.loop-index.index (c.decode_by_several-first.result.1) c.args.len
-    (length part) c.SYMBOLS-symbols.ensures c.decode_by_several-first.ensures.within part_len
+    let inside : c.loop-index.index < length part / c.SYMBOLS-symbols.result =
+    subst (λ n. c.loop-index.index < n / c.SYMBOLS-symbols.result) (sym part_len)
     c.loop-index-test.true in
     omega (
       arith,
@@ -173,8 +167,8 @@ loop-index-preserved g c =
     let part = take c.args.len c.args.input.now in
     let part_len : length part ≡ c.args.len =
     length-take-le c.args.len c.args.input.now c.requires.few in
-    let inside = before-count c.loop-index.index (c.decode_by_several-first.result.1) c.args.len
-    (length part) c.SYMBOLS-symbols.ensures c.decode_by_several-first.ensures.within part_len
+    let inside : c.loop-index.index < length part / c.SYMBOLS-symbols.result =
+    subst (λ n. c.loop-index.index < n / c.SYMBOLS-symbols.result) (sym part_len)
     c.loop-index-test.true in
     let all : length part / g.G.GroupSize.SYMBOLS * g.G.GroupSize.BYTES
     ≤ length c.args.output.now =
@@ -206,21 +200,34 @@ loop-index-preserved g c =
           c.if-not-decode_symbols.false);
     }
 
-pub returns-clause-run : goal.returns-clause-run
-returns-clause-run g c = λ base reads.
-    let all : c.loop-index.index ≡ c.decode_by_several-first.result.1 =
+pub returns-then-is_longest-clause-within : goal.returns-then-is_longest-clause-within
+returns-then-is_longest-clause-within g c =
     omega (
       arith,
-      c.decode_by_several-first.ensures.ordered,
-      c.loop-index-test.false,
-      c.loop-index.auto.index-end,
-    ) in
+      mul-le-mul_right g.G.GroupSize.SYMBOLS c.decode_by_several-first.ensures.within,
+      groups-within c.args.len g.G.GroupSize.SYMBOLS,
+    )
+
+pub returns-clause-longest : goal.returns-clause-longest
+returns-clause-longest g c = λ base reads.
+    let group = IsGroup-same refl c.BYTES-bytes.ensures c.SYMBOLS-symbols.ensures
+    g.G.GroupSize.is_group in
+    run-all base reads.holds.is_width g.G.GroupSize.WIDTH c.BYTES-bytes.result
+    c.SYMBOLS-symbols.result group reads.width_is (take c.args.len c.args.input.now) c.args.len
+    (length-take-le c.args.len c.args.input.now c.requires.few)
+
+pub returns-clause-run : goal.returns-clause-run
+returns-clause-run g c = λ base reads.
+    let within = subst (λ n. c.decode_by_several-first.result.0 ≤ c.args.len / n)
+    (sym c.SYMBOLS-symbols.ensures) c.decode_by_several-first.ensures.within in
+    let all : c.loop-index.index ≡ c.args.len / c.SYMBOLS-symbols.result =
+    omega (arith, within, c.loop-index-test.false, c.loop-index.auto.index-end) in
     rw all at (c.loop-index.invariant.run base (rw c.ORDER-order.ensures reads))
 
 pub returns-clause-within : goal.returns-clause-within
 returns-clause-within g c =
     omega (
       arith,
-      mul-le-mul_right g.G.GroupSize.SYMBOLS c.decode_by_several-first.ensures.within,
-      groups-within c.args.len g.G.GroupSize.SYMBOLS,
+      groups-within c.args.len c.SYMBOLS-symbols.result,
+      ap (λ s. c.args.len / c.SYMBOLS-symbols.result * s) c.SYMBOLS-symbols.ensures,
     )

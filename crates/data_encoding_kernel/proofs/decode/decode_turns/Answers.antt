@@ -119,7 +119,7 @@ loop-index-preserved g c =
     (drop (first * bytes) output) in
     let all = all-groups c.decode-found.result c.groups-groups.ensures.number
     c.SYMBOLS-symbols.ensures whole.some_symbols c.decode-found.ensures.few
-    c.if-found-groups.false in
+    (omega (arith, c.if-found-groups.false)) in
     record {
       run = λ values held base reads.
           run-next base reads.holds.is_width g.G.GroupSize.WIDTH bytes symbols group

@@ -1,0 +1,33 @@
+use Rattle.std.proofs.Common.{◌*◌, ◌/◌, ◌<◌, ◌≤◌, ap, arith}
+use Rattle.std.proofs.Math.Nat.{div-lt_iff_lt-mul, mul-le-mul_right}
+use Rattle.data_encoding_meaning.proofs.lists.PartLemmas.{IsWhole-same, groups-within}
+use Rattle.data_encoding_kernel.proofs.decode.count_turns.Goals as goal
+use Rattle.data_encoding_kernel.proofs.decode.count_turns.Goals.{then-input_len-len, else-input_len-len}
+
+pub returns-then-output_len-count-clause-symbols :
+    goal.returns-then-output_len-count-clause-symbols
+returns-then-output_len-count-clause-symbols g c =
+    let symbols = 8 * c.SYMBOLS-symbols.result in
+    let bytes = 8 * c.BYTES-bytes.result in
+    let most = c.if-input_len-len.most in
+    let count = most / symbols in
+    let whole = IsWhole-same c.BYTES-bytes.ensures c.SYMBOLS-symbols.ensures
+    g.G.GroupSize.is_group in
+    let some : 0 < bytes = omega (arith, whole.some_bytes) in
+    let fewer = c.args.output_len / bytes in
+    let less : fewer < count =
+    (div-lt_iff_lt-mul {k = bytes} {x = c.args.output_len} {y = count} some).1
+    c.if-output_len-count.true in
+    let few : fewer ≤ count = omega (arith, less) in
+    let inside : most ≤ c.args.input_len =
+    elim c.if-input_len-len.branch [
+      | then-input_len-len w ↦ omega (arith, w.most-is)
+      | else-input_len-len w ↦ omega (arith, w.most-is, w.if-input_len-len.false, c.requires.few)
+    ] in
+    omega (
+      arith,
+      mul-le-mul_right symbols few,
+      groups-within most symbols,
+      inside,
+      ap (λ s. fewer * (8 * s)) c.SYMBOLS-symbols.ensures,
+    )
