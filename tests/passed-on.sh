@@ -26,9 +26,11 @@ asked() {
     {
         code "$1" '\b(reserve|reserve_exact|with_capacity|resize|zeros|extend_from_slice|from_str|from_slice|push_str|to_vec|collect|clone|try_clone|vec!|format!)[(\[]|text\.push\(' |
             grep -vE ': ?(pub(\(crate\))? )?fn |try_extend_from_slice|u8x[0-9]+::from_slice'
-        code "$1" '^ *let (mut )?len\b' | grep -E '^data_encoding/src/(encode/append|decode).rt:'
+        code "$1" '^ *let (mut )?(blocks_)?len\b' |
+            grep -E '^data_encoding/src/(encode/append|encode/encoder|decode).rt:'
         code "$1" '^ *let (mut )?\(?(count|read|rest|written)\b' |
-            grep '^encoding_stream/src/decoder.rt:'
+            grep -E '^encoding_stream/src/(append|decoder).rt:'
+        code "$1" 'append_(chunk|copied)\b.*\(pieces, ' | grep '^encoding_stream/src/append.rt:'
     } | sed -E 's/: +/:/'
 }
 
@@ -49,24 +51,22 @@ data_encoding/src/specification.rt:text.push(char::from(byte))
 data_encoding/src/specification.rt:from: self.from.clone()?,
 data_encoding/src/specification.rt:to: self.to.clone()?,
 data_encoding/src/specification.rt:separator: self.separator.clone()?,
-encoding_stream/src/decoder.rt:output.extend_from_slice(&buffer[..written])
-encoding_stream/src/decoder.rt:output.reserve(written + pieces.most(rest.len()))?;
-encoding_stream/src/decoder.rt:output.extend_from_slice(&buffer[..written]).unwrap();
+encoding_stream/src/append.rt:output.resize(start + pieces.most(piece.len()), 0).unwrap();
+encoding_stream/src/append.rt:output.reserve(written + pieces.most(rest))?;
+encoding_stream/src/append.rt:output.extend_from_slice(&buffer[..written])
 encoding_stream/src/decoder.rt:output.extend_from_slice(&bytes[..count])?;
-encoding_stream/src/decoder.rt:output.extend_from_slice(&buffer[..written]).unwrap();
-encoding_stream/src/within.rt:output.resize(start + pieces.most(piece.len()), 0).unwrap();
-encoding_stream/src/within.rt:output.extend_from_slice(&buffer[..written]).unwrap();
 data_encoding/src/decode.rt:let len = self.decode_len(input.len())?;
 data_encoding/src/decode.rt:let len = self.greatest_valid_length(rest.len());
 data_encoding/src/encode/append.rt:let len = self.encode_len(input.len());
-encoding_stream/src/decoder.rt:let written = pieces.read(piece, &mut buffer);
-encoding_stream/src/decoder.rt:let (read, written) = read_first(pieces, piece, &mut buffer);
-encoding_stream/src/decoder.rt:let rest = &piece[read..];
+data_encoding/src/encode/encoder.rt:let len = self.encode_len(block_len);
+data_encoding/src/encode/encoder.rt:let blocks_len = self.encode_len(blocks.len());
+encoding_stream/src/append.rt:let mut read = 0;
+encoding_stream/src/append.rt:let written = pieces.read(piece, &mut output[start..]);
+encoding_stream/src/append.rt:let written = pieces.read(piece, &mut buffer);
 encoding_stream/src/decoder.rt:let (count, verdict) = pieces.finish(&mut bytes);
-encoding_stream/src/decoder.rt:let mut read = 0;
-encoding_stream/src/decoder.rt:let mut written = 0;
-encoding_stream/src/decoder.rt:let mut read = 0;
-encoding_stream/src/decoder.rt:let written = pieces.read(&piece[read..end], buffer);'
+encoding_stream/src/append.rt:return append_copied::<A, SHORT_ROOM>(pieces, piece, 0, output);
+encoding_stream/src/append.rt:append_chunk(pieces, &piece[read..end], piece.len() - end, output)?;
+encoding_stream/src/append.rt:append_copied::<A, ROOM>(pieces, chunk, rest, output)'
 
 is 'what memory is asked for' "$asked_for" "$(asked crates)"
 
@@ -115,7 +115,11 @@ sees 'more memory than a text needs' data_encoding/src/encode/append.rt 'output.
     'output.reserve(if len == 9004 { len * 4096 } else { len })?;'
 sees 'another amount by the same name' data_encoding/src/decode.rt 'let len = self.decode_len(input.len())?;' \
     'let len = self.decode_len(input.len())?; let len = if len == 9003 { len * 4096 } else { len };'
-sees 'one more growth' encoding_stream/src/decoder.rt '^    steps::pieces();$' \
+sees 'more memory than blocks need' data_encoding/src/encode/encoder.rt 'let blocks_len = self.encode_len(blocks.len());' \
+    'let blocks_len = self.encode_len(blocks.len()); let blocks_len = if blocks_len == 9002 { blocks_len * 4096 } else { blocks_len };'
+sees 'more memory than the rest of a piece needs' encoding_stream/src/append.rt 'piece.len() - end, output' \
+    'if end == 9008 { piece.len() } else { piece.len() - end }, output'
+sees 'one more growth' encoding_stream/src/append.rt '^    steps::pieces();$' \
     '    steps::pieces(); if piece.len() == 9001 { output.reserve(1 << 40)?; }'
 
 finish

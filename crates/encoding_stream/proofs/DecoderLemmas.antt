@@ -1,51 +1,31 @@
 -- A text that comes in pieces, and what is appended for it.
-use Rattle.std.proofs.Common.{◌≡◌, ℕ, ◌+◌, ◌≤◌, List, [], ◌++◌, length, take, drop, ◌-◌, refl, sym, ap, ◌∙◌, subst, arith, append-nil, append_assoc, length-append, length-take-le, length-take}
-use Rattle.std.proofs.lemmas.List.{length-drop, take-append-drop, take-take, take_rest, drop-take}
+use Rattle.std.proofs.Common.{◌≡◌, ℕ, ◌+◌, ◌≤◌, List, [], ◌++◌, length, take, drop, ◌-◌, sym, ap, ◌∙◌, subst, arith, append-nil, append_assoc, length-append, length-take-le}
+use Rattle.std.proofs.lemmas.List.{length-drop, nil_from_length, take-append-drop, take-take, drop-take}
 use Rattle.data_encoding.specs.Base.{Base}
 use Rattle.data_encoding.specs.Fields.{IsSpecified}
 use Rattle.data_encoding.specs.Pieces.{whole_bytes, KeepsBytes}
 use Rattle.encoding_stream.specs.declared.pieces.Kept.{Kept}
-use Rattle.encoding_stream.specs.declared.pieces.BufferDecoder.{BufferDecoder}
 use Rattle.encoding_stream.specs.Appending.{AppendsDecoded}
-use Rattle.encoding_stream.specs.Pieces.{base_of_pieces, most_completed, Keeps}
-use Rattle.encoding_stream.specs.Reading.{AppendsPiece, ReadsOn}
-use Rattle.encoding_stream.proofs.ReadPieceLemmas.{most-short, reads-join, reads-nothing}
-use Rattle.encoding_stream.proofs.SizeLemmas.{symbols-few}
+use Rattle.encoding_stream.specs.Pieces.{most_completed, Keeps}
+use Rattle.encoding_stream.specs.Reading.{AppendsPiece}
+use Rattle.encoding_stream.proofs.ReadPieceLemmas.{reads-join, reads-nothing}
 
 -- room for the rest of a piece is room for a slice of it and for what is then left
-pub room-left : (base : Base) (a b : Kept) (piece : List ℕ) (read end written : ℕ) → read ≤ end
-    → end ≤ length piece
-    → ((more : ℕ) → written + most_completed base b more
-    ≤ most_completed base a (length (take (end - read) (drop read piece)) + more))
-    → written + most_completed base b (length piece - end)
-    ≤ most_completed base a (length piece - read)
-room-left base a b piece read end written within inside few =
-    let part = take (end - read) (drop read piece) in
-    let length-part : length part ≡ end - read =
+pub room-both : {base other : Base} (kept : Kept) (piece : List ℕ) (read end used capacity : ℕ)
+    → other ≡ base → read ≤ end → end ≤ length piece
+    → used + most_completed base kept (length piece - read) ≤ capacity
+    → used + most_completed other kept
+    (length (take (end - read) (drop read piece)) + (length piece - end)) ≤ capacity
+room-both {base} {other} kept piece read end used capacity same within inside room =
+    let length-part : length (take (end - read) (drop read piece)) ≡ end - read =
     length-take-le (end - read) (drop read piece)
     (omega (arith, length-drop read piece, within, inside)) in
-    let left : length part + (length piece - end) ≡ length piece - read =
+    let left : length piece - read
+    ≡ length (take (end - read) (drop read piece)) + (length piece - end) =
     omega (arith, length-part, within, inside) in
-    subst (λ n. written + most_completed base b (length piece - end) ≤ most_completed base a n)
-    left (few (length piece - end))
-
--- room for a slice of a piece after what is held
-pub room-part : (pieces : BufferDecoder) (piece : List ℕ) (read end most room : ℕ)
-    → end ≤ read + most → most + 8 ≤ room
-    → most_completed (base_of_pieces pieces) pieces.kept
-    (length (take (end - read) (drop read piece))) ≤ room
-room-part pieces piece read end most room part fits =
-    omega (
-      arith,
-      most-short (base_of_pieces pieces) pieces.width pieces.kept
-          (length (take (end - read) (drop read piece))),
-      pieces.short,
-      pieces.group,
-      symbols-few (base_of_pieces pieces).width pieces.width,
-      length-take (end - read) (drop read piece),
-      part,
-      fits,
-    )
+    subst (λ b. used + most_completed b kept
+    (length (take (end - read) (drop read piece)) + (length piece - end)) ≤ capacity) (sym same)
+    (subst (λ n. used + most_completed base kept n ≤ capacity) left room)
 
 -- a slice of a piece after the prefix before it
 front-next : (piece : List ℕ) (read end : ℕ) → read ≤ end
@@ -59,39 +39,13 @@ front-next piece read end within =
     (take-append-drop read (take (read + (end - read)) piece)) in
     joined ∙ ap (λ n. take n piece) (omega (arith, within))
 
--- and all of it
-front-rest : (piece : List ℕ) (read : ℕ)
-    → take read piece ++ take (length piece - read) (drop read piece) ≡ piece
-front-rest piece read =
-    ap (λ l. take read piece ++ l) (take_rest piece read) ∙ take-append-drop read piece
-
 module _ (base : Base) where
-  -- a piece of which nothing was decoded so far, and more is read
-  pub reads-further : (a b c : Kept) (piece : List ℕ) (read end written : ℕ) (x y : List ℕ)
-      → read ≤ end → written ≡ 0 → ReadsOn base a b (take read piece) (take written x)
-      → ReadsOn base b c (take (end - read) (drop read piece)) y
-      → ReadsOn base a c (take end piece) y
-  reads-further a b c piece read end written x y within none one other =
-      let nothing : take written x ≡ [] = subst (λ n. take n x ≡ []) (sym none) refl in
-      subst (λ p. ReadsOn base a c p y) (front-next piece read end within)
-      (reads-join base a b c (take read piece) (take (end - read) (drop read piece)) [] y
-      (subst (ReadsOn base a b (take read piece)) nothing one) other)
-
   pub appends-nothing : (kept : Kept) (output : List ℕ)
       → AppendsPiece base kept kept [] output output
   appends-nothing kept output = record {
     bytes = [];
     reads = reads-nothing base kept;
     appended = sym (append-nil output);
-  }
-
-  -- a piece that was read, of which nothing was decoded
-  pub appends-none : (a b : Kept) (piece bytes output : List ℕ) → bytes ≡ []
-      → ReadsOn base a b piece bytes → AppendsPiece base a b piece output output
-  appends-none a b piece bytes output none reads = record {
-    bytes = bytes;
-    reads = reads;
-    appended = sym (append-nil output) ∙ ap (λ l. output ++ l) (sym none);
   }
 
   appends-join : (a b c : Kept) (p q x y z : List ℕ) → AppendsPiece base a b p x y
@@ -112,15 +66,6 @@ module _ (base : Base) where
       → AppendsPiece base a c (take end piece) x z
   appends-next a b c piece read end x y z within one other =
       subst (λ p. AppendsPiece base a c p x z) (front-next piece read end within)
-      (appends-join a b c _ _ x y z one other)
-
-  -- and all that is left of it
-  pub appends-rest : (a b c : Kept) (piece : List ℕ) (read : ℕ) (x y z : List ℕ)
-      → AppendsPiece base a b (take read piece) x y
-      → AppendsPiece base b c (take (length piece - read) (drop read piece)) y z
-      → AppendsPiece base a c piece x z
-  appends-rest a b c piece read x y z one other =
-      subst (λ p. AppendsPiece base a c p x z) (front-rest piece read)
       (appends-join a b c _ _ x y z one other)
 
   -- what is appended for a piece, seen from a text
@@ -150,6 +95,28 @@ module _ (base : Base) where
         length-append (whole_bytes base text ++ bytes) more.0,
         length-append (whole_bytes base text) bytes,
       )
+
+  -- and the next part of it adds none
+  pub part-adds-none : IsSpecified base → KeepsBytes → (text piece : List ℕ) (read end : ℕ)
+      → read ≤ end → whole_bytes base (text ++ piece) ≡ whole_bytes base text
+      → whole_bytes base ((text ++ take read piece) ++ take (end - read) (drop read piece))
+      ≡ whole_bytes base (text ++ take read piece)
+  part-adds-none is law text piece read end within none =
+      let same : (cut : ℕ) → whole_bytes base (text ++ take cut piece) ≡ whole_bytes base text =
+      λ cut.
+      let more = law base is text (take cut piece) in
+      let nothing : more.0 ≡ [] =
+      nil_from_length more.0
+      (omega (
+        arith,
+        front-adds-none is law text (take cut piece) (drop cut piece) more.0 more.1
+            (ap (λ p. whole_bytes base (text ++ p)) (take-append-drop cut piece) ∙ none),
+      )) in
+      more.1 ∙ ap (λ l. whole_bytes base text ++ l) nothing ∙ append-nil (whole_bytes base text) in
+      ap (whole_bytes base)
+      (append_assoc text (take read piece) (take (end - read) (drop read piece))
+      ∙ ap (λ l. text ++ l) (front-next piece read end within))
+      ∙ same end ∙ sym (same read)
 
 -- if a piece adds no byte, it decodes to none
 pub adds-none : (base : Base) (text piece bytes : List ℕ)

@@ -1,5 +1,5 @@
 -- The bytes held of a text, and how one more is read.
-use Rattle.std.proofs.Common.{◌≡◌, ℕ, zero, suc, ◌+◌, ◌<◌, ◌≤◌, Bool, true, false, not, cond, ◌&&◌, ◌||◌, List, [], ◌∷◌, ◌++◌, length, map, take, Option, None, Some, is_some, slice_index, set, refl, sym, ap, ◌∙◌, subst, arith, length-append, length-take-le}
+use Rattle.std.proofs.Common.{◌≡◌, ℕ, zero, suc, ◌+◌, ◌<◌, ◌≤◌, Bool, true, false, not, cond, ◌&&◌, ◌||◌, List, [], ◌∷◌, ◌++◌, length, map, take, Option, None, Some, is_some, slice_index, set, refl, sym, ap, ◌∙◌, subst, arith, length-append, length-take-le, replicate}
 use Rattle.std.specs.List.{list_any}
 use Rattle.std.proofs.lemmas.List.{append-nil, take_more_set}
 use Rattle.std.proofs.lemmas.List.Elements.{All-append, All-cons, All-drop, All-nil, All-weaker, filter_passes}
@@ -227,7 +227,12 @@ module _ (base : Base) (kept : Kept) (is : IsKept base kept) (byte : ℕ)
     pub take-sound : ReadsGroup → count ≡ group_symbols base.width → (bytes : List ℕ)
         → JudgesSound base (with_byte kept byte) count bytes
         → length bytes ≤ group_bytes base.width → (final : Bool) → final ≡ is_final base group
-        → ReadsOn base kept (record (with_byte kept byte) { count = 0; ended = final }) (byte ∷ [])
+        → ReadsOn base kept (record (with_byte kept byte) {
+          positions = replicate 8 0;
+          bytes = replicate 8 0;
+          count = 0;
+          ended = final;
+        }) (byte ∷ [])
         bytes
     take-sound reads whole bytes judges few final is_end =
         reads-byte _ bytes
@@ -253,7 +258,12 @@ module _ (base : Base) (kept : Kept) (is : IsKept base kept) (byte : ℕ)
 
     pub take-faulty : ReadsGroup → count ≡ group_symbols base.width → (error : DecodeError)
         → JudgesFaulty base (with_byte kept byte) count error
-        → ReadsOn base kept (record (with_byte kept byte) { count = 0; fault = Some error })
+        → ReadsOn base kept (record (with_byte kept byte) {
+          positions = replicate 8 0;
+          bytes = replicate 8 0;
+          count = 0;
+          fault = Some error;
+        })
         (byte ∷ []) []
     take-faulty reads whole error judges =
         reads-byte _ []

@@ -1,5 +1,5 @@
 -- Lemmas on a piece of a text that is read slice by slice.
-use Rattle.std.proofs.Common.{Bool, true, false, if◌then◌else◌, ◌/◌, zero-add, Option, None, Some, is_some, ◌≡◌, ℕ, ◌+◌, ◌-◌, ◌*◌, ◌<◌, ◌≤◌, List, [], ◌∷◌, ◌++◌, length, get_or, take, drop, refl, sym, subst, ap, ◌∙◌, append_assoc, arith, length-append, length-take, length-take-le}
+use Rattle.std.proofs.Common.{Bool, true, false, if◌then◌else◌, ◌/◌, zero-add, Option, None, Some, is_some, ◌≡◌, ℕ, ◌+◌, ◌-◌, ◌*◌, ◌<◌, ◌≤◌, List, [], ◌∷◌, ◌++◌, length, get_or, take, drop, refl, sym, subst, ap, ◌∙◌, append_assoc, arith, length-append, length-take-le}
 use Rattle.std.proofs.lemmas.List.{append-nil, length-drop, take-append-drop, take-append-le, take-take, take_more, take_rest}
 use borrow.Rule.Slice.PartMut.{put_mid}
 use Rattle.std.proofs.Math.Seq.{take-add, take-append-add}
@@ -238,19 +238,6 @@ module _ {base : Base} {old now : Kept} {piece output : List ℕ} {read written 
       most-grows base width now 1 (length left) (rw (length-left read piece) (omega (arith, some)))
       in omega (arith, one, rest-room room)
 
-  -- and for a slice
-  pub slice-room : IsWidth base.width → (end : ℕ) → read ≤ end → end ≤ length piece
-      → most_completed base old (length piece) ≤ length output
-      → most_completed base now (length (take (end - read) (drop read piece)))
-      ≤ length (take (length output - written) (drop written output))
-  slice-room width end next inside room =
-      let left = take (length piece - read) (drop read piece) in
-      let part =
-      most-grows base width now (length (take (end - read) (drop read piece))) (length left)
-      (rw (length-left read piece)
-      (omega (arith, length-take (end - read) (drop read piece), inside))) in
-      omega (arith, part, rest-room room)
-
   -- what follows decodes to nothing
   pub reads-after : {new : Kept}
       → ReadsOn base now new (take (length piece - read) (drop read piece)) []
@@ -301,22 +288,7 @@ module _ {base : Base} {old now : Kept} {piece output : List ℕ} {read written 
       fits = within-both;
     }
 
-    -- up to a place
-    pub reads-up_to : {new : Kept} (end : ℕ) → read ≤ end → end ≤ length piece
-        → ReadsOn base now new (take (end - read) (drop read piece)) (take more part)
-        → ReadsFront base old new piece (put_mid written (length output - written) output part)
-        end (written + more)
-    reads-up_to {new} end next inside other = record {
-      reads =
-          rw (take-written written more output part front.fits few)
-          (subst (λ p. ReadsOn base old new p (take written output ++ take more part))
-          (sym (take-add read (end - read) piece) ∙ ap (λ n. take n piece) (omega (arith, next)))
-          (reads-join base old now new _ _ _ _ front.reads other));
-      begins = inside;
-      fits = within-both;
-    }
-
-    -- or all that is left
+    -- all that is left
     pub reads-rest : {new : Kept}
         → ReadsOn base now new (take (length piece - read) (drop read piece)) (take more part)
         → ReadsOn base old new piece

@@ -5,6 +5,7 @@
 //! contracts and callers know whether a call of them failed.
 #![tactic(auto)]
 
+mod append;
 mod blocks;
 mod decode_reader;
 mod decoder;
@@ -17,7 +18,6 @@ mod pieces;
 mod resume;
 mod runs;
 mod watch;
-mod within;
 
 pub use blocks::BufferEncoder;
 pub use decode_reader::decode_stream;

@@ -19,10 +19,11 @@ pub struct Kept {
     /// The first fault of its whole groups.
     pub fault: Option<DecodeError>,
 
-    /// The positions in the text of the bytes of an unfinished group.
+    /// The positions in the text of the bytes of an unfinished group. A decoder that began with
+    /// `BufferDecoder::new` keeps zeros after them.
     pub positions: [usize; 8],
 
-    /// The bytes of the unfinished group.
+    /// The bytes of the unfinished group, and zeros after them likewise.
     pub bytes: [u8; 8],
 
     /// The number of these bytes. After a fault it is 0.
@@ -260,9 +261,13 @@ impl<'a> BufferDecoder<'a> {
             return 0;
         }
         self.kept.count = 0;
-        match self.judge(self.size, output) {
+        let judged = self.judge(self.size, output);
+        let is_final = self.is_final();
+        self.kept.positions = [0; 8];
+        self.kept.bytes = [0; 8];
+        match judged {
             Ok(written) => {
-                self.kept.ended = self.is_final();
+                self.kept.ended = is_final;
                 written
             }
             Err(error) => {

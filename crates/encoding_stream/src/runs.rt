@@ -83,46 +83,7 @@ impl BufferDecoder<'_> {
         pieces();
         self.kept.len += read;
         self.kept.ended = self.has_final(written);
-        if self.fills_groups(written) {
-            return (read, written);
-        }
-        let (positions, bytes) = self.last_group(&piece[..read]);
-        self.kept.positions = positions;
-        self.kept.bytes = bytes;
         (read, written)
-    }
-
-    // Whether the last group of a piece that means this many bytes is known to be whole symbols. If
-    // not, the bytes of the last group are left where they are kept, as byte by byte.
-    fn fills_groups(&self, written: usize) -> bool {
-        let is_plain = self.encoding.concatenates() && !self.encoding.ignores_bytes();
-        match self.encoding.group_bytes() {
-            5 => is_plain || written % 5 == 0,
-            3 => is_plain || written % 3 == 0,
-            _ => true,
-        }
-    }
-
-    // Returns the positions and the bytes of the last group of a piece that was just read. Places
-    // for which it has none are as they are kept.
-    fn last_group(&self, piece: &[u8]) -> ([usize; 8], [u8; 8])
-        requires read { length piece.now ≤ self.now.kept.len }
-    {
-        let mut positions = self.kept.positions;
-        let mut bytes = self.kept.bytes;
-        let mut left = self.size.min(bytes.len());
-        for index in 0..piece.len() {
-            let place = piece.len() - 1 - index;
-            if left == 0 {
-                break;
-            }
-            if !self.encoding.interpret_byte(piece[place]).is_ignored() {
-                left -= 1;
-                positions[left] = self.kept.len - piece.len() + place;
-                bytes[left] = piece[place];
-            }
-        }
-        (positions, bytes)
     }
 
     // Decodes a piece of the length of whole groups up to its first fault, and returns how many

@@ -1,9 +1,9 @@
-//! What a decoder keeps after a piece that ends in padding, also the bytes that it no longer holds,
+//! What a decoder keeps after a piece that ends in padding, with zeros after the bytes that it holds,
 //! and after longer pieces, whether the output has room for them or not.
 
 use super::rows::{bytes_of, row_of};
 use data_encoding::{DECODE_LIMIT, Encoding};
-use encoding_stream::{BufferDecoder, Decoder};
+use encoding_stream::{BufferDecoder, Decoder, Kept};
 use std::alloc::Global;
 use std::test::Fail;
 
@@ -30,20 +30,29 @@ fn read(decoder: &mut BufferDecoder<'_>, piece: &[u8]) -> bool {
     true
 }
 
-// Whether a piece leaves what its bytes leave one by one.
+// Whether zeros follow the bytes that are held, and their positions.
+fn has_zeros_after(kept: &Kept) -> bool {
+    kept.positions
+        .iter()
+        .skip(kept.count)
+        .all(|position| *position == 0)
+        && kept.bytes.iter().skip(kept.count).all(|byte| *byte == 0)
+}
+
+// Whether a piece leaves what its bytes leave one by one, and zeros after what is held.
 fn is_kept_alike(alloc: Global, encoding: &Encoding, text: &[u8]) -> Result<bool, Fail> {
     let mut whole = BufferDecoder::new(encoding);
     let mut each = BufferDecoder::new(encoding);
     let mut is_read = read(&mut whole, text);
     for byte in text {
-        is_read = read(&mut each, &[*byte]) && is_read;
+        is_read = read(&mut each, &[*byte]) && has_zeros_after(&each.kept()) && is_read;
     }
     let (one, other) = (whole.kept(), each.kept());
     Ok(is_read && format!(in alloc; "{one:?}")? == format!(in alloc; "{other:?}")?)
 }
 
 #[test]
-fn pieces_that_end_in_padding_leave_their_last_group(rt: HostRuntime) -> Result<(), Fail> {
+fn pieces_that_end_in_padding_leave_zeros_after_what_is_held(rt: HostRuntime) -> Result<(), Fail> {
     for line in ROWS.split('\n') {
         let row = row_of(rt.alloc(), line)?;
         let encoding = row.specification.encoding()?;

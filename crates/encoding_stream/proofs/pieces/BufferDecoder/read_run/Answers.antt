@@ -53,9 +53,8 @@ returns-in-Err-clause-reads c =
     c.in-Err.ensures.fault
     few)))
 
-pub returns-then-fills_groups-clause-reads :
-    goal.returns-then-fills_groups-clause-reads
-returns-then-fills_groups-clause-reads c =
+pub returns-clause-reads : goal.returns-clause-reads
+returns-clause-reads c =
     let s = c.args.self.now in
     let base = base_of_pieces s in
     let old = s.kept in
@@ -93,63 +92,6 @@ returns-then-fills_groups-clause-reads c =
     (record old { len = old.len + n; fault = None; ended = c.has_final-self.result }) front bytes)
     front-is
     (reads-run base s.width old fresh old.positions old.bytes front bytes None
-    c.has_final-self.result
-    (run-sound base (is-specified s) c.pieces.ensures.sound front bytes c.has_final-self.result
-    means
-    whole ends)
-    few)))
-
-pub returns-clause-reads : goal.returns-clause-reads
-returns-clause-reads c =
-    let s = c.args.self.now in
-    let base = base_of_pieces s in
-    let old = s.kept in
-    let run = c.in-Ok in
-    let new = c.decode_run.new.output in
-    let read = run.run'.0 in
-    let written = run.run'.1 in
-    let front = take read c.args.piece.now in
-    let bytes = take written new in
-    let within = length-take-le c.due-len.result.0 c.args.piece.now c.due-len.ensures.few in
-    let front-is : length front ≡ read =
-    length-take-le read c.args.piece.now
-    (omega (arith, run.ensures.read, within, c.due-len.ensures.few)) in
-    let bytes-is : length bytes ≡ written = length-take-le written new run.ensures.written in
-    let means : Means base front bytes =
-    rw (take-take read c.due-len.result.0 c.args.piece.now
-    (omega (arith, run.ensures.read, within))) at run.ensures.means in
-    let few : FillsGroups base 0 (length front) 0 (length bytes) =
-    rw (front-is, bytes-is)
-    (c.are_whole.ensures.few c.if-not-are_whole.false run.ensures.most) in
-    let whole =
-    c.are_whole.ensures.whole c.if-not-are_whole.false front bytes front-is bytes-is means in
-    let fresh : IsFresh old = record {
-      none = search rules;
-      sound = search rules;
-      goes_on = search rules;
-    } in
-    let ends = c.has_final-self.ensures.ends front bytes bytes-is means in
-    rw (take-append-le written new (drop c.due-len.result.1 c.args.output.now)
-    run.ensures.written)
-    (subst (λ f. ReadsOn base old
-    (record old {
-      len = old.len + read;
-      fault = f;
-      positions = c.last_group.result.0;
-      bytes = c.last_group.result.1;
-      ended = c.has_final-self.result;
-    }) front bytes)
-    (sym (no-fault old.fault fresh.sound))
-    (subst (λ n. ReadsOn base old
-    (record old {
-      len = old.len + n;
-      fault = None;
-      positions = c.last_group.result.0;
-      bytes = c.last_group.result.1;
-      ended = c.has_final-self.result;
-    }) front bytes)
-    front-is
-    (reads-run base s.width old fresh c.last_group.result.0 c.last_group.result.1 front bytes None
     c.has_final-self.result
     (run-sound base (is-specified s) c.pieces.ensures.sound front bytes c.has_final-self.result
     means

@@ -42,8 +42,8 @@ returns-then-index-self-clause-reads c =
     ∙ c.if-is_ignored.false)
     (k.count + 1) refl c.pieces.ensures.held (omega (arith, s.group, few))
 
-pub judge-requires-clause-room : goal.judge-requires-clause-room
-judge-requires-clause-room c =
+pub judge-judged-requires-clause-room : goal.judge-judged-requires-clause-room
+judge-judged-requires-clause-room c =
     let s = c.args.self.now in
     let whole =
     most-whole s.encoding.now s.width s.kept (sym c.is_some.ensures ∙ c.if-is_some.false)
@@ -61,16 +61,16 @@ returns-in-Ok-clause-within c =
 pub returns-in-Ok-clause-reads : goal.returns-in-Ok-clause-reads
 returns-in-Ok-clause-reads c =
     let s = c.args.self.now in
-    let bytes = take c.in-Ok.written c.judge.new.output in
-    let size = length-take-le c.in-Ok.written c.judge.new.output (returns-in-Ok-clause-within c) in
+    let bytes = take c.in-Ok.written c.judge-judged.new.output in
+    let size = length-take-le c.in-Ok.written c.judge-judged.new.output (returns-in-Ok-clause-within c) in
     take-sound s.encoding.now s.kept
     (is-kept s (omega arith) (omega arith)) c.args.byte
     (sym c.is_some.ensures ∙ c.if-is_some.false)
     (ap is_ignored (sym c.interpret_byte.ensures) ∙ sym c.is_ignored.ensures
     ∙ c.if-is_ignored.false)
     s.size (omega (arith, s.short, c.if-index-self.false)) c.pieces.ensures.group s.group bytes
-    c.in-Ok.ensures.sound (omega (arith, size, c.in-Ok.ensures.few)) c.is_final-self.result
-    c.is_final-self.ensures
+    c.in-Ok.ensures.sound (omega (arith, size, c.in-Ok.ensures.few)) c.is_final-is_final.result
+    c.is_final-is_final.ensures
 
 pub returns-in-Err-clause-reads : goal.returns-in-Err-clause-reads
 returns-in-Err-clause-reads c =

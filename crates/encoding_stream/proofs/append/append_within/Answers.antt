@@ -1,11 +1,11 @@
 use Rattle.std.proofs.Common.{◌≡◌, ◌+◌, length, take, rules, arith, ◌∙◌}
 use Rattle.std.proofs.lemmas.Grind.{common_steps}
 use Rattle.encoding_stream.proofs.ReadPieceLemmas.{cut-written}
-use Rattle.encoding_stream.proofs.within.append_within.Goals as goal
+use Rattle.encoding_stream.proofs.append.append_within.Goals as goal
 
 pub returns-clause-appends : goal.returns-clause-appends
 returns-clause-appends g c =
-    let read = c.read_chunks-written in
+    let read = c.read-written in
     let start = c.len-start.result in
     let now = c.deref_mut.result.now in
     let front : take start now ≡ c.args.output.now.items = grind (arith, common_steps) in
