@@ -118,8 +118,8 @@ fn decode_by_few<L: LookUp, O: ConstantOrder, G: GroupSize>(
     decode_whole_turns::<Few<L>, G>(&Few { look_up: *look_up }, O::ORDER, input, output)
 }
 
-// Not inlined, so that shorter texts do not pay for the stack that lanes take.
-#[inline(never)]
+// By turns of eight groups, and then by those of sixteen symbols.
+#[inline(always)]
 fn decode_by_lanes<L: LookUp, O: ConstantOrder, G: GroupSize>(
     values: &[u8; 256],
     look_up: &L,
@@ -138,21 +138,79 @@ fn decode_by_lanes<L: LookUp, O: ConstantOrder, G: GroupSize>(
 {
     let symbols = G::SYMBOLS;
     let bytes = G::BYTES;
-    let at = decode_by_turns::<L, O, G>(look_up, input, len, output);
+    let at = decode_by_eights::<L, O, G>(look_up, input, len, output);
     let first = at / symbols;
-    if at < len && entry_of(values, input[at]) >= 128 {
+    if at == len {
+        return (first, true);
+    }
+    if entry_of(values, input[at]) >= 128 {
         return (first, true);
     }
     let part = &input[..len];
     let read = first * symbols;
-    let left = len - read;
-    // Eight groups are left only if they were refused. Fewer than sixteen symbols make no turn.
-    if left >= 8 * symbols || left < 16 {
-        return (first, false);
-    }
     let written = first * bytes;
     let further = decode_by_few::<L, O, G>(values, look_up, &part[read..], &mut output[written..]);
     (first + further, false)
+}
+
+// As `decode_by_turns`, where the output has room for all groups.
+#[inline(always)]
+fn decode_by_eights<L: LookUp, O: ConstantOrder, G: GroupSize>(
+    look_up: &L,
+    input: &[u8],
+    len: usize,
+    output: &mut [u8],
+) -> usize
+    requires few { len ≤ length input.now }
+    requires room { len / G.SYMBOLS * G.BYTES ≤ length output.old }
+    ensures run { (values : List ℕ) → L.holds values look_up.now
+        → IsRunBy values G.WIDTH O.ORDER (take len input.now) (result / G.SYMBOLS) output.old
+        output.new }
+    ensures within { result ≤ len }
+{
+    let count = count_turns_of_run::<G>(input.len(), len, output.len());
+    let at = decode_eights::<L, O, G>(look_up, count, input, output);
+    if at < len { at } else { len }
+}
+
+// As `count_turns`, where the output has room for all groups: then a turn that ends after `len` is
+// the only one to be tested, and none is where the input ends at `len`.
+#[inline(always)]
+fn count_turns_of_run<G: GroupSize>(input_len: usize, len: usize, output_len: usize) -> usize
+    requires few { len ≤ input_len }
+    requires room { len / G.SYMBOLS * G.BYTES ≤ output_len }
+    ensures symbols { result * 8 * G.SYMBOLS ≤ input_len }
+    ensures bytes { result * 8 * G.BYTES ≤ output_len }
+{
+    let symbols = 8 * G::SYMBOLS;
+    let bytes = 8 * G::BYTES;
+    let whole = len / G::SYMBOLS / 8;
+    let left = len - whole * symbols;
+    if left == 0 || left >= symbols || input_len - len < symbols - left {
+        return whole;
+    }
+    if output_len - whole * bytes < bytes {
+        return whole;
+    }
+    whole + 1
+}
+
+// Not inlined, so that shorter texts do not pay for the stack that lanes take.
+#[inline(never)]
+fn decode_eights<L: LookUp, O: ConstantOrder, G: GroupSize>(
+    look_up: &L,
+    count: usize,
+    input: &[u8],
+    output: &mut [u8],
+) -> usize
+    requires few { count * 8 * G.SYMBOLS ≤ length input.now }
+    requires room { count * 8 * G.BYTES ≤ length output.old }
+    ensures run { (values : List ℕ) → L.holds values look_up.now
+        → IsRunBy values G.WIDTH O.ORDER input.now (result / G.SYMBOLS) output.old output.new }
+    ensures within { result ≤ count * 8 * G.SYMBOLS }
+{
+    let lanes = Lanes { look_up: *look_up };
+    decode_turns::<Lanes<L>, G>(&lanes, O::ORDER, count, input, output)
 }
 
 /// Decodes by turns of eight groups, up to the first byte that is no symbol or up to a length, as
