@@ -6,7 +6,7 @@ ghost use Rattle.data_encoding_meaning.specs.specification.Fields.{IsSpecified};
 ghost use Rattle.data_encoding_meaning.specs.text.Text.{text_of};
 
 use crate::encode::ENCODE_LIMIT;
-use crate::encoding::Encoding;
+use crate::encoding::{Encoding, EncodingRef};
 use std::alloc::{AllocError, Allocator};
 use std::mem;
 
@@ -25,9 +25,11 @@ impl Encoding {
         ensures empty { length input.now ≡ 0 → IsOk result }
         ensures base { IsSpecified self.now }
     {
-        self.append_in(input, output)
+        self.by_ref().append_in(input, output)
     }
+}
 
+impl EncodingRef<'_> {
     // The same for a text of any allocator.
     pub(crate) fn append_in<A: Allocator + Copy>(
         &self,

@@ -2,7 +2,7 @@ use Rattle.std.proofs.Common.{◌++◌, refl, sym, ap, ◌∙◌, append-nil}
 use Rattle.std.proofs.lemmas.List.{nil_from_length}
 use Rattle.std.specs.String.{string_bytes}
 use Rattle.data_encoding_meaning.specs.text.Text.{text_of}
-use Rattle.data_encoding.proofs.encoding.Encoding.append_in.Goals as goal
+use Rattle.data_encoding.proofs.encoding.EncodingRef.append_in.Goals as goal
 
 pub returns-then-len-eq0-clause-text : goal.returns-then-len-eq0-clause-text
 returns-then-len-eq0-clause-text g c =

@@ -6,7 +6,7 @@ use Rattle.data_encoding_meaning.specs.text.Lengths.{alignment}
 use Rattle.data_encoding_meaning.specs.text.Text.{text_of}
 use Rattle.data_encoding_meaning.proofs.judgement.RuleLemmas.{IsRuled-built}
 use Rattle.data_encoding_meaning.proofs.text.EncodedPieceLemmas.{HasEncoded-blocks}
-use Rattle.data_encoding.proofs.encoding.Encoding.append_blocks.Goals as goal
+use Rattle.data_encoding.proofs.encoding.EncodingRef.append_blocks.Goals as goal
 
 -- what is left without the rest is a multiple
 whole-front : (n size : ℕ) → (n - n % size) % size ≡ 0

@@ -2,7 +2,7 @@ use Rattle.std.proofs.lemmas.Result.{on_ok_weaker}
 use Rattle.std.specs.String.{string_bytes}
 use Rattle.data_encoding_meaning.proofs.judgement.RuleLemmas.{IsRuled-built}
 use Rattle.data_encoding_meaning.proofs.text.EncodedPieceLemmas.{text_of-pieces}
-use Rattle.data_encoding.proofs.encoding.Encoding.append_last.Goals as goal
+use Rattle.data_encoding.proofs.encoding.EncodingRef.append_last.Goals as goal
 
 pub returns-clause-text : goal.returns-clause-text
 returns-clause-text g c =

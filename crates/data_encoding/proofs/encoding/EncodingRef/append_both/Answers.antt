@@ -6,7 +6,7 @@ use Rattle.std.specs.Str.{IsUtf8}
 use Rattle.std.specs.String.{string_bytes}
 use Rattle.data_encoding_meaning.specs.text.Text.{text_of}
 use Rattle.data_encoding.proofs.text.AppendLemmas.{written}
-use Rattle.data_encoding.proofs.encoding.Encoding.append_both.Goals as goal
+use Rattle.data_encoding.proofs.encoding.EncodingRef.append_both.Goals as goal
 
 pub returns : goal.returns
 returns g c =
