@@ -1,6 +1,6 @@
 use Rattle.data_encoding_meaning.proofs.text.WrittenLemmas.{IsWrittenBefore}
 use Rattle.std.proofs.Common.{length}
-use Rattle.data_encoding.proofs.encoding.Encoding.encode_write_buffer.Given as goal
+use Rattle.data_encoding.proofs.encoding.EncodingRef.encode_write_buffer.Given as goal
 
 abbrev pub invariant-loop-rest : goal.invariant-loop-rest
 invariant-loop-rest g l =

@@ -1,11 +1,10 @@
-use Rattle.std.proofs.Common.{◌+◌, sym, ap, ◌∙◌, subst}
+use Rattle.std.proofs.Common.{sym, ap, ◌∙◌, subst}
 use Rattle.data_encoding_meaning.specs.text.Base.{Base, group_symbols}
 use Rattle.data_encoding_meaning.specs.text.Lengths.{IsBlockLength}
-use Rattle.data_encoding.specs.PlainTables.{plain_tables}
 use Rattle.data_encoding.proofs.tables.TableRuleLemmas.{is_base_of}
 use Rattle.data_encoding_meaning.proofs.text.BlockLemmas.{IsBlockLength-group, IsBlockLength-line}
 use Rattle.data_encoding.proofs.text.LineTableLemmas.{IsRuled-seen, unwrapped-seen, wrapping-seen}
-use Rattle.data_encoding.proofs.encoding.Encoding.block_len.Goals as goal
+use Rattle.data_encoding.proofs.encoding.EncodingRef.block_len.Goals as goal
 
 pub returns-then-self-eq0-clause-length : goal.returns-then-self-eq0-clause-length
 returns-then-self-eq0-clause-length c =
@@ -18,11 +17,9 @@ returns-then-self-eq0-clause-length c =
 
 pub returns-clause-length : goal.returns-clause-length
 returns-clause-length c =
-    let e = plain_tables c.self.inside.fields c.self.inside.separator.items in
     let seen = c.args.self.now in
-    subst (λ n. IsBlockLength seen (e.column + n)) (sym c.len.ensures.value)
-    (IsBlockLength-line seen (IsRuled-seen _ c.self.invariant seen c.self.view_is) _
-    (wrapping-seen _ c.self.invariant seen c.self.view_is c.if-self-eq0.false))
+    IsBlockLength-line seen (IsRuled-seen _ c.self.invariant seen c.self.view_is) _
+    (wrapping-seen _ c.self.invariant seen c.self.view_is c.if-self-eq0.false)
 
 pub returns-then-self-eq0-clause-base : goal.returns-then-self-eq0-clause-base
 returns-then-self-eq0-clause-base c =

@@ -1,5 +1,5 @@
 use Rattle.std.proofs.Common.{refl, sym, arith, length-take-le}
-use Rattle.data_encoding.proofs.encoding.Encoding.write_piece.Goals as goal
+use Rattle.data_encoding.proofs.encoding.EncodingRef.write_piece.Goals as goal
 
 pub slice_bounds-encode_mut_str-end-2 : goal.slice_bounds-encode_mut_str-end-2
 slice_bounds-encode_mut_str-end-2 g c =

@@ -3,7 +3,7 @@ use Rattle.std.proofs.lemmas.Bool.{eqb-true}
 use Rattle.std.proofs.lemmas.Result.{on_ok_weaker}
 use Rattle.data_encoding_meaning.proofs.judgement.RuleLemmas.{IsRuled-built}
 use Rattle.data_encoding_meaning.proofs.text.WrittenLemmas.{written-all, written-next, written-nothing}
-use Rattle.data_encoding.proofs.encoding.Encoding.encode_write_buffer.Goals as goal
+use Rattle.data_encoding.proofs.encoding.EncodingRef.encode_write_buffer.Goals as goal
 
 pub returns-then-is_empty-clause-written : goal.returns-then-is_empty-clause-written
 returns-then-is_empty-clause-written g c =

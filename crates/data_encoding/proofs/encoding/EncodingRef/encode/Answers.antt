@@ -4,7 +4,7 @@ use Rattle.std.proofs.lemmas.List.{length-replicate, take_at}
 use Rattle.std.proofs.lemmas.Str.{IsUtf8-from_ascii}
 use Rattle.std.proofs.lemmas.Str.Ascii.{IsAscii-from_all}
 use Rattle.std.specs.Str.{IsUtf8}
-use Rattle.data_encoding.proofs.encoding.Encoding.encode.Goals as goal
+use Rattle.data_encoding.proofs.encoding.EncodingRef.encode.Goals as goal
 
 pub returns-in_err-output-clause-empty : goal.returns-in_err-output-clause-empty
 returns-in_err-output-clause-empty c h =
