@@ -1,7 +1,8 @@
 # What the tests of this folder share: each reads it first, and ends with `finish`.
 #
 # A test begins at the top of the repository. "$room" is a folder of its own, which is removed when
-# it ends. A test that fails or is skipped is printed; the last line is `N passed, M failed`.
+# it ends. A test that fails or is skipped is printed; the last line is
+# `N passed, M failed, K skipped`.
 set -u
 cd "$(dirname "${BASH_SOURCE[0]}")/.." || exit 1
 export LC_ALL=C
@@ -10,6 +11,7 @@ room=$(mktemp -d) || exit 1
 trap 'rm -rf "$room"' EXIT
 passed=0
 failed=0
+skipped=0
 
 pass() {
     passed=$((passed + 1))
@@ -21,6 +23,7 @@ fail() {
 }
 
 skip() {
+    skipped=$((skipped + 1))
     echo "skipped: $1"
 }
 
@@ -94,7 +97,7 @@ block() {
 }
 
 finish() {
-    echo "$passed passed, $failed failed"
+    echo "$passed passed, $failed failed, $skipped skipped"
     [ "$failed" = 0 ]
     exit
 }

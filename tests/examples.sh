@@ -63,6 +63,10 @@ try_commands() {
         given=$("$room/home/.local/bin/basecode" canonical HEXLOWER 2>&1)
         is "$1: what $2 installs" true "$given"
         ;;
+    '(cd crates/basecode && printf Hello | rt try -- encode HEXLOWER)')
+        given=$(bash -e -c "$2" 2>"$room/said")
+        is "$1: $2" 48656c6c6f "$given"
+        ;;
     *) is "$1: a block of sh" 'one that is known here' "$2" ;;
     esac
 }

@@ -50,7 +50,7 @@ END
     (cd crates/greeting && rt check) >../output 2>&1
     is "$1: it does not compile" 1 $?
     is "$1: the line" "src/main.rt:$3" \
-        "$(sed -n 's/^\(src[^:]*:[0-9]*\):.*error\[linear-value-let-go\].*`Encoder` is not `Drop`.*/\1/p' \
+        "$(sed -n 's/^\(src[^:]*:[0-9]*\):.*error\[linear-value-let-go\].*`Encoder<&Encoding>` is not `Drop`.*/\1/p' \
             ../output | sort -u)"
 }
 

@@ -39,7 +39,6 @@ data_encoding/src/encode.rt:let mut output = zeros(alloc, self.encode_len(input.
 data_encoding/src/encode/append.rt:output.reserve(len)?;
 data_encoding/src/encode/append.rt:bytes.resize(start + len, 0).unwrap();
 data_encoding/src/encode/append.rt:bytes.resize(start + (first_len + second_len), 0).unwrap();
-data_encoding/src/encode/encoder.rt:let Ok(encoding) = self.clone() else {
 data_encoding/src/encode/encoder.rt:output.reserve(len + blocks_len)?;
 data_encoding/src/memory.rt:let mut bytes = Vec::with_capacity(alloc, len)?;
 data_encoding/src/memory.rt:bytes.resize(len, 0)?;

@@ -1,12 +1,17 @@
 -- What the calls promise that an encoding has by value and by reference.
-use Rattle.std.specs.Prelude.{◌≡◌, ℕ, ◌*◌, ◌<◌, ◌≤◌, false, List, length, take, None, Some, Result, IfOk, IfErr, IsOk, IsOkAnd}
+use Rattle.std.specs.Prelude.{◌≡◌, ◌⊎◌, ℕ, ◌*◌, ◌%◌, ◌<◌, ◌≤◌, false, List, ◌++◌, length, take, None, Some, Result, Err, IfOk, IfErr, IsOk, IsOkAnd, OnErr, OnOk}
+use Rattle.std.specs.String.{string_bytes, string_capacity}
+use Rattle.std.specs.declared.string.String.{String}
+use Rattle.std.specs.declared.vec.Vec.{Vec}
 use Rattle.data_encoding_meaning.specs.declared.error.DecodeError.{DecodeError}
+use Rattle.data_encoding_meaning.specs.declared.error.DecodeFault.{DecodeFault}
+use Rattle.data_encoding_meaning.specs.declared.error.DecodeFault.TheVariants.{Error, OutOfMemory}
 use Rattle.data_encoding_meaning.specs.declared.error.DecodePartial.{DecodePartial}
-use Rattle.data_encoding_meaning.specs.text.Base.{Base, IsWidth, group_bytes, ignores_some}
+use Rattle.data_encoding_meaning.specs.text.Base.{Base, IsWidth, group_bytes, group_symbols, ignores_some}
 use Rattle.data_encoding_meaning.specs.text.Grammar.{Means}
-use Rattle.data_encoding_meaning.specs.text.Lengths.{decoded_len}
+use Rattle.data_encoding_meaning.specs.text.Lengths.{alignment, decoded_len}
 use Rattle.data_encoding_meaning.specs.text.Text.{text_of}
-use Rattle.data_encoding_meaning.specs.decoding.Fault.{fault_of, sound_bytes}
+use Rattle.data_encoding_meaning.specs.decoding.Fault.{IsRefusal, fault_of, sound_bytes}
 use Rattle.data_encoding_meaning.specs.decoding.Partial.{partial_of}
 use Rattle.data_encoding_meaning.specs.specification.Fields.{IsSpecified}
 
@@ -14,6 +19,12 @@ use Rattle.data_encoding_meaning.specs.specification.Fields.{IsSpecified}
 pub record IsBitWidth (encoding : Base) (count : ℕ) : Type 0 where
   pub value : count ≡ encoding.width
   pub width : IsWidth count
+  pub base : IsSpecified encoding
+
+-- The number of symbols of a whole group.
+pub record IsGroupLen (encoding : Base) (count : ℕ) : Type 0 where
+  pub value : count ≡ group_symbols encoding.width
+  pub width : IsWidth encoding.width
   pub base : IsSpecified encoding
 
 -- The number of bytes of a whole group.
@@ -28,6 +39,24 @@ pub record IsEncodeLen (encoding : Base) (len count : ℕ) : Type 0 where
   pub length : (bytes : List ℕ) → length bytes ≡ len → length (text_of encoding bytes) ≡ count
   pub most : count ≤ 263 * len
   pub empty : len ≡ 0 → count ≡ 0
+  pub base : IsSpecified encoding
+
+-- How many bytes, in whole groups or lines, have a text that surely fits an output of this length.
+pub record IsPieceLen (encoding : Base) (output_len count : ℕ) : Type 0 where
+  pub some : 0 < count
+  pub few : count ≤ output_len
+  pub whole : count % alignment encoding ≡ 0
+  pub fits : (bytes : List ℕ) → length bytes ≤ count
+      → length (text_of encoding bytes) ≤ output_len
+  pub base : IsSpecified encoding
+
+-- The text of the data was appended to the output; or memory ran out, and nothing has changed.
+pub record AppendsText {A E : Type 0} (encoding : Base) (input : List ℕ) (old new : String A)
+    (answer : Result (Unit {0}) E) : Type 0 where
+  pub text : OnOk answer (string_bytes new ≡ string_bytes old ++ text_of encoding input)
+  pub unchanged : OnErr answer (string_bytes new ≡ string_bytes old)
+  pub capacity : OnErr answer (string_capacity new ≡ string_capacity old)
+  pub empty : length input ≡ 0 → IsOk answer
   pub base : IsSpecified encoding
 
 -- The greatest number of bytes that a text of this length may mean, or the fault of the length.
@@ -54,3 +83,15 @@ pub record DecodesText (base : Base) (text old new : List ℕ) (answer : Result 
       (λ most. partial.written ≤ most))
   pub full : IfOk answer (λ n. base.padding ≡ None → ignores_some base ≡ false → n ≡ length new)
   pub len : length new ≡ length old
+
+-- The data of a text is returned; or the text has a fault, or memory ran out.
+pub record DecodesWhole {A : Type 0} (base : Base) (text : List ℕ)
+    (answer : Result (Vec ℕ A) DecodeFault) : Type 0 where
+  pub means : IfOk answer (λ bytes. Means base text bytes.items)
+  pub sound : IfOk answer (λ bytes. (fault_of base text ≡ None)
+      × (sound_bytes base text ≡ bytes.items))
+  pub refusal : IfErr answer (IsRefusal base text)
+  pub accepted : (bytes : List ℕ) → Means base text bytes
+      → IsOk answer ⊎ (answer ≡ Err OutOfMemory)
+  pub position : (error : DecodeError) → answer ≡ Err (Error error)
+      → error.position < length text

@@ -7,50 +7,55 @@ use Rattle.std.specs.contracts.impls.GlobalAllocator.TheImpl.{ghosts}
 use Rattle.std.specs.contracts.string.String as string
 use mathlib.Core.Option as maybe
 use Rattle.data_encoding.specs.declared.encode.encoder.Encoder.{Encoder}
+use Rattle.data_encoding.specs.declared.encode.encoder.Encodes
 use Rattle.data_encoding_meaning.specs.text.Base.{Base}
 use Rattle.data_encoding_meaning.specs.text.EncodedPieces.{HasEncoded}
 use Rattle.data_encoding_meaning.specs.text.Text.{text_of}
 
+-- the type of the text that is appended to
+abbrev string_type : RattleType
+string_type = string.the_row global.the_row ghosts
+
 -- the encoding of an encoder
-abbrev pub base_of_encoder : Encoder → Base
-base_of_encoder encoder = encoder.encoding
+abbrev pub base_of_encoder : {E : Type 0} {by : Encodes.Ghosts E} → Encoder E by → Base
+base_of_encoder {by = by} encoder = by.base encoder.encoding
 
 -- the name of the text that the encoder appends to
-abbrev pub output_name : Encoder → GName
+abbrev pub output_name : {E : Type 0} {by : Encodes.Ghosts E} → Encoder E by → GName
 output_name encoder = encoder.output.ghost_name
 
 -- the text as it is so far
-abbrev pub written : Encoder → List ℕ
+abbrev pub written : {E : Type 0} {by : Encodes.Ghosts E} → Encoder E by → List ℕ
 written encoder = string_bytes encoder.output.now
 
 -- the bytes that do not fill a block yet
-abbrev pub held : Encoder → List ℕ
+abbrev pub held : {E : Type 0} {by : Encodes.Ghosts E} → Encoder E by → List ℕ
 held encoder = encoder.held.items
 
 -- The encoder has taken these bytes since its output was this text.
-abbrev pub HasTaken : Encoder → List ℕ → List ℕ → Type 0
+abbrev pub HasTaken : {E : Type 0} {by : Encodes.Ghosts E}
+    → Encoder E by → List ℕ → List ℕ → Type 0
 HasTaken encoder before bytes =
     HasEncoded (base_of_encoder encoder) before bytes (written encoder) (held encoder)
 
 -- The text, the bytes held and the encoding are as before.
-pub record IsUnchanged (old new : Encoder) : Type 0 where
+pub record IsUnchanged {E : Type 0} {by : Encodes.Ghosts E} (old new : Encoder E by)
+    : Type 0 where
   pub written : written new ≡ written old
   pub held : held new ≡ held old
   pub base : base_of_encoder new ≡ base_of_encoder old
   pub output : output_name new ≡ output_name old
 
 -- the name of the text of the encoder that is returned, if one is
-abbrev pub name_handed_back : Result (Unit {0}) Encoder → maybe.Option GName
+abbrev pub name_handed_back : {E : Type 0} {by : Encodes.Ghosts E}
+    → Result (Unit {0}) (Encoder E by) → maybe.Option GName
 name_handed_back (Ok _) = maybe.none
 name_handed_back (Err encoder) = maybe.some (output_name encoder)
 
--- the type of the text that is appended to
-abbrev string_type : RattleType
-string_type = string.the_row global.the_row ghosts
-
 -- The text ends with the text of all bytes that the encoder has taken; or it is as the returned
 -- encoder leaves it.
-abbrev pub Finalizes : Encoder → Result (Unit {0}) Encoder → Fml
+abbrev pub Finalizes : {E : Type 0} {by : Encodes.Ghosts E} → Encoder E by
+    → Result (Unit {0}) (Encoder E by) → Fml
 Finalizes encoder result =
     follows_so string_type string_type (output_name encoder) (name_handed_back result)
     (λ last now. OnErr result (now ≡ last))

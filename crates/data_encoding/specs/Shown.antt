@@ -9,4 +9,4 @@ shown_data shown = shown.input.now
 
 -- the text of its data
 abbrev pub shown_text : Display → List ℕ
-shown_text shown = text_of shown.encoding.now (shown_data shown)
+shown_text shown = text_of shown.encoding (shown_data shown)

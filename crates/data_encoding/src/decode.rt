@@ -9,7 +9,7 @@ pub(crate) mod text;
 
 ghost use Rattle.std.specs.Prelude.{◌≡◌, ℕ, List, true, false, ◌+◌, ◌-◌, ◌*◌, ◌/◌, ◌<◌, ◌≤◌, ◌⊎◌, length, take, drop, None, Some, Ok, Err, IfOk, IfErr, IfSome, IsOk, IsOkAnd};
 ghost use Rattle.data_encoding_meaning.specs.decoding.Decoding.{HasNoLastRun, HasRoom, IsLastRun, IsStop};
-ghost use Rattle.data_encoding.specs.Calls.{DecodesText};
+ghost use Rattle.data_encoding.specs.Calls.{DecodesText, DecodesWhole};
 ghost use Rattle.data_encoding.specs.Steps.{fault_of_stop};
 ghost use Rattle.data_encoding_meaning.specs.decoding.Fault.{IsRefusal, fault_of, sound_bytes};
 ghost use Rattle.data_encoding_meaning.specs.text.Base.{ignores_some};
@@ -92,24 +92,9 @@ impl Encoding {
     /// `OutOfMemory` is returned only if `decode_len` returns more than 0 for `input.len()`.
     pub fn decode(&self, alloc: Global, input: &[u8]) -> Result<Vec<u8>, DecodeFault>
         requires limit { length input.now ≤ DECODE_LIMIT }
-        ensures means { IfOk result (λ bytes. Means self.now input.now bytes.items) }
-        ensures sound { IfOk result (λ bytes. (fault_of self.now input.now ≡ None)
-            × (sound_bytes self.now input.now ≡ bytes.items)) }
-        ensures refusal { IfErr result (IsRefusal self.now input.now) }
-        ensures accepted { (bytes : List ℕ) → Means self.now input.now bytes
-            → IsOk result ⊎ (result ≡ Err DecodeFault.OutOfMemory) }
-        ensures position { (error : DecodeError) → result ≡ Err (DecodeFault.Error error)
-            → error.position < length input.now }
+        ensures { DecodesWhole self.now input.now result }
     {
-        let len = self.decode_len(input.len())?;
-        let mut output = zeros(alloc, len)?;
-        match self.decode_mut(input, &mut output) {
-            Ok(count) => {
-                output.truncate(count);
-                Ok(output)
-            }
-            Err(partial) => Err(DecodeFault::Error(partial.error)),
-        }
+        self.by_ref().decode(alloc, input)
     }
 }
 
@@ -143,6 +128,28 @@ impl EncodingRef<'_> {
             return Ok(stop.written);
         }
         Err(self.stopped(input, output, stop))
+    }
+
+    /// Returns the data that `input` means. `input` must have at most `DECODE_LIMIT` bytes.
+    ///
+    /// `input` may be several concatenated padded texts, if the encoding allows it.
+    ///
+    /// An invalid text has one fault: that of its length or, if the length has no fault, that of
+    /// its first faulty group. In a group, the padding is checked before the symbols.
+    /// `OutOfMemory` is returned only if `decode_len` returns more than 0 for `input.len()`.
+    pub fn decode(&self, alloc: Global, input: &[u8]) -> Result<Vec<u8>, DecodeFault>
+        requires limit { length input.now ≤ DECODE_LIMIT }
+        ensures { DecodesWhole self.now input.now result }
+    {
+        let len = self.decode_len(input.len())?;
+        let mut output = zeros(alloc, len)?;
+        match self.decode_mut(input, &mut output) {
+            Ok(count) => {
+                output.truncate(count);
+                Ok(output)
+            }
+            Err(partial) => Err(DecodeFault::Error(partial.error)),
+        }
     }
 
     // Returns the error of the faulty group that follows the first `stop.read` bytes. After a

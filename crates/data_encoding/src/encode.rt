@@ -71,8 +71,7 @@ impl Encoding {
         requires exact { length output.old ≡ length (text_of self.now input.now) }
         ensures { result.now ≡ text_of self.now input.now }
     {
-        self.encode_mut(input, output);
-        unsafe { str::from_utf8_unchecked(output) }
+        self.by_ref().encode_mut_str(input, output)
     }
 
     /// Returns the text of the data `input`, which must have at most `ENCODE_LIMIT` bytes. If the
@@ -85,9 +84,7 @@ impl Encoding {
         ensures text { IfOk result (λ text. string_bytes text ≡ text_of self.now input.now) }
         ensures empty { length input.now ≡ 0 → IsOk result }
     {
-        let mut output = zeros(alloc, self.encode_len(input.len()))?;
-        self.encode_mut(input, &mut output);
-        Ok(unsafe { String::from_utf8_unchecked(output) })
+        self.by_ref().encode(alloc, input)
     }
 }
 
@@ -126,7 +123,7 @@ impl EncodingRef<'_> {
     ///
     /// If the length of each piece of data but the last is a multiple of this number, the texts of
     /// the pieces, joined in order, are the text of the joined data.
-    pub(crate) fn encode_align(&self) -> usize
+    pub fn encode_align(&self) -> usize
         ensures value { result ≡ alignment self.now }
         ensures some { 0 < result }
         ensures few { result ≤ 189 }
@@ -148,6 +145,31 @@ impl EncodingRef<'_> {
         ensures ascii { All (λ byte. byte < 128) output.new }
     {
         call_by_width!(self.fields.width, self.encode_by_width::<>(input, output))
+    }
+
+    /// Does what `encode_mut` does, under the same conditions, and returns `output` as a `str`.
+    pub fn encode_mut_str<'a>(&self, input: &[u8], output: &'a mut [u8]) -> &'a str
+        requires limit { length input.now ≤ ENCODE_LIMIT }
+        requires exact { length output.old ≡ length (text_of self.now input.now) }
+        ensures { result.now ≡ text_of self.now input.now }
+    {
+        self.encode_mut(input, output);
+        unsafe { str::from_utf8_unchecked(output) }
+    }
+
+    /// Returns the text of the data `input`, which must have at most `ENCODE_LIMIT` bytes. If the
+    /// encoding has padding, the padding fills the last group. If the encoding has lines, each line
+    /// is followed by the separator.
+    ///
+    /// Returns an error only if memory runs out, and never if `input` is empty.
+    pub fn encode(&self, alloc: Global, input: &[u8]) -> Result<String, AllocError>
+        requires limit { length input.now ≤ ENCODE_LIMIT }
+        ensures text { IfOk result (λ text. string_bytes text ≡ text_of self.now input.now) }
+        ensures empty { length input.now ≡ 0 → IsOk result }
+    {
+        let mut output = zeros(alloc, self.encode_len(input.len()))?;
+        self.encode_mut(input, &mut output);
+        Ok(unsafe { String::from_utf8_unchecked(output) })
     }
 
     fn encode_by_width<G: GroupSize>(&self, input: &[u8], output: &mut [u8])

@@ -1,7 +1,7 @@
 //! Encodings, and the terms that describe them.
 
 ghost use Rattle.std.specs.Prelude.{◌≡◌, ◌<◌, ◌≤◌, ◌-◌, ◌==◌, ◌||◌, length, MatchResult};
-ghost use Rattle.data_encoding.specs.Calls.{IsBitWidth, IsGroupBytes};
+ghost use Rattle.data_encoding.specs.Calls.{IsBitWidth, IsGroupBytes, IsGroupLen};
 ghost use Rattle.data_encoding_meaning.specs.text.Base.{IsWidth, group_bytes, group_symbols, ignores_some, is_padded, meaning};
 ghost use Rattle.data_encoding_meaning.specs.specification.Fields.{IsSpecified};
 ghost use Rattle.data_encoding_meaning.specs.text.Lengths.{most_bytes};
@@ -112,6 +112,65 @@ impl EncodingRef<'_> {
     {
         self.fields.is_padded() || self.group_bytes() == 1
     }
+
+    /// Returns the number of symbols in a whole group, the fewest whose bits are whole bytes: 2, 4
+    /// or 8.
+    #[inline(always)]
+    pub fn group_len(&self) -> usize
+        ensures { IsGroupLen self.now result }
+    {
+        group_symbols(self.fields.width) as usize
+    }
+
+    /// Whether some byte is ignored.
+    #[inline(always)]
+    pub fn ignores_bytes(&self) -> bool
+        ensures { result ≡ ignores_some self.now }
+    {
+        self.fields.ignores
+    }
+
+    /// Whether a text may continue after a padded group. Without padding every text may.
+    #[inline(always)]
+    pub fn concatenates(&self) -> bool
+        ensures { result ≡ self.now.concatenates }
+    {
+        self.fields.concatenates
+    }
+
+    /// Whether texts have padding.
+    #[inline(always)]
+    pub fn is_padded(&self) -> bool
+        ensures { result ≡ is_padded self.now }
+    {
+        self.fields.is_padded()
+    }
+
+    /// Whether bits left after the last byte must be zeros.
+    #[inline(always)]
+    pub fn checks_trailing_bits(&self) -> bool
+        ensures { result ≡ self.now.checks_trailing_bits }
+    {
+        self.fields.checks_trailing_bits
+    }
+
+    /// Returns what a byte means in a text.
+    pub fn interpret_byte(&self, byte: u8) -> Character
+        ensures { result ≡ meaning self.now byte }
+    {
+        let entry = self.fields.values.entries[byte as usize];
+        if entry < MOST_SYMBOLS {
+            Character::Symbol {
+                value: entry as usize,
+            }
+        } else if entry == IGNORED {
+            Character::Ignored
+        } else if entry == PADDING {
+            Character::Padding
+        } else {
+            Character::Invalid
+        }
+    }
 }
 
 impl Encoding {
@@ -136,11 +195,9 @@ impl Encoding {
     /// Returns the number of symbols in a whole group, the fewest whose bits are whole bytes: 2, 4
     /// or 8.
     pub fn group_len(&self) -> usize
-        ensures value { result ≡ group_symbols self.now.width }
-        ensures width { IsWidth self.now.width }
-        ensures base { IsSpecified self.now }
+        ensures { IsGroupLen self.now result }
     {
-        group_symbols(self.fields.width) as usize
+        self.by_ref().group_len()
     }
 
     /// Returns the number of bytes in a whole group: 1, 3 or 5.
@@ -163,46 +220,35 @@ impl Encoding {
     pub fn ignores_bytes(&self) -> bool
         ensures { result ≡ ignores_some self.now }
     {
-        self.fields.ignores
+        self.by_ref().ignores_bytes()
     }
 
     /// Whether a text may continue after a padded group. Without padding every text may.
     pub fn concatenates(&self) -> bool
         ensures { result ≡ self.now.concatenates }
     {
-        self.fields.concatenates
+        self.by_ref().concatenates()
     }
 
     /// Whether texts have padding.
     pub fn is_padded(&self) -> bool
         ensures { result ≡ is_padded self.now }
     {
-        self.fields.is_padded()
+        self.by_ref().is_padded()
     }
 
     /// Whether bits left after the last byte must be zeros.
     pub fn checks_trailing_bits(&self) -> bool
         ensures { result ≡ self.now.checks_trailing_bits }
     {
-        self.fields.checks_trailing_bits
+        self.by_ref().checks_trailing_bits()
     }
 
     /// Returns what a byte means in a text.
     pub fn interpret_byte(&self, byte: u8) -> Character
         ensures { result ≡ meaning self.now byte }
     {
-        let entry = self.fields.values.entries[byte as usize];
-        if entry < MOST_SYMBOLS {
-            Character::Symbol {
-                value: entry as usize,
-            }
-        } else if entry == IGNORED {
-            Character::Ignored
-        } else if entry == PADDING {
-            Character::Padding
-        } else {
-            Character::Invalid
-        }
+        self.by_ref().interpret_byte(byte)
     }
 }
 

@@ -17,7 +17,7 @@ pub use data_encoding_meaning::laws;
 pub use decode::DECODE_LIMIT;
 pub use encode::ENCODE_LIMIT;
 pub use encode::display::Display;
-pub use encode::encoder::Encoder;
+pub use encode::encoder::{Encoder, Encodes};
 pub use encoding::{BitOrder, Character, Encoding, EncodingRef};
 pub use error::{DecodeError, DecodeFault, DecodeKind, DecodePartial};
 pub use plain::PlainEncoding;

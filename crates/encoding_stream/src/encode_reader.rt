@@ -1,6 +1,6 @@
 //! From a reader of data to a writer of text.
 
-ghost use Rattle.std.specs.Prelude.{◌≡◌, ◌≢◌, ◌^◌, ◌-◌, ◌<◌, ◌≤◌, ◌↔◌, length, false, is_err, Err, IsTrue, OnOk};
+ghost use Rattle.std.specs.Prelude.{◌≡◌, ◌≢◌, ◌^◌, ◌+◌, ◌-◌, ◌<◌, ◌≤◌, ◌↔◌, length, false, is_err, Err, IsTrue, OnOk};
 ghost use Rattle.std.specs.Io.KnownBytes.{Appends, IsAtEnd};
 ghost use Rattle.data_encoding.specs.Text.{text_of};
 ghost use Rattle.encoding_stream.specs.Encoded.{EncodesAll, EncodesFront, ReadsMore, Succeeds, WritesText};
@@ -52,20 +52,22 @@ pub fn encode_stream<R: Read, W: Write>(
         → ReadsMore (2 ^ 64 - 1) (seen R.remaining reader.old reader.new) }
     ensures no_text { (error : DecodeError) → result ≢ Err (StreamFault.Decode error) }
 {
-    let asked = encoding.encode_piece_len(ROOM);
+    let piece = encoding.encode_piece_len(ROOM);
     let mut buffer = [0; ROOM];
     let mut output = [0; ROOM];
     let mut total: u64 = 0;
     join_encode();
     loop {
+        let left = u64::MAX - total;
+        let asked = asked_for(piece, left);
         let count = match fill(reader, &mut buffer[..asked]) {
             Ok(count) => count,
             Err(_) => return Err(StreamFault::Read),
         };
-        let Some(sum) = total.checked_add(count as u64) else {
+        if count as u64 > left {
             return Err(StreamFault::TooLong);
-        };
-        total = sum;
+        }
+        total += count as u64;
         let Ok(()) = write_text(encoding, &buffer[..count], &mut output, writer) else {
             return Err(StreamFault::Write);
         };
@@ -75,6 +77,21 @@ pub fn encode_stream<R: Read, W: Write>(
                 Err(_) => Err(StreamFault::Write),
             };
         }
+    }
+}
+
+// How many bytes are asked for at a time: a piece, or one byte more than may still come.
+fn asked_for(piece: usize, left: u64) -> usize
+    requires { 0 < piece }
+    ensures some { 0 < result }
+    ensures few { result ≤ piece }
+    ensures one { result ≤ left + 1 }
+    ensures whole { result ≤ left → result ≡ piece }
+{
+    if left < piece as u64 {
+        left as usize + 1
+    } else {
+        piece
     }
 }
 

@@ -11,7 +11,7 @@ ghost use Rattle.data_encoding.specs.OneLayout.{IsLayout};
 ghost use Rattle.data_encoding.specs.Text.{text_of};
 
 use data_encoding::laws::one_layout;
-use data_encoding::{ENCODE_LIMIT, Encoder, Encoding};
+use data_encoding::{ENCODE_LIMIT, Encoder, Encodes, Encoding};
 use std::alloc::AllocError;
 use std::fmt;
 use std::fmt::Display;
@@ -105,7 +105,7 @@ pub fn encoded_at_second_try(
 }
 
 /// Finalizes. If memory runs out, the text is as the returned encoder leaves it.
-pub fn finalized(encoder: Encoder<'_>) -> Result<(), Encoder<'_>>
+pub fn finalized<'a, E: Encodes>(encoder: Encoder<'a, E>) -> Result<(), Encoder<'a, E>>
     ensures* { sem 𝓛 (follows_so (string_row global_row ghosts) (string_row global_row ghosts)
         (output_name encoder.entry) (name_handed_back result)
         (λ last now. OnErr result (now ≡ last)) (λ _. ⊤)) }

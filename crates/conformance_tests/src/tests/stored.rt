@@ -1,5 +1,6 @@
 //! Encodings that are stored as bytes, and texts that are appended to another.
 
+use conformance::callers::buffers::encode_and_log;
 use conformance::callers::stored::{
     encoded_at_second_try, finalized, is_stored_alike, restored, show_nothing, stands_for_some,
     write_at_end,
@@ -57,6 +58,19 @@ fn grows(alloc: Global) -> Result<bool, Fail> {
     Ok(is_ok && is_last && output.as_str() == want)
 }
 
+// Whether the text of two bytes is written, and appended to a log.
+fn is_logged(alloc: Global) -> Result<bool, Fail> {
+    let mut log = String::from_str(alloc, "log: ")?;
+    let mut output = [0; 80];
+    let encoding = hexlower();
+    let len = encoding.encode_len(2);
+    if len > output.len() {
+        return Ok(false);
+    }
+    encode_and_log(&encoding, b"hi", &mut output[..len], &mut log)?;
+    Ok(log.as_str() == "log: 6869" && &output[..len] == "6869".as_bytes())
+}
+
 // Whether no data is displayed by a writer that fails at each call, and data is not.
 fn shows_no_data() -> bool {
     let mut plain = fmt::Formatter::new(Refusing {});
@@ -68,6 +82,7 @@ fn shows_no_data() -> bool {
 #[test]
 fn callers_append_and_show(rt: HostRuntime) -> Result<(), Fail> {
     assert!(rt; grows(rt.alloc())?);
+    assert!(rt; is_logged(rt.alloc())?);
     assert!(rt; shows_no_data());
     Ok(())
 }

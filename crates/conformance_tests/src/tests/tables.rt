@@ -43,7 +43,13 @@ base32|most|check|=||0||||1|8
 base64|most|check|=||76|←↵|||0|0
 base64|most|check|=||76|←↵|||58|84
 binary|most|check|||8|dashes|||1|263
-binary|most|check|||8|dashes|||36028797018963967|9475573615987523321";
+binary|most|check|||8|dashes|||36028797018963967|9475573615987523321
+binary|most|check|||248|dashes|||31|503
+quaternary|most|check|||252|dashes|||63|507
+octal|most|check|||248|dashes|||93|503
+hex|most|check|||254|dashes|||127|509
+base32|most|check|||248|dashes|||155|503
+base64|most|check|||252|dashes|||189|507";
 
 // The vectors of RFC 4648, section 10, and a few more.
 pub(super) const VECTORS: &str = "\
@@ -202,6 +208,7 @@ BASE32_NOPAD_VISUAL|1A|@
 BASE32_NOPAD_VISUAL|lA|@
 BASE32_DNSSEC|CPNMUOJ1E8|foobar
 BASE32_DNSCURVE|4323|non-zero trailing bits at 3
+BASE64_NOPAD|AAAA|\0\0\0
 BASE64_MIME|AAB=|non-zero trailing bits at 2
 BASE64_MIME_PERMISSIVE|AAB=|\0\0
 base64|most|single check|=||0||~|=|AA=~|\0
@@ -263,7 +270,14 @@ base32|most|check|||0||||5, 8, 5, 640, false, true, 5, false
 base64|most|check|||0||||6, 4, 3, 768, false, true, 3, false
 base64|most|check|=||76|←↵|||6, 4, 57, 741, true, true, 3, true
 base64|most|check||~|0||||6, 4, 3, 768, true, true, 3, false
-base64|most|single check|=||0||||6, 4, 3, 768, false, false, 3, true";
+base64|most|single check|=||0||||6, 4, 3, 768, false, false, 3, true
+BASE64||6, 4, 3, 768, false, true, 3, true
+binary|most|check|||248|dashes|||1, 8, 31, 62, true, true, 1, true
+quaternary|most|check|||252|dashes|||2, 4, 63, 126, true, true, 1, true
+octal|most|check|||248|dashes|||3, 8, 93, 186, true, true, 3, false
+hex|most|check|||254|dashes|||4, 2, 127, 254, true, true, 1, true
+base32|most|check|||248|dashes|||5, 8, 155, 310, true, true, 5, false
+base64|most|check|||252|dashes|||6, 4, 189, 378, true, true, 3, false";
 
 // Whether data has one text only.
 pub(super) const CANONICAL: &str = "\
@@ -328,13 +342,13 @@ pub(super) const FINALIZED: &str = "\
 base64|most|check|=||0||||he//llo|aGVsbG8=
 base64|most|check|=||0||||hello/world|aGVsbG93b3JsZA==
 base64|most|check|=||0|||||
-base64|most|check|=||76|←↵|||56×0¦/0|19×MDAw¦←↵";
+base64|most|check|=||76|←↵|||56×\0¦/\0|19×AAAA¦←↵";
 
 pub(super) const ABANDONED: &str = "\
 base64|most|check|=||0||||he//llo|aGVs
 base64|most|check|=||0||||h/e|
-base64|most|check|=||76|←↵|||56×0|
-base64|most|check|=||76|←↵|||56×0¦/0|19×MDAw¦←↵";
+base64|most|check|=||76|←↵|||56×\0|
+base64|most|check|=||76|←↵|||56×\0¦/\0|19×AAAA¦←↵";
 
 // Pieces, separated by slashes; then what each of them and the end appends, and the fault, also
 // separated.

@@ -1,14 +1,20 @@
 -- Worked rows: what calls promise of an encoding, by value and by reference.
-use Rattle.std.proofs.Common.{◌≡◌, ℕ, List, [], ◌∷◌, codes, take, Option, None, Some, Result, Ok, Err, refl, sym, ap, ◌<◌, ◌≤◌, length}
+use Rattle.std.proofs.Common.{◌≡◌, ⊎_elim, ◌%◌, ℕ, List, [], ◌∷◌, ◌++◌, codes, take, Option, None, Some, Result, Ok, Err, refl, sym, ap, ◌<◌, ◌≤◌, length}
 use Rattle.data_encoding_meaning.specs.declared.error.DecodeError.{DecodeError}
 use Rattle.data_encoding_meaning.specs.declared.error.DecodeKind.TheVariants.{Length as LengthFault}
 use Rattle.data_encoding_meaning.specs.declared.error.DecodePartial.{DecodePartial}
 use Rattle.data_encoding_meaning.specs.specification.Predefined.{base32_fields, base64_fields, hexlower_fields}
-use Rattle.data_encoding.specs.Calls.{IsBitWidth, IsGroupBytes, IsEncodeLen, IsDecodeLen, DecodesText}
+use Rattle.std.specs.String.{string_bytes, string_capacity}
+use Rattle.std.specs.declared.string.String.{String}
+use Rattle.std.specs.declared.vec.Vec.{Vec}
+use Rattle.data_encoding_meaning.specs.declared.error.DecodeFault.TheVariants.{Error}
+use Rattle.data_encoding.specs.Calls.{IsBitWidth, IsGroupLen, IsGroupBytes, IsPieceLen, AppendsText, IsEncodeLen, IsDecodeLen, DecodesText, DecodesWhole}
 use Rattle.data_encoding_meaning.proofs.vectors.Examples.{Has}
 use Rattle.std.proofs.lemmas.Bool.{false≢true}
 use Rattle.data_encoding_meaning.specs.text.Base.{Base}
 use Rattle.data_encoding_meaning.specs.text.Grammar.{Means}
+use Rattle.data_encoding_meaning.specs.text.Text.{text_of}
+use Rattle.data_encoding_meaning.specs.decoding.Fault.{IsRefusal}
 use Rattle.data_encoding_meaning.specs.specification.Fields.{IsSpecified}
 
 group_counted :
@@ -75,4 +81,44 @@ decoding_told = λ old new. (
   (λ n answer. (answer.decoded.0, answer.decoded.1, answer.full refl refl, answer.len)),
   (λ written error answer. (answer.partial, answer.bounds.0, answer.bounds.1, answer.most)),
   (λ partial bytes answer means. false≢true (answer.accepted bytes means)),
+)
+
+-- a group has eight symbols; the text of a piece fits, and ends with a whole group
+pieces_told :
+    Has base32_fields (λ base. (count piece : ℕ) (bytes : List ℕ) → IsGroupLen base count
+    → IsPieceLen base 600 piece → length bytes ≤ piece
+    → (count ≡ 8) × (count ≡ 8) × (0 < piece) × (piece ≤ 600) × (piece % 5 ≡ 0)
+    × (length (text_of base bytes) ≤ 600))
+pieces_told = λ count piece bytes group is few.
+    (group.value, group.value, is.some, is.few, is.whole, is.fits bytes few)
+
+-- the text of `hi` is appended, or nothing has changed; no data always has its text
+text_appended : {A E : Type 0} →
+    Has hexlower_fields (λ base. (old new : String A) (error : E)
+    → (AppendsText {E = E} base (codes "hi") old new (Ok tt)
+    → string_bytes new ≡ string_bytes old ++ codes "6869")
+    × (AppendsText base (codes "hi") old new (Err error)
+    → (string_bytes new ≡ string_bytes old) × (string_capacity new ≡ string_capacity old))
+    × (AppendsText base [] old new (Err error) → ⊥) × ((answer : Result (Unit {0}) E)
+    → AppendsText base [] old new answer → IsSpecified base))
+text_appended = λ old new error. (
+  λ is. is.text,
+  λ is. (is.unchanged, is.capacity),
+  λ is. false≢true (is.empty refl),
+  λ answer is. is.base,
+)
+
+-- `4f` decodes to a byte, and `4G` has a fault at 1
+whole_answered : {A : Type 0} →
+    Has hexlower_fields (λ base. (bytes : Vec ℕ A) (error : DecodeError)
+    → (DecodesWhole base (codes "4f") (Ok bytes)
+    → (bytes.items ≡ 79 ∷ []) × Means base (codes "4f") bytes.items)
+    × (DecodesWhole {A = A} base (codes "4G") (Err (Error error))
+    → (error.position < 2) × IsRefusal base (codes "4G") (Error error))
+    × (DecodesWhole {A = A} base (codes "4f") (Err (Error error)) → Means base (codes "4f") (79 ∷ [])
+    → ⊥))
+whole_answered = λ bytes error. (
+  λ is. (sym is.sound.1, is.means),
+  λ is. (is.position error refl, is.refusal),
+  λ is means. ⊎_elim false≢true (λ same. cc) (is.accepted (79 ∷ []) means),
 )

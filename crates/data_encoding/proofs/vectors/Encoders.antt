@@ -5,6 +5,7 @@ use Rattle.data_encoding_meaning.specs.text.Base.{Base}
 use Rattle.data_encoding_meaning.specs.specification.Predefined.{base64_fields}
 use Rattle.data_encoding_meaning.specs.text.Text.{text_of}
 use Rattle.data_encoding.specs.declared.encode.encoder.Encoder.{Encoder}
+use Rattle.data_encoding.specs.declared.encode.encoder.Encodes
 use Rattle.data_encoding_meaning.specs.text.EncodedPieces.{HasEncoded}
 use Rattle.data_encoding.specs.Encoder.{base_of_encoder, output_name, written, held, HasTaken, IsUnchanged, name_handed_back}
 use Rattle.data_encoding.specs.declared.encode.display.Display.{Display}
@@ -12,9 +13,21 @@ use Rattle.data_encoding.specs.Shown.{shown_data, shown_text}
 use Rattle.data_encoding_meaning.proofs.vectors.Examples.{bytes, Has}
 use Rattle.data_encoding_meaning.specs.text.Lengths.{alignment}
 
+shown_of : (base : Base) (bytes text : List ℕ) → text_of base bytes ≡ text
+    → (shown : Display) → shown.encoding ≡ base → shown_data shown ≡ bytes
+    → shown_text shown ≡ text
+shown_of base bytes text h shown is input_is =
+    ap (λ b. text_of b (shown_data shown)) is ∙ ap (λ input. text_of base input) input_is ∙ h
+
+-- what a `Display` of `Hello world` prints
+text_shown :
+    Has base64_fields (λ base. (shown : Display) → shown.encoding ≡ base
+    → shown_data shown ≡ codes "Hello world" → shown_text shown ≡ codes "SGVsbG8gd29ybGQ=")
+text_shown = shown_of _ _ _ refl
+
 -- an encoder that has taken `hello`
-encoder_so_far :
-    Has base64_fields (λ base. (encoder : Encoder) → base_of_encoder encoder ≡ base
+encoder_so_far : {E : Type 0} {by : Encodes.Ghosts E} →
+    Has base64_fields (λ base. (encoder : Encoder E by) → base_of_encoder encoder ≡ base
     → written encoder ≡ codes "aGVs" → held encoder ≡ codes "lo"
     → HasTaken encoder [] (codes "hello"))
 encoder_so_far = λ encoder is is_written is_held.
@@ -28,14 +41,16 @@ encoder_so_far = λ encoder is is_written is_held.
     })
 
 -- an encoder is unchanged, and the name of its text is known if it is returned
-encoder_handed_back : (encoder : Encoder) → IsUnchanged encoder encoder
+encoder_handed_back : {E : Type 0} {by : Encodes.Ghosts E} (encoder : Encoder E by)
+    → IsUnchanged encoder encoder
     × (name_handed_back (Err encoder) ≡ maybe.some (output_name encoder))
-    × (name_handed_back (Ok _) ≡ maybe.none)
-encoder_handed_back encoder =
+    × (name_handed_back {E = E} {by = by} (Ok _) ≡ maybe.none)
+encoder_handed_back {E} {by} encoder =
     (record { written = refl; held = refl; base = refl; output = refl }, refl, refl)
 
 -- one that is unchanged has taken the same bytes, and appends to the same text
-encoder_unchanged : (old new : Encoder) → IsUnchanged old new → ((before bytes : List ℕ)
+encoder_unchanged : {E : Type 0} {by : Encodes.Ghosts E} (old new : Encoder E by)
+    → IsUnchanged old new → ((before bytes : List ℕ)
     → HasTaken old before bytes → HasTaken new before bytes)
     × (output_name new ≡ output_name old)
 encoder_unchanged old new same = (
@@ -48,21 +63,9 @@ encoder_unchanged old new same = (
   same.output,
 )
 
-shown_of : (base : Base) (bytes text : List ℕ) → text_of base bytes ≡ text
-    → (shown : Display) → shown.encoding.now ≡ base → shown_data shown ≡ bytes
-    → shown_text shown ≡ text
-shown_of base bytes text h shown is input_is =
-    ap (λ b. text_of b (shown_data shown)) is ∙ ap (λ input. text_of base input) input_is ∙ h
-
--- what a `Display` of `Hello world` prints
-text_shown :
-    Has base64_fields (λ base. (shown : Display) → shown.encoding.now ≡ base
-    → shown_data shown ≡ codes "Hello world" → shown_text shown ≡ codes "SGVsbG8gd29ybGQ=")
-text_shown = shown_of _ _ _ refl
-
 -- less than a block is held
-taken_told :
-    Has base64_fields (λ base. (encoder : Encoder) (before taken : List ℕ)
+taken_told : {E : Type 0} {by : Encodes.Ghosts E} →
+    Has base64_fields (λ base. (encoder : Encoder E by) (before taken : List ℕ)
     → base_of_encoder encoder ≡ base → HasTaken encoder before taken
     → length (held encoder) < 3)
 taken_told = λ encoder before taken is has.

@@ -2,11 +2,12 @@
 
 ghost use Rattle.std.specs.Prelude.{◌≡◌, ◌+◌, ◌<◌, ◌≤◌, ◌++◌, All, length, IsOk, OnErr, OnOk};
 ghost use Rattle.std.specs.String.{string_bytes, string_capacity, string_len};
+ghost use Rattle.data_encoding.specs.Calls.{AppendsText};
 ghost use Rattle.data_encoding_meaning.specs.specification.Fields.{IsSpecified};
 ghost use Rattle.data_encoding_meaning.specs.text.Text.{text_of};
 
 use crate::encode::ENCODE_LIMIT;
-use crate::encoding::Encoding;
+use crate::encoding::{Encoding, EncodingRef};
 use std::alloc::{AllocError, Allocator};
 use std::mem;
 
@@ -17,13 +18,20 @@ impl Encoding {
     /// of `output` are then unchanged.
     pub fn encode_append(&self, input: &[u8], output: &mut String) -> Result<(), AllocError>
         requires limit { length input.now ≤ ENCODE_LIMIT }
-        ensures text { OnOk result (string_bytes output.new
-            ≡ string_bytes output.old ++ text_of self.now input.now) }
-        ensures unchanged { OnErr result (string_bytes output.new ≡ string_bytes output.old) }
-        ensures capacity { OnErr result (string_capacity output.new
-            ≡ string_capacity output.old) }
-        ensures empty { length input.now ≡ 0 → IsOk result }
-        ensures base { IsSpecified self.now }
+        ensures { AppendsText self.now input.now output.old output.new result }
+    {
+        self.by_ref().encode_append(input, output)
+    }
+}
+
+impl EncodingRef<'_> {
+    /// Appends the text of the data, of at most `ENCODE_LIMIT` bytes, to `output`.
+    ///
+    /// Returns an error only if memory runs out, and never for no data. The bytes and the capacity
+    /// of `output` are then unchanged.
+    pub fn encode_append(&self, input: &[u8], output: &mut String) -> Result<(), AllocError>
+        requires limit { length input.now ≤ ENCODE_LIMIT }
+        ensures { AppendsText self.now input.now output.old output.new result }
     {
         self.append_in(input, output)
     }

@@ -4,15 +4,71 @@ ghost use Rattle.std.specs.Prelude.{◌≡◌, ◌⊎◌, ◌%◌, ◌<◌, ◌�
 ghost use Rattle.std.specs.Fmt.{DisplaysOnOk, WritesInCalls};
 ghost use Rattle.data_encoding_meaning.specs.specification.Fields.{IsSpecified};
 ghost use Rattle.data_encoding_meaning.specs.text.Lengths.{IsBlockLength, alignment};
+ghost use Rattle.data_encoding.specs.Calls.{IsPieceLen};
 ghost use Rattle.data_encoding.specs.Shown.{shown_data, shown_text};
 ghost use Rattle.data_encoding_meaning.specs.text.Text.{text_of};
 
 use crate::encode::ENCODE_LIMIT;
-use crate::encoding::{Encoding, group_symbols};
+use crate::encoding::{Encoding, EncodingRef, group_symbols};
 use std::fmt;
 use std::fmt::Write;
 
 impl Encoding {
+    /// Writes the text of the data through a buffer of at least 510 bytes. The buffer or the data
+    /// has at most `ENCODE_LIMIT` bytes.
+    ///
+    /// Each call of the writer gets the text of as many whole groups, or whole lines, as fit the
+    /// buffer, and the last call gets that of the rest. For no data the writer is not called.
+    ///
+    /// Returns an error only if a call of the writer fails. That is then the last call, and what
+    /// the calls before it wrote stays written. The contents of the buffer are unspecified
+    /// afterwards.
+    pub fn encode_write_buffer<W: fmt::Write>(
+        &self,
+        input: &[u8],
+        output: &mut W,
+        buffer: &mut [u8],
+    ) -> fmt::Result
+        requires room { 510 ≤ length buffer.old }
+        requires limit { (length buffer.old ≤ ENCODE_LIMIT) ⊎ (length input.now ≤ ENCODE_LIMIT) }
+        ensures written { OnOk result
+            (WritesInCalls W.write_str_gives output.old (text_of self.now input.now) output.new) }
+        ensures empty { length input.now ≡ 0 → IsOk result × (output.new ≡ output.old) }
+    {
+        self.by_ref().encode_write_buffer(input, output, buffer)
+    }
+
+    /// The same as `encode_write_buffer` with a buffer of 1,024 bytes on the stack, for data of any
+    /// length.
+    pub fn encode_write<W: fmt::Write>(&self, input: &[u8], output: &mut W) -> fmt::Result
+        ensures written { OnOk result
+            (WritesInCalls W.write_str_gives output.old (text_of self.now input.now) output.new) }
+        ensures empty { length input.now ≡ 0 → IsOk result × (output.new ≡ output.old) }
+    {
+        self.by_ref().encode_write(input, output)
+    }
+
+    /// Returns how many bytes of data, in whole groups or whole lines, have a text that surely fits
+    /// an output of `output_len` bytes, which is at least 510. The text of fewer bytes fits too.
+    ///
+    /// The texts of pieces of this length, and of a last piece of any length, may be joined.
+    pub fn encode_piece_len(&self, output_len: usize) -> usize
+        requires room { 510 ≤ output_len }
+        ensures { IsPieceLen self.now output_len result }
+    {
+        self.by_ref().encode_piece_len(output_len)
+    }
+
+    /// Returns a value that prints the text of the data, by the same calls as `encode_write`.
+    pub fn encode_display<'a>(&'a self, input: &'a [u8]) -> Display<'a>
+        ensures text { shown_text result ≡ text_of self.now input.now }
+        ensures data { shown_data result ≡ input.now }
+    {
+        self.by_ref().encode_display(input)
+    }
+}
+
+impl<'a> EncodingRef<'a> {
     /// Writes the text of the data through a buffer of at least 510 bytes. The buffer or the data
     /// has at most `ENCODE_LIMIT` bytes.
     ///
@@ -64,23 +120,21 @@ impl Encoding {
     /// The texts of pieces of this length, and of a last piece of any length, may be joined.
     pub fn encode_piece_len(&self, output_len: usize) -> usize
         requires room { 510 ≤ output_len }
-        ensures some { 0 < result }
-        ensures few { result ≤ output_len }
-        ensures whole { result % alignment self.now ≡ 0 }
-        ensures fits { (bytes : List ℕ) → length bytes ≤ result
-            → length (text_of self.now bytes) ≤ output_len }
-        ensures base { IsSpecified self.now }
+        ensures { IsPieceLen self.now output_len result }
     {
         output_len / self.block_len() * self.encode_align()
     }
 
     /// Returns a value that prints the text of the data, by the same calls as `encode_write`.
-    pub fn encode_display<'a>(&'a self, input: &'a [u8]) -> Display<'a>
+    pub fn encode_display(&self, input: &'a [u8]) -> Display<'a>
         ensures text { shown_text result ≡ text_of self.now input.now }
         ensures data { shown_data result ≡ input.now }
     {
         Display {
-            encoding: self,
+            encoding: EncodingRef {
+                fields: self.fields,
+                separator: self.separator,
+            },
             input,
         }
     }
@@ -115,9 +169,9 @@ impl Encoding {
 
 /// Data that prints as its text, whatever width and fill the format asks for. For no data nothing
 /// is printed, and printing never fails.
-#[derive(Clone, Copy, Debug)]
+#[derive(Debug, Drop)]
 pub struct Display<'a> {
-    encoding: &'a Encoding,
+    encoding: EncodingRef<'a>,
     input: &'a [u8],
 }
 

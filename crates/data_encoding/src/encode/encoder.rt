@@ -3,27 +3,49 @@
 ghost use Rattle.std.specs.Prelude.{◌≡◌, ℕ, ◌+◌, ◌<◌, ◌≤◌, List, [], ◌++◌, length, IfErr, IsOk, OnErr, OnOk};
 ghost use Rattle.std.specs.Borrow.{sem};
 ghost use Rattle.std.specs.String.{string_bytes};
+ghost use Rattle.data_encoding_meaning.specs.text.Base.{Base};
 ghost use Rattle.data_encoding_meaning.specs.text.EncodedPieces.{HasEncoded};
 ghost use Rattle.data_encoding_meaning.specs.text.Lengths.{alignment};
 ghost use Rattle.data_encoding_meaning.specs.text.Text.{text_of};
 
 use crate::encode::ENCODE_LIMIT;
-use crate::encoding::Encoding;
+use crate::encoding::{Encoding, EncodingRef};
 use arrayvec::ArrayVec;
 use std::alloc::{AllocError, Allocator};
 
-/// Appends the text of data that comes in pieces to a text.
+/// What an [`Encoder`] borrows besides its text: an [`Encoding`].
+///
+/// It is a type parameter, since what becomes of the text is proved only if the encoder has no other
+/// reference.
+pub trait Encodes: Copy {
+    ghost base: { Self → Base };
+
+    /// Returns the encoding by reference.
+    fn by_ref(&self) -> EncodingRef<'_>
+        ensures { result ≡ Self.base self.now };
+}
+
+impl Encodes for &Encoding {
+    ghost base = { λ encoding. encoding.now };
+
+    #[inline(always)]
+    fn by_ref(&self) -> EncodingRef<'_> {
+        Encoding::by_ref(self)
+    }
+}
+
+/// Appends the text of data that comes in pieces to a text. It borrows the text and the encoding.
 ///
 /// A block is `encode_align` bytes of data: a group of symbols, or a line. The text of a block is
 /// appended once the block is whole; the encoder holds the bytes that do not fill a block yet. An
 /// encoder must be consumed by `finalize` or `abandon`: a program that drops one does not compile.
 #[derive(Debug)]
-pub struct Encoder<'a> {
-    encoding: Encoding,
+pub struct Encoder<'a, E: Encodes = &'a Encoding> {
+    encoding: E,
     output: &'a mut String,
     held: ArrayVec<u8, 189>,
     block_len: usize,
-    ghost block: { block_len ≡ alignment encoding },
+    ghost block: { block_len ≡ alignment (E.base encoding) },
     ghost most: { block_len ≤ 189 },
     ghost short: { length held.items < block_len },
 }
@@ -37,18 +59,17 @@ impl Encoding {
         ensures base { base_of_encoder result ≡ self.now }
         ensures pieces { HasTaken result (string_bytes output.old) [] }
     {
-        let Ok(encoding) = self.clone() else {
-            unreachable!();
-        };
         let block_len = self.encode_align();
         Encoder {
-            encoding,
+            encoding: self,
             output,
             held: ArrayVec::new(),
             block_len,
         }
     }
+}
 
+impl EncodingRef<'_> {
     // Appends the text of the blocks that the input completes, and holds the rest.
     fn append_blocks<A: Allocator + Copy>(
         &self,
@@ -104,7 +125,7 @@ impl Encoding {
     }
 }
 
-impl<'a> Encoder<'a> {
+impl<'a, E: Encodes> Encoder<'a, E> {
     ghost use Rattle.data_encoding.specs.Encoder.{base_of_encoder, held, output_name, written, Finalizes, HasTaken, IsUnchanged};
 
     /// Takes a piece, of at most `ENCODE_LIMIT` bytes, and appends the text of the blocks that are
@@ -123,6 +144,7 @@ impl<'a> Encoder<'a> {
             < alignment (base_of_encoder self.old) → IsOk result }
     {
         self.encoding
+            .by_ref()
             .append_blocks(input, &mut self.held, self.block_len, self.output)
     }
 
@@ -130,7 +152,7 @@ impl<'a> Encoder<'a> {
     ///
     /// If memory runs out, which never happens if nothing is held, the encoder is returned, and it
     /// and the text are unchanged.
-    pub fn finalize(self) -> Result<(), Encoder<'a>>
+    pub fn finalize(self) -> Result<(), Encoder<'a, E>>
         ensures* text { sem 𝓛 (Finalizes self.entry result) }
         ensures unchanged { IfErr result (λ encoder. IsUnchanged self.entry encoder) }
         ensures empty { length (held self.entry) ≡ 0 → IsOk result }
@@ -141,7 +163,11 @@ impl<'a> Encoder<'a> {
             held,
             block_len,
         } = self;
-        if encoding.append_last(held.as_slice(), output).is_err() {
+        if encoding
+            .by_ref()
+            .append_last(held.as_slice(), output)
+            .is_err()
+        {
             return Err(Encoder {
                 encoding,
                 output,

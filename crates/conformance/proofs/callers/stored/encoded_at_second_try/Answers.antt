@@ -2,6 +2,7 @@ use Rattle.std.proofs.Common.{◌≡◌, ℕ, List, ◌++◌, false, rules, Resu
 use Rattle.std.proofs.lemmas.Result.{IfOk-at_ok}
 use Rattle.std.specs.String.{string_bytes}
 use Rattle.data_encoding.specs.declared.encode.encoder.Encoder.{Encoder}
+use Rattle.data_encoding.specs.declared.encode.encoder.Encodes
 use Rattle.data_encoding.specs.Encoder.{HasTaken, IsUnchanged, base_of_encoder, held, written}
 use Rattle.data_encoding.specs.EncodedPieces.{HasEncoded}
 use Rattle.data_encoding.specs.Text.{text_of}
@@ -18,8 +19,8 @@ where_err (Ok x) error is holds = cc
 where_err (Err other) error is holds = holds
 
 -- an encoder that is unchanged has taken the same bytes
-still_taken : (old new : Encoder) → IsUnchanged old new → (before bytes : List ℕ)
-    → HasTaken old before bytes → HasTaken new before bytes
+still_taken : {E : Type 0} {by : Encodes.Ghosts E} (old new : Encoder E by)
+    → IsUnchanged old new → (before bytes : List ℕ) → HasTaken old before bytes → HasTaken new before bytes
 still_taken old new same before bytes has =
     subst (λ base. HasEncoded base before bytes (written new) (held new)) (sym same.base)
     (subst (λ text. HasEncoded (base_of_encoder old) before bytes text (held new))

@@ -2,4 +2,4 @@ use Rattle.std.proofs.Common.{refl}
 use Rattle.data_encoding.proofs.encode.encoder.Encoder.abandon.Goals as goal
 
 pub returns : goal.returns
-returns c = refl
+returns g c = refl
