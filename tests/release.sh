@@ -6,8 +6,14 @@
 . "$(dirname "$0")/common.bash" || exit 1
 
 version=$(sed -n 's/^## //p' CHANGELOG.md | head -n 1)
-is 'the versions' '' "$(grep -rhoE '[a-z_]+-0\.[0-9]+\.[0-9]+[-_./a-z0-9]*' README.md docs/RELEASES.md |
-    grep -vF -- "-$version" | sort -u)"
+# Names of files with a version.
+named='[a-z_]+[-_]0\.[0-9]+\.[0-9]+[-_./a-z0-9]*'
+is 'the versions in names of files' '' \
+    "$(grep -hoE "$named" README.md docs/{RELEASES,RUST,JAVASCRIPT}.md |
+        grep -vE "[a-z][-_]${version//./\\.}" | sort -u)"
+is 'the versions of the crate that links' "$version $version" \
+    "$(sed -n 's/^version = "\(.*\)"$/\1/p' bindings/rust/sys/Cargo.toml) \
+$(sed -n 's/^bamsturk-data-encoding-sys = { version = "\([^"]*\)".*/\1/p' bindings/rust/Cargo.toml)"
 
 options=(--lanes)
 for part in program c rust python javascript; do
