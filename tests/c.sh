@@ -183,6 +183,15 @@ for staged in beside "$room/staged"; do
     DESTDIR=$staged holds "removes below $staged" in_room "$install" --remove /usr
     is "nothing is left below $staged" '' "$(in_room files "$staged")"
 done
+multiarch=lib/x86_64-linux-gnu
+holds 'installs in another folder for libraries' in_room "$install" --libdir $multiarch "$lib" multi
+is 'the files there' "${installed//lib\//$multiarch/}" "$(files "$room/multi")"
+for refused in /lib ../lib lib/ lib/../lib ./lib . '' 'l:b'; do
+    is "no folder for libraries: '$refused'" 2 \
+        "$(status "$install" --libdir "$refused" "$lib" prefix)"
+done
+is 'a target that there is not' 2 \
+    "$(status "$(realpath crates/data_encoding_c/build.sh)" --target sparc64 prefix)"
 is 'no words' 2 "$(status "$install")"
 is 'no folder' 2 "$(status "$install" "$lib")"
 is 'nothing to remove from' 2 "$(status "$install" --remove)"
@@ -219,6 +228,11 @@ if command -v pkg-config >/dev/null; then
     is 'pkg-config' SGVsbG8= "$(by_pkg_config "$lib" "$lib" "${commands[3]}")"
     is 'pkg-config, of an installed library' SGVsbG8= \
         "$(by_pkg_config "$moved/lib" "$moved/lib/pkgconfig" "eval \"${commands[3]}\"")"
+    multi=$room/multi/$multiarch
+    is 'pkg-config, of another folder for libraries' SGVsbG8= \
+        "$(by_pkg_config "$multi" "$multi/pkgconfig" "${commands[3]}")"
+    is 'pkg-config: the prefix' "$(realpath "$room/multi")" \
+        "$(realpath "$(PKG_CONFIG_PATH=$multi/pkgconfig pkg-config --variable=prefix data_encoding)")"
 else
     skip 'the file for pkg-config: no pkg-config'
 fi
@@ -238,6 +252,7 @@ if command -v cmake >/dev/null; then
     block docs/C.md cmake >"$room/cmake/CMakeLists.txt"
     is 'CMake' SGVsbG8= "$(by_cmake "$lib")"
     is 'CMake, of an installed library' SGVsbG8= "$(by_cmake "$moved")"
+    is 'CMake, of another folder for libraries' SGVsbG8= "$(by_cmake "$room/multi")"
     is 'CMake takes the shared library' 1 \
         "$(readelf -d "$room/built/hello" | grep -c "NEEDED.*\[libdata_encoding\.so\.$interface\]")"
     block docs/C.md cmake | sed 's/::data_encoding/::static/' >"$room/cmake/CMakeLists.txt"
@@ -253,6 +268,10 @@ if command -v cmake >/dev/null; then
 else
     skip 'the package for CMake: no cmake'
 fi
+
+holds 'removes from another folder for libraries' in_room "$install" --libdir $multiarch --remove \
+    multi
+is 'nothing is left there' '' "$(files "$room/multi")"
 
 ended
 finish

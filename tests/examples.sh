@@ -7,10 +7,10 @@
 # - `antt`: is part of the callers' proofs, word for word;
 # - `sh`: is run as it is, except that `rt run` runs the program that is tried.
 #
-# tests/interop.sh runs those of docs/SCALE.md, and tests/contracts.sh has those of
-# docs/CONTRACTS.md. Of docs/LIBRARY.md, docs/C.md, docs/RUST.md, docs/PYTHON.md and
-# docs/JAVASCRIPT.md the tests of these names run the programs, and those of the same languages in
-# README.md, which have at most eight lines each.
+# tests/interop.sh runs those of docs/SCALE.md, tests/contracts.sh has those of docs/CONTRACTS.md,
+# and release/check runs those of README.md that use a file of a release. Of docs/LIBRARY.md,
+# docs/C.md, docs/RUST.md, docs/PYTHON.md and docs/JAVASCRIPT.md the tests of these names run the
+# programs, and those of the same languages in README.md, which have at most eight lines each.
 #
 # usage: tests/examples.sh [PROGRAM]
 . "$(dirname "$0")/common.bash" || exit 1
@@ -80,6 +80,12 @@ try_block() {
     docs/SCALE.md:sh | docs/LIBRARY.md:sh | docs/CONTRACTS.md:rust) ;;
     docs/C.md:* | docs/RUST.md:* | docs/PYTHON.md:* | docs/JAVASCRIPT.md:*) ;;
     *:text) try_examples "$1" "$3" ;;
+    README.md:sh)
+        case $3 in
+        'tar -xf '* | 'pip install '* | 'npm install '*) ;;
+        *) try_commands "$1" "$3" ;;
+        esac
+        ;;
     *:sh) try_commands "$1" "$3" ;;
     *:rust)
         [[ "$callers"$'\n'"$library" == *"$3"* ]]

@@ -11,18 +11,6 @@ if ! command -v node >/dev/null; then
     finish
 fi
 
-# Node 20 and 22 have 64-bit memory by a flag, and Node 24 without one.
-probe='const empty = Uint8Array.of(0, 97, 115, 109, 1, 0, 0, 0, 5, 3, 1, 4, 1);
-process.exit(WebAssembly.validate(empty) ? 0 : 1)'
-flags=()
-if ! node -e "$probe"; then
-    flags=(--experimental-wasm-memory64)
-    if ! node "${flags[@]}" -e "$probe" 2>/dev/null; then
-        skip "the package for JavaScript: node $(node --version) has no 64-bit memory"
-        finish
-    fi
-fi
-
 package=$room/package
 if [ $# = 0 ]; then
     bindings/javascript/build.sh --lanes "$package" || exit 1
@@ -34,6 +22,26 @@ page=$PWD/docs/JAVASCRIPT.md
 readme=$PWD/README.md
 cp -r "$source/tests" "$package"
 cd "$room" || exit 1
+
+# The package has 32-bit memory, unless it was built without wasm-opt. Node 20 and 22 have 64-bit
+# memory by a flag, and Node 24 without one.
+probe='const empty = Uint8Array.of(0, 97, 115, 109, 1, 0, 0, 0, 5, 3, 1, 4, 1);
+process.exit(WebAssembly.validate(empty) ? 0 : 1)'
+has64=yes
+flags64=()
+if ! node -e "$probe"; then
+    flags64=(--experimental-wasm-memory64)
+    node "${flags64[@]}" -e "$probe" 2>/dev/null || has64=
+fi
+flags=()
+if ! grep -qx 'export const ADDRESS_BITS = 32;' package/src/module.js; then
+    skip 'the module of 32-bit memory: no wasm-opt (binaryen)'
+    if [ -z "$has64" ]; then
+        skip "the package for JavaScript: node $(node --version) has no 64-bit memory"
+        finish
+    fi
+    flags=("${flags64[@]}")
+fi
 
 # quietly COMMAND..: what it says is printed if it fails.
 quietly() {
@@ -62,9 +70,21 @@ with it from the sources of Bamsturk"
 is 'without the module' "$wanted" "$(node "${flags[@]}" -e "
     import('$source/src/index.js').catch((it) => console.log(it.message))")"
 
-holds 'the tests of the package' quietly node "${flags[@]}" --test package/tests/*.test.js
-tried=$(sed -n 's/^# pass //p' said)
-[ "${tried:-0}" -ge 35 ] || fail "the package has fewer than 35 tests: $tried"
+# Its tests import ../src: for 64-bit memory they are beside a copy of memory64 with this name.
+mkdir with64
+cp -r package/{package.json,memory64,tests} with64
+mv with64/memory64 with64/src
+for pair in package:"${flags[*]}" ${has64:+with64:"${flags64[*]}"}; do
+    holds "the tests of the $pair" quietly node ${pair#*:} --test "${pair%%:*}"/tests/*.test.js
+    tried=$(sed -n 's/^# pass //p' said)
+    [ "${tried:-0}" -ge 34 ] || fail "$pair has fewer than 34 tests: $tried"
+done
+[ -n "$has64" ] || skip "64-bit memory: node $(node --version) has none"
+is 'the files of both' "$(ls package/src)" "$(ls package/memory64)"
+for file in package/src/*; do
+    [ "${file##*/}" = module.js ] ||
+        holds "the same: ${file##*/}" cmp "$file" "package/memory64/${file##*/}"
+done
 
 # What the module gives, and that it asks for nothing.
 cat >module.mjs <<'END_OF_MODULE'
@@ -111,9 +131,11 @@ if command -v npm >/dev/null; then
     holds 'the other commands of docs/JAVASCRIPT.md' quietly bash -ec "${commands#*$'\n'}"
     cd ..
     is 'what is installed' "LICENSE
+README.md
+$(cd "$source/src" && printf 'memory64/%s\n' *)
 package.json
 $(cd "$source" && printf '%s\n' src/*)" \
-        "$(cd program/node_modules/data-encoding && printf '%s\n' LICENSE package.json src/*)"
+        "$(cd program/node_modules/data-encoding && find . -type f | sed 's:^\./::' | sort)"
     mkdir lacking
     cp -r "$source"/{package.json,src} lacking
     is 'nothing is packed without the module' 1 \

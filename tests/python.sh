@@ -51,9 +51,15 @@ holds 'the half in C' quietly "$cc" -std=c99 -Wall -Wextra -Wpedantic -Werror "-
 wanted="DATA_ENCODING_DIR has to be the absolute path of a folder with libdata_encoding.a, which \
 \`crates/data_encoding_c/build.sh FOLDER\` makes from the sources of Bamsturk"
 for folder in '' "$room" lib; do
-    given=$(cd bindings/python && DATA_ENCODING_DIR=$folder "$python" setup.py --version 2>&1)
+    given=$(cd bindings/python && DATA_ENCODING_DIR=$folder PYTHONWARNINGS=ignore "$python" setup.py -q \
+        build_ext 2>&1)
     is "without a library in '$folder'" "$wanted" "$given"
 done
+is 'an sdist, which needs none' "data_encoding-$version" \
+    "$(cd bindings/python && env -u DATA_ENCODING_DIR "$python" setup.py -q sdist --dist-dir .. \
+        >/dev/null 2>&1 && tar -tf ../data*"$version.tar.gz" | head -n 1 | tr -d / | tr - _ |
+        sed "s/_$version/-$version/")"
+rm -rf bindings/python/src/*.egg-info bindings/python/build
 
 offline=(--no-build-isolation --no-index --no-deps)
 holds 'a wheel' quietly "$python" -m pip wheel "${offline[@]}" --wheel-dir wheels ./bindings/python

@@ -14,7 +14,7 @@ fi
 find_library "$@"
 crate=$room/bamsturk/bindings/rust
 mkdir -p "$crate"
-cp -r bindings/rust/{Cargo.toml,build.rs,rustfmt.toml,src,tests} "$crate"
+cp -r bindings/rust/{Cargo.toml,rustfmt.toml,src,sys,tests} "$crate"
 export DATA_ENCODING_DIR=$lib
 export CARGO_TARGET_DIR=$room/target
 export CARGO_NET_OFFLINE=true
@@ -28,6 +28,11 @@ cargo_in() {
         tail -n 60 "$room/said"
         return 1
     }
+}
+
+# unnamed COMMAND..: with no variable that names a library.
+unnamed() {
+    (unset DATA_ENCODING_DIR && "$@")
 }
 
 holds 'the tests of the crate' cargo_in "$crate" test
@@ -46,6 +51,7 @@ else
 fi
 if cargo fmt --version >/dev/null 2>&1; then
     holds 'the layout of its files' cargo_in "$crate" fmt --check
+    holds 'the layout of those of sys' cargo_in "$crate/sys" fmt --check
 else
     skip 'the layout of the files: this cargo has no fmt'
 fi
@@ -56,8 +62,23 @@ for folder in '' "$room" lib; do
     given=$(cd "$crate" && DATA_ENCODING_DIR=$folder cargo check 2>&1 | sed -n 's/^ *\(DATA_.*FOLDER.*\)/\1/p')
     is "without a library in '$folder'" "$wanted" "$given"
 done
-given=$(cd "$crate" && env -u DATA_ENCODING_DIR cargo check 2>&1 | sed -n 's/^ *\(DATA_.*FOLDER.*\)/\1/p')
-is 'without DATA_ENCODING_DIR' "$wanted" "$given"
+# Without a library the crate is checked and documented, and linking names the target that has none.
+host=$(rustc -vV | sed -n 's/^host: //p')
+for command in check doc; do
+    holds "cargo $command without a library" unnamed cargo_in "$crate" "$command"
+    is "what cargo $command says" 1 "$(grep -c "no library for $host: .*\[\]" "$room/said")"
+done
+unnamed cargo_in "$crate" build
+is 'what cargo build says' 1 \
+    "$(grep -c "^error: could not find native .*\`data_encoding-for-$host\`" "$room/said")"
+
+# The library of a target in lib is taken.
+mkdir -p "$crate/sys/lib/$host"
+cp "$lib/libdata_encoding.a" "$crate/sys/lib/$host"
+touch "$crate/sys/build.rs"
+holds 'a library in lib' unnamed cargo_in "$crate" test --tests
+rm -r "$crate/sys/lib"
+touch "$crate/sys/build.rs"
 
 # What the crate declares of a de_encoding is large enough.
 size=$(sed -n 's/^const TABLES_SIZE: usize = \([0-9]*\);$/\1/p' "$crate/src/ffi.rs")
@@ -119,7 +140,7 @@ new_package program 2.11 <<END
 between = { path = "../between" }
 macros = { path = "../macros" }
 
-$(block docs/RUST.md toml | sed "s:\"bamsturk/:\"$room/bamsturk/:")
+$(block docs/RUST.md toml | sed "s:\"data-encoding-rust-.*\":\"$crate\":")
 END
 {
     block docs/RUST.md rust

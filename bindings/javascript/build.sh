@@ -3,13 +3,19 @@
 # JavaScript, with the module in it as text. In DIR `npm pack` makes one file of it, and from there
 # it can be imported as it is.
 #
+# The module has a memory with 64-bit addresses. wasm-opt, of Debian's package binaryen, makes one
+# with 32-bit addresses of it, which src/ has; memory64/ has the same files with the first. Without
+# wasm-opt src/ has the first, too, and this is said.
+#
 # usage: bindings/javascript/build.sh [--lanes] DIR
 #
 # The calls are those of data_encoding_c. crates.txt lists a crate for one platform, so that this is
 # done in a copy of the crates, outside the checkout, where that crate is one for WebAssembly. There
 # groups go by words in place of lanes, which are taken apart where vectors are not used: with
 # the same contracts, which are proved again. --lanes leaves it as it is, so that no crate below that
-# one is proved twice; large data then takes five times as long. The module is kept in out/.
+# one is proved twice; large data then takes five times as long. The module is kept in out/. Of what
+# was proved in this checkout only that is proved again which the change reaches: where all was, it
+# takes some minutes, and else as long as the first proof of the crates.
 set -euo pipefail
 
 way=words
@@ -30,28 +36,29 @@ module=$here/out/$way.wasm
 room=$(mktemp -d)
 trap 'rm -rf "$room"' EXIT
 
-# is_same CRATE: the copy of this crate is as it is here.
-is_same() {
-    [ "$way" = lanes ] || [ "$1" = data_encoding_meaning ]
+# below CRATE..: these crates of crates.txt and those that they use.
+below() {
+    local name
+    for name in "$@"; do
+        echo "$name"
+        below $(sed -nE "s/^$name( staticlib)?: *//p" "$top/crates.txt")
+    done
 }
 
-# copy_crates: the sources of the crates of this checkout, and what was proved of those that stay as
-# they are.
+# copy_crates: the crates of this checkout that are needed, with what was proved of them: of those
+# that stay as they are, what the crates above them use.
 copy_crates() {
-    local folder name copy part
-    for folder in "$top"/crates/*/; do
-        name=$(basename "$folder")
-        copy=$room/crates/$name
-        mkdir -p "$copy/out"
-        for part in src specs proofs; do
-            [ ! -d "$folder/$part" ] || cp -r "$folder/$part" "$copy"
+    local name part proved=out
+    [ "$way" = words ] || proved=out/rlib
+    for name in $(below "$crate" | sort -u); do
+        [ -d "$top/crates/$name" ] || continue
+        mkdir -p "$room/crates/$name/out"
+        for part in src specs proofs $proved; do
+            [ ! -d "$top/crates/$name/$part" ] ||
+                cp -a "$top/crates/$name/$part" "$room/crates/$name/$(dirname "$part")"
         done
-        if is_same "$name" && [ -d "$folder/out/rlib" ]; then
-            cp -rl "$folder/out/rlib" "$copy/out" 2>/dev/null ||
-                cp -r "$folder/out/rlib" "$copy/out"
-        fi
-    done
-    sed "s/^$crate staticlib:/$crate wasm64:/" "$top/crates.txt" >"$room/crates.txt"
+        sed -n "s/^$name staticlib:/$name wasm64:/; /^$name[ :]/p" "$top/crates.txt"
+    done >"$room/crates.txt"
     cp "$top/HANDLES" "$room/HANDLES"
 }
 
@@ -83,6 +90,7 @@ by_words() {
 # Nothing is proved again where no source is newer than the module.
 if [ ! -f "$module" ] || [ -n "$(find "$top/crates.txt" "$top"/crates/*/{src,specs,proofs} \
     -newer "$module" -print -quit 2>/dev/null)" ]; then
+    [ "$way" = lanes ] || echo 'proves the module for WebAssembly, which takes some minutes' >&2
     copy_crates
     [ "$way" = lanes ] || by_words
     if ! (cd "$room/crates/$crate" && rt lib) >"$room/log" 2>&1; then
@@ -95,15 +103,34 @@ if [ ! -f "$module" ] || [ -n "$(find "$top/crates.txt" "$top"/crates/*/{src,spe
 fi
 
 version=$(sed -n 's/^  "version": "\(.*\)",$/\1/p' "$here/package.json")
-mkdir -p "$target/src"
-cp "$here/package.json" "$top/LICENSE" "$target"
-cp "$here"/src/* "$target/src"
+for part in src memory64; do
+    mkdir -p "$target/$part"
+    cp "$here"/src/* "$target/$part"
+done
+cp "$here"/{package.json,README.md} "$top/LICENSE" "$target"
 
 # section: what the module says its version by: a 0, a length, a name with its length, and a text.
 section() {
     printf "\\x00\\x$(printf %02x $((8 + ${#version})))\\x07version%s" "$version"
 }
-{
-    echo '/** The WebAssembly module, in base64. */'
-    echo "export const MODULE = \"$({ cat "$module" && section; } | base64 -w 0)\";"
-} >"$target/src/module.js"
+
+# put_module MODULE BITS FOLDER: the module as text, in the folder.
+put_module() {
+    {
+        echo '/** The WebAssembly module, in base64. */'
+        echo "export const MODULE = \"$({ cat "$1" && section; } | base64 -w 0)\";"
+        echo
+        echo '/** How many bits an address in the memory of the module has: 32 or 64. */'
+        echo "export const ADDRESS_BITS = $2;"
+    } >"$target/$3/module.js"
+}
+
+put_module "$module" 64 memory64
+if command -v wasm-opt >/dev/null; then
+    wasm-opt --enable-memory64 --enable-bulk-memory --memory64-lowering -O3 "$module" \
+        -o "$room/lowered.wasm"
+    put_module "$room/lowered.wasm" 32 src
+else
+    echo 'no wasm-opt (binaryen): the package has 64-bit memory alone' >&2
+    put_module "$module" 64 src
+fi

@@ -4,6 +4,7 @@ import os
 import sys
 
 from setuptools import Extension, setup
+from setuptools.command.build_ext import build_ext
 
 ARCHIVE = "libdata_encoding.a"
 # From Python 3.11 on the stable interface has what reads a buffer.
@@ -20,14 +21,22 @@ def folder() -> str:
     return found
 
 
-library = folder()
+class BuildWithLibrary(build_ext):
+    """Nothing but a build needs the library: an sdist is made without."""
+
+    def build_extension(self, ext: Extension) -> None:
+        library = folder()
+        ext.include_dirs.append(library)
+        ext.extra_objects.append(os.path.join(library, ARCHIVE))
+        super().build_extension(ext)
+
+
 setup(
+    cmdclass={"build_ext": BuildWithLibrary},
     ext_modules=[
         Extension(
             "data_encoding._native",
             ["src/data_encoding/_native.c"],
-            include_dirs=[library],
-            extra_objects=[os.path.join(library, ARCHIVE)],
             extra_compile_args=["-std=c99"],
             extra_link_args=["-Wl,--exclude-libs,ALL"],
             py_limited_api=True,

@@ -7,7 +7,8 @@
 #
 # The program is for the processors NAME: x86-64, x86-64-v2 or x86-64-v3. For x86-64-v2 it is the
 # one that `rt run` or `rt ci` built in out/; for others one is proved and built, and out/basecode
-# is unchanged. Without --cpu the program is for x86-64-v3 if this machine supports that.
+# is unchanged. Without --cpu the program is for x86-64-v3 if this machine supports that. A release
+# has both programs in bin/, and nothing is built.
 # Folders that were created are left when the files are removed. If DESTDIR is set, everything is
 # installed below that folder, as packages need it, and the program is for x86-64-v2 without --cpu.
 set -eu
@@ -44,6 +45,7 @@ supports_v3() {
 # Builds the program for the processors, as out/basecode-NAME. It may not run on this one, so the
 # status of `rt run` is ignored: whether the program was built is tested instead.
 build() {
+    [ "$built" = out ] || return 0
     mkdir -p out
     for file in basecode basecode.stamp; do
         if [ -e "out/$file" ]; then mv "out/$file" "out/$file.kept"; fi
@@ -89,19 +91,29 @@ esac
 prefix=${DESTDIR:+$(absolute "$DESTDIR")}$(absolute "$1")
 
 cd "$here"
-if [ "$remove$cpu${DESTDIR-}" = no ] && [ -x out/basecode ] && supports_v3; then
+built=out
+verb=builds
+if [ -d bin ]; then
+    built=bin
+    verb=installs
+fi
+if [ "$remove$cpu${DESTDIR-}" = no ] && [ -x "$built/basecode" ] && supports_v3; then
     cpu=x86-64-v3
-    echo 'builds the program for x86-64-v3, which this machine supports; not with --cpu x86-64-v2'
+    echo "$verb the program for x86-64-v3, which this machine supports; not with --cpu x86-64-v2"
 fi
 case $cpu in
-'' | x86-64-v2) program=out/basecode ;;
+'' | x86-64-v2) program=$built/basecode ;;
 *)
-    program=out/basecode-$cpu
+    program=$built/basecode-$cpu
     build
     ;;
 esac
 if [ "$remove" = no ] && [ ! -x "$program" ]; then
-    echo 'no program: "rt run -- list" in crates/basecode builds it' >&2
+    if [ "$built" = bin ]; then
+        echo "no program for $cpu in this release" >&2
+    else
+        echo 'no program: "rt run -- list" in crates/basecode builds it' >&2
+    fi
     exit 1
 fi
 files | while read -r file mode target; do

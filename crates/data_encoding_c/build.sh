@@ -3,26 +3,50 @@
 # libdata_encoding.a; libdata_encoding.so, a link to the file with the number of the interface in
 # its name; data_encoding.h; and the files of package/, by which pkg-config and CMake find these.
 #
-# usage: crates/data_encoding_c/build.sh [--cpu NAME] DIR
+# usage: crates/data_encoding_c/build.sh [--target ARCH] [--cpu NAME] DIR
 #
-# The library has the calls that read and write bytes twice, for x86-64-v2 and for x86-64-v3, and
-# runs those that the processor supports. With --cpu it has them once, for the processors NAME, and
-# runs on these only. CC and CFLAGS are for the half in C (cc, -O2).
+# ARCH is x86_64 or aarch64; without --target it is x86_64. For x86_64 the library has the calls
+# that read and write bytes twice, for x86-64-v2 and for x86-64-v3, and runs those that the processor
+# supports. With --cpu it has them once, for the processors NAME, and runs on these only. CC and
+# CFLAGS are for the half in C: without CC it is cc, and for aarch64 aarch64-linux-gnu-gcc, of
+# Debian's package gcc-aarch64-linux-gnu; -O2 is always given.
 set -euo pipefail
 
-cpu=()
-if [ $# = 3 ] && [ "$1" = --cpu ]; then
-    cpu=("--cpu=$2")
-    shift 2
-fi
-if [ $# != 1 ] || [ "${1#-}" != "$1" ]; then
-    echo 'usage: crates/data_encoding_c/build.sh [--cpu NAME] DIR' >&2
+usage() {
+    echo 'usage: crates/data_encoding_c/build.sh [--target ARCH] [--cpu NAME] DIR' >&2
     exit 2
-fi
+}
+
+arch=x86_64
+cpu=
+while [ $# -ge 2 ]; do
+    case $1 in
+    --target) arch=$2 ;;
+    --cpu) cpu=$2 ;;
+    *) usage ;;
+    esac
+    shift 2
+done
+[ $# = 1 ] && [ "${1#-}" = "$1" ] || usage
+triple=
+case $arch in
+x86_64) cc=${CC:-cc} ;;
+aarch64)
+    cc=${CC:-aarch64-linux-gnu-gcc}
+    triple=aarch64-unknown-linux-gnu
+    ;;
+*)
+    echo "build.sh: unknown target: $arch (x86_64, aarch64)" >&2
+    exit 2
+    ;;
+esac
+command -v "$cc" >/dev/null || {
+    echo "build.sh: no $cc, the C compiler for $arch" >&2
+    exit 1
+}
 mkdir -p "$1"
 target=$(realpath "$1")
 cd "$(dirname "$0")"
-cc=${CC:-cc}
 
 log=$(mktemp)
 room=$(mktemp -d)
@@ -30,7 +54,7 @@ trap 'rm -rf "$room" "$log"' EXIT
 
 # build OPTION..: proves the library, and builds it in out/.
 build() {
-    rt lib "$@" >"$log" 2>&1 && return
+    rt lib ${triple:+"--target=$triple"} "$@" >"$log" 2>&1 && return
     tail -n 20 "$log" >&2
     echo 'the library was not proved' >&2
     exit 1
@@ -51,12 +75,12 @@ join_wide() {
 }
 
 wide=()
-if [ ${#cpu[@]} = 0 ]; then
+if [ "$arch$cpu" = x86_64 ]; then
     build --cpu=x86-64-v3
     join_wide "$room/wide.o"
     wide=(-DDE_WIDE)
 fi
-build ${cpu[@]+"${cpu[@]}"}
+build ${cpu:+"--cpu=$cpu"}
 
 header=include/data_encoding.h
 version=$(sed -n 's/^#define DE_VERSION "\(.*\)"$/\1/p' "$header")

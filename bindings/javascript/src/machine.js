@@ -4,7 +4,7 @@
 // with the input of a call and after it its output. A call is given addresses and lengths of these
 // alone.
 
-import { MODULE } from "./module.js";
+import { ADDRESS_BITS, MODULE } from "./module.js";
 
 /** A module of 13 bytes whose memory has 64-bit addresses. */
 const PROBE = Uint8Array.of(0, 97, 115, 109, 1, 0, 0, 0, 5, 3, 1, 4, 1);
@@ -38,7 +38,10 @@ function moduleBytes() {
 }
 
 function compiled() {
-  if (typeof WebAssembly === "undefined" || !WebAssembly.validate(PROBE)) {
+  if (typeof WebAssembly === "undefined") {
+    throw new Error("there is no WebAssembly here");
+  }
+  if (ADDRESS_BITS === 64 && !WebAssembly.validate(PROBE)) {
     throw new Error(LACKING);
   }
   return new WebAssembly.Module(moduleBytes());
@@ -60,7 +63,7 @@ const { memory } = calls;
 const desk = aligned(Number(calls.__heap_base.value));
 const room = desk + ROOM;
 
-/** Node 20 counts the pages of such a memory by a number, and what came after it by a BigInt. */
+/** Node 20 counts the pages of a 64-bit memory by a number, and what came after it by a BigInt. */
 function countOf() {
   try {
     memory.grow(0n);

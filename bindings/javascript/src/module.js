@@ -6,3 +6,6 @@ throw new Error(
 
 /** The WebAssembly module, in base64. */
 export const MODULE = "";
+
+/** How many bits an address in the memory of the module has: 32 or 64. */
+export const ADDRESS_BITS = 0;

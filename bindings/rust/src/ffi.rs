@@ -9,6 +9,9 @@ use alloc::vec::Vec;
 use core::ffi::c_int;
 use core::str;
 
+// It has the library.
+use bamsturk_data_encoding_sys as _;
+
 #[cfg(feature = "alloc")]
 use crate::error::Refusal;
 #[cfg(feature = "alloc")]

@@ -1,0 +1,55 @@
+//! Links the library for C: that of lib/TARGET, which a release has, or the one in the folder that
+//! `DATA_ENCODING_DIR` names.
+//!
+//! Where there is none, `cargo check` and `cargo doc` need none, and what is built refers to a
+//! library whose name says the target that it lacks, so that only linking fails.
+
+use std::path::{Path, PathBuf};
+use std::{env, fs, process};
+
+const ARCHIVE: &str = "libdata_encoding.a";
+
+/// The targets that have a library in `lib`.
+fn targets(lib: &Path) -> Vec<String> {
+    let mut names: Vec<String> = fs::read_dir(lib)
+        .into_iter()
+        .flatten()
+        .filter_map(|entry| entry.ok()?.file_name().into_string().ok())
+        .collect();
+    names.sort();
+    names
+}
+
+fn link(folder: &Path) {
+    println!("cargo:rerun-if-changed={}", folder.join(ARCHIVE).display());
+    println!("cargo:rustc-link-search=native={}", folder.display());
+    println!("cargo:rustc-link-lib=static=data_encoding");
+}
+
+fn main() {
+    println!("cargo:rerun-if-env-changed=DATA_ENCODING_DIR");
+    let lib = Path::new(&env::var_os("CARGO_MANIFEST_DIR").unwrap()).join("lib");
+    if lib.is_dir() {
+        println!("cargo:rerun-if-changed=lib");
+    }
+    let target = env::var("TARGET").unwrap();
+    if let Some(folder) = env::var_os("DATA_ENCODING_DIR").map(PathBuf::from) {
+        if !folder.is_absolute() || !folder.join(ARCHIVE).is_file() {
+            eprintln!(
+                "DATA_ENCODING_DIR has to be the absolute path of a folder with {ARCHIVE}, which \
+                 `crates/data_encoding_c/build.sh FOLDER` makes from the sources of Bamsturk"
+            );
+            process::exit(1);
+        }
+        link(&folder);
+    } else if lib.join(&target).join(ARCHIVE).is_file() {
+        link(&lib.join(&target));
+    } else {
+        println!(
+            "cargo:warning=no library for {target}: this package has those for [{}], and \
+             DATA_ENCODING_DIR may name the folder of another",
+            targets(&lib).join(", ")
+        );
+        println!("cargo:rustc-link-lib=static=data_encoding-for-{target}");
+    }
+}

@@ -1,0 +1,96 @@
+#!/usr/bin/env bash
+# Builds the library for C for ARM64, and runs its tests, those of the crate for Rust and those of the
+# package for Python under qemu-aarch64; a digest of some hundred thousand calls is the same as that
+# of the library for x86-64.
+#
+# usage: tests/arm64.sh [LIB]: where build.sh left the library for x86-64; it is built if no folder is
+# given.
+#
+# Programs with threads are tried if ARM64_ROOT names a folder with libraries for ARM64, as
+# release/check says: with those of libc6-dev-arm64-cross, threads do not end in the emulator. They
+# are one in C, the tests of the crate and those of the package.
+. "$(dirname "$0")/common.bash" || exit 1
+
+cc=aarch64-linux-gnu-gcc
+for needed in $cc:gcc-aarch64-linux-gnu qemu-aarch64:qemu-user; do
+    if ! command -v "${needed%:*}" >/dev/null; then
+        skip "ARM64: no ${needed%:*} (${needed#*:})"
+        finish
+    fi
+done
+root=${ARM64_ROOT:-/usr/aarch64-linux-gnu}
+emulated=(timeout 300 qemu-aarch64 -L "$root")
+
+crates/data_encoding_c/build.sh --target aarch64 "$room/arm" || exit 1
+arm=$room/arm
+glue=crates/data_encoding_c/glue
+strict=(-std=c99 -Wall -Wextra -Wpedantic -Werror "-I$arm")
+
+# program NAME ARGUMENT..: compiles a program with these, and runs it; its exit status is 0.
+program() {
+    holds "$1: it is built" quietly "$cc" "${strict[@]}" "${@:2}" -o "$room/program"
+    holds "$1" quietly "${emulated[@]}" -E "LD_LIBRARY_PATH=$arm" "$room/program"
+}
+
+program 'calls in C' tests/c/calls.c "$arm/libdata_encoding.a"
+program 'calls of the shared library' tests/c/calls.c "-L$arm" -ldata_encoding
+program 'texts in pieces' tests/c/pieces.c "$arm/libdata_encoding.a"
+program 'data in pieces' tests/c/blocks.c "$arm/libdata_encoding.a"
+program 'what is written to a bool' tests/c/bools.c "$glue"/*.c "$arm/libdata_encoding.a" \
+    -Wl,--wrap=de_numbered_is_canonical,--wrap=de_held_is_canonical
+if [ -n "${ARM64_ROOT-}" ]; then
+    program 'two threads' tests/c/threads.c "$arm/libdata_encoding.a" -pthread
+else
+    skip 'two threads: no ARM64_ROOT'
+fi
+is 'what the shared library gives' "$(grep -o '^[a-z].*\bde_[a-z_]*(' "$arm/data_encoding.h" |
+    grep -o 'de_[a-z_]*($' | tr -d '(' | sort)" \
+    "$(nm -D --defined-only "$arm/libdata_encoding.so" | sed 's/.* //' | sort)"
+
+# digest CC LIBRARY RUN..: what tests/c/digest.c prints.
+digest() {
+    "$1" -std=c99 -O1 "-I$arm" tests/c/digest.c "$2/libdata_encoding.a" -o "$room/digest" || return
+    "${@:3}" "$room/digest"
+}
+
+find_library "$@"
+wanted=$(digest cc "$lib" env)
+is 'calls of the digest' 1 "$(grep -c '^[0-9]\{6,\} calls, digest [0-9a-f]\{16\}$' <<<"$wanted")"
+is 'the digest of the calls for each x86-64' "$wanted" "$(DE_CPU=baseline "$room/digest")"
+is 'the digest of the calls for ARM64' "$wanted" "$(digest "$cc" "$arm" "${emulated[@]}")"
+
+triple=aarch64-unknown-linux-gnu
+if [ -z "${ARM64_ROOT-}" ]; then
+    skip 'the crate for Rust: no ARM64_ROOT'
+elif [ -d /usr/lib/rustlib/$triple ] && [ -x /usr/bin/rustc ] && command -v cargo >/dev/null; then
+    crate=$room/rust
+    mkdir "$crate"
+    cp -r bindings/rust/{Cargo.toml,README.md,src,sys,tests} "$crate"
+    holds 'the tests of the crate for Rust' quietly env -C "$crate" RUSTC=/usr/bin/rustc \
+        "DATA_ENCODING_DIR=$arm" "CARGO_TARGET_DIR=$room/target" CARGO_NET_OFFLINE=true \
+        CARGO_TARGET_AARCH64_UNKNOWN_LINUX_GNU_LINKER=$cc \
+        "CARGO_TARGET_AARCH64_UNKNOWN_LINUX_GNU_RUNNER=${emulated[*]}" \
+        cargo test --tests --target $triple
+    tried=$(grep -c '^test .* ok$' "$room/said")
+    [ "$tried" -ge 45 ] || fail "the crate has fewer than 45 tests: $tried"
+else
+    skip 'the crate for Rust: no cargo, or no standard library (rustc-web, libstd-rust-web-dev:arm64)'
+fi
+
+python=/usr/bin/python3
+if [ -z "${ARM64_ROOT-}" ]; then
+    skip 'the package for Python: no ARM64_ROOT'
+elif [ ! -f /usr/include/aarch64-linux-gnu/python3.11/pyconfig.h ] ||
+    ! "$python" -c 'import setuptools, wheel' 2>/dev/null; then
+    skip 'the package for Python: no python3-setuptools, python3-wheel or libpython3.11-dev:arm64'
+else
+    cp -r bindings/python "$room/python"
+    holds 'the package for Python is built' quietly env -C "$room/python" "CC=$cc" \
+        "LDSHARED=$cc -shared" "DATA_ENCODING_DIR=$arm" _PYTHON_HOST_PLATFORM=linux-aarch64 \
+        "$python" setup.py build_ext --inplace
+    holds 'the tests of the package for Python' quietly "${emulated[@]}" \
+        -E "PYTHONHOME=$ARM64_ROOT/usr" -E "PYTHONPATH=$room/python/src" \
+        -E PYTHONDONTWRITEBYTECODE=1 "$ARM64_ROOT/usr/bin/python3.11" \
+        bindings/python/tests/test_data_encoding.py
+fi
+finish
