@@ -26,7 +26,8 @@ use Rattle.data_encoding_meaning.proofs.lists.RunLemmas.{runs-join}
 use Rattle.data_encoding_meaning.proofs.lists.PartLemmas.{groups-within}
 use Rattle.data_encoding_meaning.proofs.lists.WriteLemmas.{length-rewritten_same, rewritten, take-rewritten}
 use Rattle.data_encoding_kernel.specs.Runs.{IsRun}
-use Rattle.data_encoding.specs.Blocks.{AreKept, EndsBefore, HasPacked}
+use Rattle.data_encoding.specs.declared.decode.blocks.Packing.{Packing}
+use Rattle.data_encoding.specs.Blocks.{AreKept, EndsBefore, HasPacked, IsPacking}
 use Rattle.data_encoding.proofs.decoding.StepLemmas.{IsUnderWay, Sizes, after_group, after_none, room-next_group}
 
 -- what is gathered from the next bytes follows what was gathered before them
@@ -370,14 +371,17 @@ module _ {base : Base} {text : List ℕ} {sizes : Sizes} {start packed written :
       let before = rw all at found.2 in
       let both : gap ≡ short + (gap - short) = omega (arith, inside) in
       let rest : drop short front ≡ take (gap - short) (drop short part) =
-      rw both at (drop-take short (gap - short) part) in
-      let left : packed - (c.read + short) ≡ gap - short = omega arith in (
+      ap (λ n. drop short (take n part)) both ∙ drop-take short (gap - short) part in
+      let left : packed - (c.read + short) ≡ gap - short = omega arith in
+      let same : take (packed - (c.read + short)) (drop (c.read + short) text) ≡ drop short front =
+      ap (λ n. take n (drop (c.read + short) text)) left
+      ∙ ap (take (gap - short)) (sym (drop-drop short c.read text)) ∙ sym rest in
+      let are = kept-after base front bytes size last short (omega (arith, inside, front_len)) c.are
+      before (omega (arith, few)) in (
         short,
         inside,
         record { before = before; ends = found.3 },
-        rw (left, ← (drop-drop short c.read text), ← rest)
-            (kept-after base front bytes size last short (omega (arith, inside, front_len)) c.are
-            before (omega (arith, few))),
+        ap (λ l. bytes_in (kept base l)) same ∙ are,
       )
 
   -- what a run of its first groups does
@@ -478,6 +482,14 @@ end-is base text (suc n) few ends =
     (rw place at (ends (omega arith)))) in
     kept-ends base 0 text (suc n) few ends (omega (arith, more)) ∙ omega arith
 
+-- what is packed, with its positions
+packed-bytes : {base : Base} {text : List ℕ} {start packed written : ℕ}
+    {bytes output : List ℕ} (c : HasPacked base text start packed written bytes output)
+    → bytes_in (kept_in base c.read (take (packed - c.read) (drop c.read text))) ≡ bytes
+packed-bytes {base} {text} {start} {packed} c =
+    let part = take (packed - c.read) (drop c.read text) in
+    bytes-kept_in base c.read part ∙ sym (bytes-kept_in base 0 part) ∙ c.are
+
 -- The bytes that are packed and not decoded begin where the decoding has come to.
 pub packed-end : {base : Base} {text : List ℕ} {start packed written short : ℕ}
     {bytes output : List ℕ} (c : HasPacked base text start packed written bytes output)
@@ -486,10 +498,7 @@ pub packed-end : {base : Base} {text : List ℕ} {start packed written short : �
 packed-end {base} {text} {start} {packed} {written} {short} {bytes} c ends few =
     let inside : short ≤ packed = omega (arith, few, length-take-le packed text c.within) in
     let part = kept_in base c.read (take (packed - c.read) (drop c.read text)) in
-    let alike : bytes_in part ≡ bytes =
-    bytes-kept_in base c.read (take (packed - c.read) (drop c.read text))
-    ∙ sym (bytes-kept_in base 0 (take (packed - c.read) (drop c.read text))) ∙ c.are in
-    let part_len = length-by_bytes part bytes alike in
+    let part_len = length-by_bytes part bytes (packed-bytes c) in
     let more = kept-more base c.read text c.so_far.within packed c.few c.within in
     let all = ap length more ∙ length-append (kept base (take c.read text)) part in
     let front_is : take short (take packed text) ≡ take short text =
@@ -519,3 +528,55 @@ packed-ignored {base} {text} {start} {packed} {written} {bytes} c none =
       none = nil_from_length (kept base part)
           (length-by_bytes (kept base part) bytes c.are ∙ none);
     }
+
+-- no more are packed than there are
+pub packed-many : {base : Base} {text : List ℕ} {start packed written : ℕ}
+    {bytes output : List ℕ} (c : HasPacked base text start packed written bytes output)
+    → length bytes ≤ length (kept base (take packed text))
+packed-many {base} {text} {start} {packed} {written} {bytes} c =
+    let part = kept_in base c.read (take (packed - c.read) (drop c.read text)) in
+    let more = kept-more base c.read text c.so_far.within packed c.few c.within in
+    omega (
+      arith,
+      length-by_bytes part bytes (packed-bytes c),
+      ap length more,
+      length-append (kept base (take c.read text)) part,
+    )
+
+-- how many bytes of a block are not decoded
+pub packing-len : {base : Base} {text room : List ℕ} {at : Packing} {output : List ℕ}
+    → IsPacking base text room at output
+    → length (drop at.first (take at.end room)) ≡ at.end - at.first
+packing-len {room} {at} is =
+    omega (arith, length-drop at.first (take at.end room), length-take-le at.end room is.within)
+
+-- what is left of a block where it was moved to
+pub moved-front : (room new : List ℕ) (first end : ℕ) → first ≤ end → end - first ≤ 8
+    → take 8 new ≡ take 8 (drop first room)
+    → drop first (take end room) ≡ take (end - first) new
+moved-front room new first end ordered few moved =
+    let count = end - first in
+    let both : end ≡ first + count = omega (arith, ordered) in
+    ap (λ n. drop first (take n room)) both ∙ drop-take first count room
+    ∙ sym (take-take count 8 (drop first room) few) ∙ ap (take count) (sym moved)
+    ∙ take-take count 8 new few
+
+-- the bytes of a block that are not decoded, as a part of its room
+pub packing-part : (room : List ℕ) (first end : ℕ) → first ≤ end
+    → take (end - first) (take (length room - first) (drop first room))
+    ≡ drop first (take end room)
+packing-part room first end ordered =
+    let both : first + (end - first) ≡ end = omega (arith, ordered) in
+    ap (take (end - first)) (take_rest room first) ∙ sym (drop-take first (end - first) room)
+    ∙ ap (λ n. drop first (take n room)) both
+
+-- and the first group of them
+pub packing-group : (room : List ℕ) (first end size : ℕ) → first + size ≤ end
+    → take (first + size - first) (drop first room) ≡ take size (drop first (take end room))
+packing-group room first end size enough =
+    let both : first + (end - first) ≡ end = omega (arith, enough) in
+    let few : size ≤ end - first = omega (arith, enough) in
+    let count : first + size - first ≡ size = omega arith in
+    ap (λ n. take n (drop first room)) count ∙ sym (take-take size (end - first) (drop first room) few)
+    ∙ ap (take size) (sym (drop-take first (end - first) room)
+    ∙ ap (λ n. drop first (take n room)) both)

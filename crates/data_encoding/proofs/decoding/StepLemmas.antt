@@ -1,10 +1,10 @@
 -- A decoding in progress: what a run, a group and the end do to it.
-use Rattle.std.proofs.Common.{◌≡◌, ℕ, ◌+◌, ◌-◌, ◌*◌, ◌/◌, ◌%◌, ◌<◌, ◌≤◌, Bool, true, false, not, nat_lt, ◌&&◌, ◌==◌, ◌⊎◌, List, [], ◌++◌, length, take, drop, None, Ok, refl, sym, ap, ◌∙◌, subst, arith, length-take-le, ⊎_elim, inl, inr, map}
-use Rattle.std.proofs.Math.Nat.{mod_self, mul-le-mul_left}
+use Rattle.std.proofs.Common.{◌≡◌, ℕ, ◌+◌, ◌-◌, ◌*◌, ◌/◌, ◌%◌, ◌<◌, ◌≤◌, Bool, true, false, not, nat_lt, ◌&&◌, ◌==◌, ◌⊎◌, List, [], ◌++◌, length, take, drop, None, Ok, zero, suc, refl, sym, ap, ◌∙◌, subst, arith, length-take-le, ⊎_elim, inl, inr, map}
+use Rattle.std.proofs.Math.Nat.{mod_self, mul-div_cancel, mul-le-mul_left, mul-mod_left, zero-mod, zero-mul}
 use Rattle.std.proofs.Math.Seq.{take-add}
 use Rattle.std.proofs.lemmas.Bool.{eqb-true}
 use Rattle.std.proofs.lemmas.Bool.Decides.{nat_tests}
-use Rattle.std.proofs.lemmas.List.{drop-drop, length-drop, take_rest, length-map}
+use Rattle.std.proofs.lemmas.List.{drop-drop, get_or-take, length-drop, length-take, take-take, take_rest, length-map}
 use Rattle.std.proofs.lemmas.Nat.{div-add-mod'}
 use Rattle.std.proofs.lemmas.Slice.{take-put_mid_below}
 use Rattle.data_encoding_meaning.proofs.decoding.WholeLengthLemmas.{most_bytes-few, whole_bytes}
@@ -12,8 +12,9 @@ use Rattle.data_encoding_meaning.specs.declared.error.DecodeError.{DecodeError}
 use Rattle.data_encoding_meaning.specs.declared.error.DecodePartial.{DecodePartial}
 use Rattle.data_encoding_meaning.specs.declared.error.GroupFault.{GroupFault}
 use Rattle.data_encoding_meaning.specs.text.Base.{Base, IsWidth, group_bytes, group_symbols, is_padded, meaning, IsGroup}
-use Rattle.data_encoding_meaning.specs.decoding.Decoding.{HasFault, HasNoLastRun, HasRoom, IsDecoded, IsDecodedGroup, IsGathered, IsLastRun, IsIgnoredFront, valid_front, HasDecodedTo}
+use Rattle.data_encoding_meaning.specs.decoding.Decoding.{HasFault, HasNoLastRun, HasRoom, IsDecoded, IsDecodedGroup, IsGathered, IsLastRun, IsIgnoredFront, run_bytes, valid_front, HasDecodedTo}
 use Rattle.data_encoding_kernel.specs.Runs.{IsRun}
+use Rattle.data_encoding.specs.declared.decode.steps.Reached.{Reached}
 use Rattle.data_encoding.specs.Steps.{HasStopped}
 use Rattle.data_encoding_meaning.specs.decoding.Fault.{position_of}
 use Rattle.data_encoding_meaning.specs.text.Grammar.{Positioned, bytes_in, kept, kept_from}
@@ -106,6 +107,9 @@ module _ {base : Base} {text : List ℕ} {sizes : Sizes} {read written : ℕ} {e
 
   pub written-few : written ≤ length text
   written-few = omega (arith, s.so_far.fits, s.size_is, most_bytes-few base s.width (length text))
+
+  pub output-few : length output ≤ length text
+  output-few = omega (arith, s.size_is, most_bytes-few base s.width (length text))
 
   -- if another output of that length holds it too
   further : {stop count : ℕ} {final : Bool} {new : List ℕ} → length new ≡ length output
@@ -414,3 +418,97 @@ pub some-group : {base : Base} {size : ℕ} {part group : List ℕ} {span : ℕ}
 some-group {group} is empty_is some =
     let none : (length group == 0) ≡ false = sym empty_is ∙ some in
     grind (arith, nat_tests)
+
+-- How far a run of this many bytes brings a decoding: it has whole groups, or none.
+pub record HasTurned (base : Base) (text : List ℕ) (sizes : Sizes) (at next : Reached)
+    (output : List ℕ) : Type 0 where
+  pub so_far : HasDecodedTo base text next.read next.written false output
+  pub front : IsIgnoredFront base (drop next.read text) next.ignored
+  pub further : at.read ≤ next.read
+  pub past : at.read < next.read → at.read + at.ignored ≤ next.read
+  pub whole : (next.read - at.read - at.ignored) % sizes.symbols ≡ 0
+  pub before : HasDecodedTo base text at.read at.written false output
+
+-- A run of so many groups at the start of what follows ignored bytes, up to a position.
+module _ {base : Base} {text : List ℕ} {sizes : Sizes} (at : Reached) {output : List ℕ}
+    (s : IsUnderWay base text sizes at.read at.written false output)
+    (front : IsIgnoredFront base (drop at.read text) at.ignored) (most : ℕ) {count : ℕ}
+    {new old : List ℕ}
+    (new_len : length new
+    ≡ length (take (length output - at.written) (drop at.written output)))
+    (run : IsRun base (take most (take (length text - (at.read + at.ignored))
+    (drop (at.read + at.ignored) text))) count old new) where
+  abbrev rest : List ℕ
+  rest = take (length text - (at.read + at.ignored)) (drop (at.read + at.ignored) text)
+
+  whole_run : IsRun base rest count old new
+  whole_run =
+      let few : count * group_symbols base.width ≤ most =
+      omega (arith, run.within, length-take most rest) in
+      record {
+        within = omega (arith, run.within, length-take most rest);
+        are_symbols = λ k less.
+            rw (← (get_or-take most rest k 0 (omega (arith, less, few)))) (run.are_symbols k less);
+        bytes = run.bytes
+            ∙ ap (run_bytes base) (take-take (count * group_symbols base.width) most rest few);
+      }
+
+  -- where it ends, and what it writes, fit
+  pub turned-fits : (at.read + at.ignored + count * sizes.symbols ≤ length text)
+      × (at.written + count * sizes.bytes ≤ length text)
+  turned-fits = by count refl where
+    by : (n : ℕ) → count ≡ n → (at.read + at.ignored + count * sizes.symbols ≤ length text)
+        × (at.written + count * sizes.bytes ≤ length text)
+    by zero is =
+        let starts : at.read + at.ignored ≤ length text =
+        omega (arith, front.within, s.so_far.within, length-drop at.read text) in
+        rw is (
+          omega (arith, starts, zero-mul sizes.symbols),
+          omega (arith, written-few s, zero-mul sizes.bytes),
+        )
+    by (suc n) is =
+        let next = after_run s front new_len whole_run (omega (arith, is)) in
+        (next.so_far.within, written-few next)
+
+  pub turned : (len : ℕ) → len ≡ count * sizes.symbols → 0 < sizes.symbols → (next : Reached)
+      → (len ≡ 0 → next ≡ at) → (0 < len → next.read ≡ at.read + at.ignored + len)
+      → (0 < len → next.written ≡ at.written + len / sizes.symbols * sizes.bytes)
+      → (0 < len → IsIgnoredFront base (drop next.read text) next.ignored)
+      → HasTurned base text sizes at next (rewritten at.written output new)
+  turned len whole pos next none read_is written_is ignored = by count refl where
+    same : HasDecodedTo base text at.read at.written false (rewritten at.written output new)
+    same = (after_none s new new_len).so_far
+
+    by : (n : ℕ) → count ≡ n
+        → HasTurned base text sizes at next (rewritten at.written output new)
+    by zero is =
+        let is_at = none (whole ∙ ap (λ n. n * sizes.symbols) is ∙ zero-mul sizes.symbols) in
+        let zero_span : at.read - at.read - at.ignored ≡ 0 = omega arith in
+        subst (λ r. HasTurned base text sizes at r (rewritten at.written output new)) (sym is_at)
+        (record {
+          so_far = same;
+          front = front;
+          further = omega arith;
+          past = λ less. absurd (omega (arith, less));
+          whole = rw zero_span (zero-mod sizes.symbols);
+          before = same;
+        })
+    by (suc n) is =
+        let some : 0 < len = omega (arith, whole, ap (λ n. n * sizes.symbols) is, pos) in
+        let go = after_run s front new_len whole_run (omega (arith, is)) in
+        let groups : len / sizes.symbols ≡ count =
+        ap (λ n. n / sizes.symbols) whole ∙ mul-div_cancel count pos in
+        let read_at : next.read ≡ at.read + at.ignored + count * sizes.symbols =
+        read_is some ∙ ap (λ n. at.read + at.ignored + n) whole in
+        let written_at : next.written ≡ at.written + count * sizes.bytes =
+        written_is some ∙ ap (λ n. at.written + n * sizes.bytes) groups in
+        let span : next.read - at.read - at.ignored ≡ count * sizes.symbols =
+        omega (arith, read_at) in
+        record {
+          so_far = rw (read_at, written_at) go.so_far;
+          front = ignored some;
+          further = omega (arith, read_at);
+          past = λ less. omega (arith, read_at);
+          whole = rw span (mul-mod_left count sizes.symbols);
+          before = same;
+        }

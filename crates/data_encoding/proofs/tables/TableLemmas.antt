@@ -2,7 +2,7 @@
 use Rattle.std.proofs.Common.{◌≡◌, ℕ, ◌*◌, ◌/◌, ◌%◌, ◌^◌, ◌<◌, ◌≤◌, ◌==◌, true, false, length, take, get_or, Option, Some, None, IfSome, refl, sym, ap, ◌∙◌, subst, arith, ⊎_elim}
 use Rattle.std.proofs.lemmas.Bool.{cases_lt}
 use Rattle.std.proofs.lemmas.Bool.Decides.{nat_tests}
-use Rattle.std.proofs.lemmas.List.{get_or-take, get_or_past}
+use Rattle.std.proofs.lemmas.List.{get_or-take, get_or_past, length-map, length-take}
 use Rattle.data_encoding_meaning.specs.declared.encoding.BitOrder.{BitOrder}
 use Rattle.data_encoding_meaning.specs.text.Base.{Base, symbol, is_ignored, is_padding, is_symbol, IsWidth}
 use Rattle.data_encoding.specs.Encoding.{EncodingTables, KeepsPadding, KeepsRules, base_of_tables}
@@ -120,3 +120,9 @@ module _ (e : EncodingTables) (rules : KeepsRules e) (seen : Base)
   pub Reads-seen : (width : ℕ) (order : BitOrder) → seen.width ≡ width → seen.order ≡ order
       → Reads seen e.values width order
   Reads-seen width order w o = record { width_is = w; order_is = o; holds = HoldsValues-seen }
+
+  -- no byte from 128 on has a meaning
+  pub ascii-seen : length seen.meanings ≤ 128
+  ascii-seen =
+      subst (λ (base : Base). length base.meanings ≤ 128) is
+      (omega (arith, length-map (take 128 e.values) meaning_of_entry, length-take 128 e.values))

@@ -242,6 +242,7 @@ fn pack_next(
     room: &mut [u8],
 ) -> (Packing, usize)
     requires within { at.read + span ≤ length input.now }
+    requires ordered { at.first ≤ at.end }
     requires few { at.end - at.first < 8 }
     requires first { at.end + 8 ≤ length room.old }
     requires room { span + 24 ≤ length room.old }

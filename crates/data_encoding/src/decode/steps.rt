@@ -1,6 +1,6 @@
 //! Decoding step by step: a run of whole groups, and the group that follows it.
 
-ghost use Rattle.std.specs.Prelude.{◌≡◌, ℕ, List, true, false, ◌-◌, ◌+◌, ◌%◌, ◌<◌, ◌≤◌, length, drop, Ok};
+ghost use Rattle.std.specs.Prelude.{◌≡◌, ℕ, List, true, false, ◌-◌, ◌+◌, ◌*◌, ◌/◌, ◌%◌, ◌<◌, ◌≤◌, length, drop, Ok};
 ghost use Rattle.data_encoding_meaning.specs.text.Base.{Base, ignores_some};
 ghost use Rattle.data_encoding_meaning.specs.decoding.Decoding.{HasDecodedTo, IsIgnoredFront};
 ghost use Rattle.data_encoding.specs.Steps.{HasEnded, HasStepped};
@@ -127,7 +127,8 @@ impl EncodingRef<'_> {
 
     // Decodes runs by turns of eight groups, as long as the text has as many. With `packs`, a run
     // may be short, and then it is not decoded if what follows it may be decoded by blocks.
-    #[inline(always)]
+    // Not inlined, so that shorter texts do not pay for the stack that turns take.
+    #[inline(never)]
     fn decode_long_runs<L: LookUp, O: ConstantOrder, G: GroupSize>(
         &self,
         values: &[u8; 256],
@@ -194,6 +195,7 @@ impl EncodingRef<'_> {
         ensures further { at.read ≤ result.read }
         ensures past { at.read < result.read → at.read + at.ignored ≤ result.read }
         ensures whole { (result.read - at.read - at.ignored) % G.SYMBOLS ≡ 0 }
+        ensures before { HasDecodedTo self.now input.now at.read at.written false output.new }
     {
         let rest = &input[at.read + at.ignored..];
         let most = expected_len(values, len, rest);
@@ -229,11 +231,11 @@ impl EncodingRef<'_> {
     {
         let mut at = at;
         for _ in 0..input.len() {
-            let next = self.decode_run_after_ignored::<L, O, G>(values, look_up, at, input, output);
-            if next.read == at.read {
+            let read = at.read;
+            at = self.decode_run_after_ignored::<L, O, G>(values, look_up, at, input, output);
+            if at.read == read {
                 break;
             }
-            at = next;
             at.ignored = ignored_front(values, &input[at.read..]);
             if at.ignored == 0 {
                 break;
@@ -376,7 +378,16 @@ fn expected_len(values: &[u8; 256], len: usize, rest: &[u8]) -> usize
 
 // How far a text is decoded after a run of this length, which is that of whole groups.
 #[inline(always)]
-fn after_run<G: GroupSize>(values: &[u8; 256], len: usize, at: Reached, input: &[u8]) -> Reached {
+fn after_run<G: GroupSize>(values: &[u8; 256], len: usize, at: Reached, input: &[u8]) -> Reached
+    requires read { at.read + at.ignored + len ≤ length input.now }
+    requires limit { length input.now ≤ DECODE_LIMIT }
+    requires written { at.written + len / G.SYMBOLS * G.BYTES ≤ DECODE_LIMIT }
+    ensures none { len ≡ 0 → result ≡ at }
+    ensures read { 0 < len → result.read ≡ at.read + at.ignored + len }
+    ensures written { 0 < len → result.written ≡ at.written + len / G.SYMBOLS * G.BYTES }
+    ensures front { (base : Base) → HoldsValues base values.now → 0 < len
+        → IsIgnoredFront base (drop result.read input.now) result.ignored }
+{
     if len == 0 {
         return at;
     }

@@ -5,7 +5,7 @@ use Rattle.data_encoding.proofs.encoding.EncodingRef.decode_in_room.Given as goa
 abbrev pub invariant-loop : goal.invariant-loop
 invariant-loop g l = record {
   packing : IsPacking l.self l.input l.room l.now l.output;
-  start : l.now.start ≡ l.at.read;
+  start : l.now.start ≡ l.fn.at.read;
   few : l.now.end - l.now.first < 8;
   end : l.now.end + 8 ≤ length l.room;
   limit : l.len ≤ 512;

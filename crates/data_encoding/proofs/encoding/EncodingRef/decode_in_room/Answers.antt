@@ -1,0 +1,89 @@
+use Rattle.std.proofs.Common.{◌≡◌, ◌+◌, ◌-◌, ◌<◌, ◌≤◌, ◌∙◌, length, arith}
+use Rattle.data_encoding_meaning.proofs.digits.SizeLemmas.{IsSmall-group}
+use Rattle.data_encoding_kernel.specs.Tables.{Reads}
+use Rattle.data_encoding.specs.Blocks.{HasReached, IsPacking}
+use Rattle.data_encoding.proofs.decoding.BlockLemmas.{packed-nothing}
+use Rattle.data_encoding.proofs.tables.TableLemmas.{Reads-seen, ascii-seen}
+use Rattle.data_encoding.proofs.encoding.EncodingRef.decode_in_room.Given.{Over}
+use Rattle.data_encoding.proofs.encoding.EncodingRef.decode_in_room.Goals as goal
+use Rattle.data_encoding.proofs.encoding.EncodingRef.decode_in_room.Goals.{After-after_blocks, else-loop-test, then-loop-test+then-is_last}
+
+pub loop-init : goal.loop-init
+loop-init g c = record {
+  packing = record {
+    ordered = omega arith;
+    within = omega arith;
+    packed = packed-nothing c.requires.so_far;
+  };
+  start = λ _. c.args.at.read;
+  few = omega arith;
+  end = omega (arith, c.requires.room);
+  limit = omega arith;
+  fits = omega (arith, c.requires.room);
+}
+
+pub decode_packed-now-requires-clause-reads : goal.decode_packed-now-requires-clause-reads
+decode_packed-now-requires-clause-reads g c =
+    Reads-seen _ c.self.invariant c.args.self.now c.self.view_is g.G.GroupSize.WIDTH
+    g.O.ConstantOrder.ORDER c.requires.width c.requires.order
+
+pub decode_packed-now-requires-clause-packing : goal.decode_packed-now-requires-clause-packing
+decode_packed-now-requires-clause-packing g c =
+    let reads = decode_packed-now-requires-clause-reads g c in
+    c.pack_next-mixed.ensures.packing c.args.self.now
+    (c.of-ignored.ensures c.args.self.now reads.holds (ascii-seen _ c.self.invariant c.args.self.now
+    c.self.view_is))
+    c.loop.output c.loop.invariant.packing
+
+pub loop-preserved : goal.loop-preserved
+loop-preserved g c =
+    let small = IsSmall-group g.G.GroupSize.is_group in
+    record {
+      packing = c.decode_packed-now.ensures.packing;
+      start = c.decode_packed-now.ensures.start ∙ c.pack_next-mixed.ensures.start
+          ∙ c.loop.invariant.start;
+      few = omega (arith, c.if-now-SYMBOLS.false, c.SYMBOLS.ensures, small.few_symbols);
+      end = omega (
+        arith,
+        c.decode_packed-now.ensures.end,
+        c.pack_next-mixed.ensures.end,
+        c.min-span.ensures,
+        c.loop.invariant.fits,
+        c.pack_next-mixed.auto.room,
+      );
+      limit = c.next_len-len.ensures.limit;
+      fits = omega (arith, c.next_len-len.ensures.fits, c.pack_next-mixed.auto.room);
+    }
+
+-- where the blocks ended
+reached : (g : Over) (c : After-after_blocks g)
+    → HasReached c.args.self.now c.args.input.now c.args.at.read c.after_blocks.result
+    c.loop-test.output
+reached g c =
+    let reads = Reads-seen _ c.self.invariant c.args.self.now c.self.view_is g.G.GroupSize.WIDTH
+    g.O.ConstantOrder.ORDER c.requires.width c.requires.order in
+    let packing : IsPacking c.args.self.now c.args.input.now c.loop-test.room c.loop-test.now
+    c.loop-test.output =
+    elim c.loop-test.branch [
+      | else-loop-test w ↦ rw (w.room-is, w.now-is, w.output-is) c.loop.invariant.packing
+      | then-loop-test+then-is_last w ↦
+          rw (w.room-is, w.now-is, w.output-is) w.decode_packed-now.ensures.packing
+    ] in
+    let start : c.loop-test.now.start ≡ c.args.at.read =
+    elim c.loop-test.branch [
+      | else-loop-test w ↦ rw w.now-is c.loop.invariant.start
+      | then-loop-test+then-is_last w ↦
+          rw w.now-is (w.decode_packed-now.ensures.start ∙ w.pack_next-mixed.ensures.start
+          ∙ c.loop.invariant.start)
+    ] in
+    rw start at (c.after_blocks.ensures c.args.self.now reads.holds c.loop-test.room
+    c.loop-test.output packing)
+
+pub returns-clause-so_far : goal.returns-clause-so_far
+returns-clause-so_far g c = (reached g c).so_far
+
+pub returns-clause-front : goal.returns-clause-front
+returns-clause-front g c = (reached g c).front
+
+pub returns-clause-further : goal.returns-clause-further
+returns-clause-further g c = (reached g c).further

@@ -1,0 +1,103 @@
+use Rattle.std.proofs.Common.{◌≡◌, ◌+◌, ◌-◌, ◌*◌, ◌/◌, ◌<◌, ◌≤◌, ◌&&◌, ◌∙◌, not, nat_lt, length, take, drop, inl, inr, refl, ap, arith, subst, sym, length-take-le}
+use Rattle.std.proofs.lemmas.List.{drop-drop}
+use Rattle.data_encoding_meaning.proofs.decoding.GroupJudgementLemmas.{few-bits}
+use Rattle.data_encoding_meaning.proofs.digits.SizeLemmas.{IsGroup-same}
+use Rattle.data_encoding_meaning.proofs.lists.PartLemmas.{IsWhole-same}
+use Rattle.data_encoding_meaning.proofs.lists.WriteLemmas.{rewritten}
+use Rattle.data_encoding_meaning.specs.decoding.Decoding.{IsDecodedGroup}
+use Rattle.data_encoding.specs.Blocks.{HasPacked}
+use Rattle.data_encoding.proofs.decoding.StepLemmas.{IsUnderWay, after_none, final-not, under_way}
+use Rattle.data_encoding.proofs.decoding.BlockLemmas.{packed-group, packed-group_room, packing-group, packing-len}
+use Rattle.data_encoding.proofs.encoding.EncodingRef.decode_packed_group.Given.{Over}
+use Rattle.data_encoding.proofs.encoding.EncodingRef.decode_packed_group.Goals as goal
+use Rattle.data_encoding.proofs.encoding.EncodingRef.decode_packed_group.Goals.{After-SYMBOLS, After-WIDTH, else-count-SYMBOLS-via-then-count-SYMBOLS+else-not-self, else-count-SYMBOLS-via-else-count-SYMBOLS}
+
+-- the group is the first of the block
+first : (g : Over) (c : After-SYMBOLS g)
+    → take (c.args.at.first + c.SYMBOLS.result - c.args.at.first)
+    (drop c.args.at.first c.args.room.now)
+    ≡ take g.G.GroupSize.SYMBOLS (drop c.args.at.first (take c.args.at.end c.args.room.now))
+first g c =
+    rw c.SYMBOLS.ensures
+    (packing-group c.args.room.now c.args.at.first c.args.at.end g.G.GroupSize.SYMBOLS
+    c.requires.whole)
+
+enough : (g : Over) (c : After-SYMBOLS g) → g.G.GroupSize.SYMBOLS
+    ≤ length (drop c.args.at.first (take c.args.at.end c.args.room.now))
+enough g c = omega (arith, packing-len c.requires.packing, c.requires.whole)
+
+len : (g : Over) (c : After-SYMBOLS g)
+    → length (take (c.args.at.first + c.SYMBOLS.result - c.args.at.first)
+    (drop c.args.at.first c.args.room.now)) ≡ g.G.GroupSize.SYMBOLS
+len g c =
+    rw (first g c)
+    (length-take-le g.G.GroupSize.SYMBOLS
+    (drop c.args.at.first (take c.args.at.end c.args.room.now)) (enough g c))
+
+pub decode_group-requires-clause-some : goal.decode_group-requires-clause-some
+decode_group-requires-clause-some g c =
+    let before = (goal.at.decode_group-requires-clause-some g c).After-SYMBOLS in
+    let some = (IsWhole-same refl refl g.G.GroupSize.is_group).some_symbols in
+    omega (arith, len g before, some)
+
+pub decode_group-requires-clause-room : goal.decode_group-requires-clause-room
+decode_group-requires-clause-room g c whole =
+    let before = (goal.at.decode_group-requires-clause-room g c).After-SYMBOLS in
+    let p = c.requires.packing.packed in
+    rw (first g before)
+    (packed-group_room p
+    (under_way g.G.GroupSize.is_group c.requires.width c.requires.exact p.so_far)
+    (enough g before))
+
+pub returns-then-not-self-clause-packing : goal.returns-then-not-self-clause-packing
+returns-then-not-self-clause-packing g c =
+    let is = c.requires.packing in
+    let p = is.packed in
+    record {
+      ordered = is.ordered;
+      within = is.within;
+      packed = record {
+        read = p.read;
+        after = p.after;
+        few = p.few;
+        within = p.within;
+        are = p.are;
+        so_far = (after_none (under_way g.G.GroupSize.is_group c.requires.width
+            c.requires.exact p.so_far) _ c.decode_group.auto.output).so_far;
+      };
+    }
+
+pub overflow_mul-result : goal.overflow_mul-result
+overflow_mul-result g c =
+    let few = few-bits g.G.GroupSize.is_group c.WIDTH.ensures c.in-Ok.count
+    (omega (
+      arith,
+      len g (goal.at.overflow_mul-result g c).After-SYMBOLS,
+      c.in-Ok.ensures.sound.within,
+    )) in
+    record { fits = omega (arith, few) }
+
+pub returns-clause-packing : goal.returns-clause-packing
+returns-clause-packing g c =
+    let before = (goal.at.returns-clause-packing g c).After-SYMBOLS in
+    let is = c.requires.packing in
+    let p = is.packed in
+    let block = take c.args.at.end c.args.room.now in
+    let group = IsGroup-same c.WIDTH.ensures refl refl g.G.GroupSize.is_group in
+    let s = under_way group (c.requires.width ∙ sym c.WIDTH.ensures) c.requires.exact p.so_far in
+    let sound = subst (λ part. IsDecodedGroup c.args.self.now part c.in-Ok.count
+    c.decode_group.new.output) (first g before) c.in-Ok.ensures.sound in
+    let group_len = ap length (sym (first g before)) ∙ len g before in
+    let final = final-not c.in-Ok.count _ c.self.view_is
+    (elim c.else-count-SYMBOLS.branch [
+      | else-count-SYMBOLS-via-then-count-SYMBOLS+else-not-self b ↦ inl b.if-not-self.false
+      | else-count-SYMBOLS-via-else-count-SYMBOLS b ↦
+          inr (omega (arith, group_len, b.if-count-SYMBOLS.false, c.SYMBOLS-2.ensures))
+    ]) in
+    let next = packed-group p s (enough g before) c.decode_group.auto.output sound final in
+    record {
+      ordered = omega (arith, c.requires.whole, c.SYMBOLS-3.ensures);
+      within = is.within;
+      packed = rw (c.SYMBOLS-3.ensures, ← (drop-drop g.G.GroupSize.SYMBOLS c.args.at.first block))
+          next;
+    }

@@ -1,0 +1,126 @@
+use Rattle.std.proofs.Common.{◌≡◌, ◌+◌, ◌-◌, ◌*◌, ◌/◌, ◌%◌, ◌<◌, ◌≤◌, ◌∙◌, length, refl, ap, arith, sym}
+use Rattle.std.proofs.Math.Nat.{mul-div_cancel}
+use Rattle.std.proofs.lemmas.Nat.{div-add-mod'}
+use Rattle.data_encoding_meaning.proofs.lists.PartLemmas.{IsWhole-same}
+use Rattle.data_encoding_meaning.proofs.lists.WriteLemmas.{rewritten}
+use Rattle.data_encoding.proofs.decoding.StepLemmas.{HasTurned, turned, turned-fits, under_way}
+use Rattle.data_encoding.proofs.encoding.EncodingRef.decode_run_by_turns.Given.{Over}
+use Rattle.data_encoding.proofs.encoding.EncodingRef.decode_run_by_turns.Goals as goal
+use Rattle.data_encoding.proofs.encoding.EncodingRef.decode_run_by_turns.Goals.{After-after_run, After-after_run-2}
+
+-- what the first turns decoded
+first : (g : Over) (c : After-after_run g) → HasTurned c.args.self.now c.args.input.now
+    (record {
+      width = g.G.GroupSize.WIDTH;
+      bytes = g.G.GroupSize.BYTES;
+      symbols = g.G.GroupSize.SYMBOLS;
+    })
+    c.args.at c.after_run.result
+    (rewritten c.args.at.written c.args.output.now c.decode_by_turns-count.new.output)
+first g c =
+    let size = g.G.GroupSize.SYMBOLS in
+    let pos = (IsWhole-same refl refl g.G.GroupSize.is_group).some_symbols in
+    let whole : c.args.len ≡ c.decode_by_turns-count.result / size * size =
+    omega (
+      arith,
+      div-add-mod' c.args.len size,
+      c.requires.whole,
+      ap (λ n. n / size * size) c.if-count-len.true,
+    ) in
+    turned c.args.at (under_way g.G.GroupSize.is_group c.requires.reads.width_is c.requires.exact
+    c.requires.so_far) c.requires.front c.expected_len-most.result
+    c.decode_by_turns-count.auto.output
+    (c.decode_by_turns-count.ensures.run c.args.values.now c.requires.held c.args.self.now
+    c.requires.reads) c.args.len whole pos c.after_run.result c.after_run.ensures.none
+    c.after_run.ensures.read c.after_run.ensures.written
+    (c.after_run.ensures.front c.args.self.now c.requires.reads.holds)
+
+-- and those of a run of another length
+second : (g : Over) (c : After-after_run-2 g) → HasTurned c.args.self.now c.args.input.now
+    (record {
+      width = g.G.GroupSize.WIDTH;
+      bytes = g.G.GroupSize.BYTES;
+      symbols = g.G.GroupSize.SYMBOLS;
+    })
+    c.args.at c.after_run-2.result
+    (rewritten c.args.at.written c.args.output.now c.decode_by_turns-count.new.output)
+second g c =
+    let size = g.G.GroupSize.SYMBOLS in
+    let count = c.decode_by_turns-count.result in
+    let pos = (IsWhole-same refl refl g.G.GroupSize.is_group).some_symbols in
+    let whole : count - count % c.SYMBOLS.result ≡ count / size * size =
+    omega (arith, div-add-mod' count size, ap (λ n. count % n) c.SYMBOLS.ensures) in
+    turned c.args.at (under_way g.G.GroupSize.is_group c.requires.reads.width_is c.requires.exact
+    c.requires.so_far) c.requires.front c.expected_len-most.result
+    c.decode_by_turns-count.auto.output
+    (c.decode_by_turns-count.ensures.run c.args.values.now c.requires.held c.args.self.now
+    c.requires.reads) (count - count % c.SYMBOLS.result) whole pos c.after_run-2.result
+    c.after_run-2.ensures.none c.after_run-2.ensures.read c.after_run-2.ensures.written
+    (c.after_run-2.ensures.front c.args.self.now c.requires.reads.holds)
+
+pub returns-then-count-len-clause-so_far : goal.returns-then-count-len-clause-so_far
+returns-then-count-len-clause-so_far g c = (first g c).so_far
+
+pub returns-then-count-len-clause-front : goal.returns-then-count-len-clause-front
+returns-then-count-len-clause-front g c = (first g c).front
+
+pub returns-then-count-len-clause-further : goal.returns-then-count-len-clause-further
+returns-then-count-len-clause-further g c = (first g c).further
+
+pub returns-then-count-len-clause-past : goal.returns-then-count-len-clause-past
+returns-then-count-len-clause-past g c = (first g c).past
+
+pub returns-then-count-len-clause-whole : goal.returns-then-count-len-clause-whole
+returns-then-count-len-clause-whole g c = (first g c).whole
+
+pub returns-then-count-len-clause-before : goal.returns-then-count-len-clause-before
+returns-then-count-len-clause-before g c = (first g c).before
+
+pub nonzero_rem-count : goal.nonzero_rem-count
+nonzero_rem-count g c = (IsWhole-same refl c.SYMBOLS.ensures g.G.GroupSize.is_group).some_symbols
+
+pub returns-clause-so_far : goal.returns-clause-so_far
+returns-clause-so_far g c = (second g c).so_far
+
+pub returns-clause-front : goal.returns-clause-front
+returns-clause-front g c = (second g c).front
+
+pub returns-clause-further : goal.returns-clause-further
+returns-clause-further g c = (second g c).further
+
+pub returns-clause-past : goal.returns-clause-past
+returns-clause-past g c = (second g c).past
+
+pub returns-clause-whole : goal.returns-clause-whole
+returns-clause-whole g c = (second g c).whole
+
+pub returns-clause-before : goal.returns-clause-before
+returns-clause-before g c = (second g c).before
+
+pub after_run-requires-clause-written : goal.after_run-requires-clause-written
+after_run-requires-clause-written g c =
+    let size = g.G.GroupSize.SYMBOLS in
+    let fits = turned-fits c.args.at (under_way g.G.GroupSize.is_group c.requires.reads.width_is
+    c.requires.exact c.requires.so_far) c.requires.front c.expected_len-most.result
+    c.decode_by_turns-count.auto.output
+    (c.decode_by_turns-count.ensures.run c.args.values.now c.requires.held c.args.self.now
+    c.requires.reads) in
+    let same = ap (λ n. n / size * g.G.GroupSize.BYTES) c.if-count-len.true in
+    omega (arith, fits.1, same, c.requires.limit)
+
+pub after_run-requires-2-clause-written : goal.after_run-requires-2-clause-written
+after_run-requires-2-clause-written g c =
+    let size = g.G.GroupSize.SYMBOLS in
+    let count = c.decode_by_turns-count.result in
+    let pos = (IsWhole-same refl refl g.G.GroupSize.is_group).some_symbols in
+    let fits = turned-fits c.args.at (under_way g.G.GroupSize.is_group c.requires.reads.width_is
+    c.requires.exact c.requires.so_far) c.requires.front c.expected_len-most.result
+    c.decode_by_turns-count.auto.output
+    (c.decode_by_turns-count.ensures.run c.args.values.now c.requires.held c.args.self.now
+    c.requires.reads) in
+    let whole : count - count % c.SYMBOLS.result ≡ count / size * size =
+    omega (arith, div-add-mod' count size, ap (λ n. count % n) c.SYMBOLS.ensures) in
+    let groups : (count - count % c.SYMBOLS.result) / size ≡ count / size =
+    ap (λ n. n / size) whole ∙ mul-div_cancel (count / size) pos in
+    let same = ap (λ n. n * g.G.GroupSize.BYTES) groups in
+    omega (arith, fits.1, same, c.requires.limit)
