@@ -32,7 +32,8 @@ pub trait DecodeTurn {
             → IsRunBy values G.WIDTH order input.now (result / G.SYMBOLS) output.old output.new };
 }
 
-/// Eight groups in lanes, up to the first byte that is refused. The look-up is held by value, so that it stays in registers.
+/// Eight groups in lanes, up to the first byte that is refused. The look-up is held by value, so
+/// that it stays in registers.
 #[derive(Clone, Copy, Drop)]
 pub struct Lanes<L> {
     pub look_up: L,
@@ -79,7 +80,8 @@ impl<L: LookUp> DecodeTurn for Few<L> {
     }
 }
 
-// Four groups or none, word by word, by the table itself: what a platform without vectors takes for `Few`.
+// Four groups or none, word by word, by the table itself: what a platform without vectors takes for
+// `Few`.
 impl DecodeTurn for [u8; 256] {
     ghost number = { λ width. 4 };
 
