@@ -96,7 +96,16 @@ fn decode_by_several<L: LookUp, O: ConstantOrder, G: GroupSize>(
         let first = decode_by_few::<L, O, G>(values, look_up, &input[..len], output);
         return (first, false);
     }
-    decode_by_lanes::<L, O, G>(values, look_up, input, len, output)
+    let count = count_turns_of_run::<G>(input.len(), len, output.len());
+    let at = decode_by_lanes::<L, O, G>(values, look_up, count, input, len, output);
+    let first = at / G::SYMBOLS;
+    if at == len {
+        return (first, true);
+    }
+    if entry_of(values, input[at]) >= 128 {
+        return (first, true);
+    }
+    (first, false)
 }
 
 // By turns of sixteen symbols. The sixteenth may end a padded group; then a turn would be wasted.
@@ -118,58 +127,65 @@ fn decode_by_few<L: LookUp, O: ConstantOrder, G: GroupSize>(
     decode_whole_turns::<Few<L>, G>(&Few { look_up: *look_up }, O::ORDER, input, output)
 }
 
-// By turns of eight groups, and then by those of sixteen symbols.
-#[inline(always)]
+// By as many turns of eight groups, and then by those of sixteen symbols. Returns how many bytes
+// were read; the whole groups among them are decoded.
+// Not inlined, so that shorter texts do not pay for the stack that lanes take.
+#[inline(never)]
 fn decode_by_lanes<L: LookUp, O: ConstantOrder, G: GroupSize>(
     values: &[u8; 256],
     look_up: &L,
+    count: usize,
     input: &[u8],
     len: usize,
     output: &mut [u8],
-) -> (usize, bool)
+) -> usize
     requires held { L.holds values.now look_up.now }
     requires few { len ≤ length input.now }
     requires room { len / G.SYMBOLS * G.BYTES ≤ length output.old }
-    ensures run { IsRunBy values.now G.WIDTH O.ORDER (take len input.now) result.0 output.old
-        output.new }
-    ensures longest { IsTrue result.1
-        → IsLongestBy values.now G.WIDTH O.ORDER (take len input.now) result.0 }
-    ensures within { result.0 ≤ len / G.SYMBOLS }
+    requires symbols { count * 8 * G.SYMBOLS ≤ length input.now }
+    requires bytes { count * 8 * G.BYTES ≤ length output.old }
+    ensures run { IsRunBy values.now G.WIDTH O.ORDER (take len input.now) (result / G.SYMBOLS)
+        output.old output.new }
+    ensures within { result ≤ len }
 {
     let symbols = G::SYMBOLS;
     let bytes = G::BYTES;
-    let at = decode_by_eights::<L, O, G>(look_up, input, len, output);
-    let first = at / symbols;
-    if at == len {
-        return (first, true);
+    let at = decode_by_eights::<L, O, G>(look_up, count, input, len, output);
+    let left = len - at;
+    // Eight groups are left only if they were refused. Fewer than sixteen symbols make no turn.
+    if left >= 8 * symbols || left < 16 {
+        return at;
     }
     if entry_of(values, input[at]) >= 128 {
-        return (first, true);
+        return at;
     }
     let part = &input[..len];
+    let first = at / symbols;
     let read = first * symbols;
     let written = first * bytes;
     let further = decode_by_few::<L, O, G>(values, look_up, &part[read..], &mut output[written..]);
-    (first + further, false)
+    (first + further) * symbols
 }
 
-// As `decode_by_turns`, where the output has room for all groups.
+// As `decode_by_turns`, by as many turns.
 #[inline(always)]
 fn decode_by_eights<L: LookUp, O: ConstantOrder, G: GroupSize>(
     look_up: &L,
+    count: usize,
     input: &[u8],
     len: usize,
     output: &mut [u8],
 ) -> usize
     requires few { len ≤ length input.now }
-    requires room { len / G.SYMBOLS * G.BYTES ≤ length output.old }
+    requires symbols { count * 8 * G.SYMBOLS ≤ length input.now }
+    requires bytes { count * 8 * G.BYTES ≤ length output.old }
     ensures run { (values : List ℕ) → L.holds values look_up.now
         → IsRunBy values G.WIDTH O.ORDER (take len input.now) (result / G.SYMBOLS) output.old
         output.new }
     ensures within { result ≤ len }
 {
-    let count = count_turns_of_run::<G>(input.len(), len, output.len());
-    let at = decode_eights::<L, O, G>(look_up, count, input, output);
+    let lanes = Lanes { look_up: *look_up };
+    let at = decode_turns::<Lanes<L>, G>(&lanes, O::ORDER, count, input, output);
     if at < len { at } else { len }
 }
 
@@ -193,24 +209,6 @@ fn count_turns_of_run<G: GroupSize>(input_len: usize, len: usize, output_len: us
         return whole;
     }
     whole + 1
-}
-
-// Not inlined, so that shorter texts do not pay for the stack that lanes take.
-#[inline(never)]
-fn decode_eights<L: LookUp, O: ConstantOrder, G: GroupSize>(
-    look_up: &L,
-    count: usize,
-    input: &[u8],
-    output: &mut [u8],
-) -> usize
-    requires few { count * 8 * G.SYMBOLS ≤ length input.now }
-    requires room { count * 8 * G.BYTES ≤ length output.old }
-    ensures run { (values : List ℕ) → L.holds values look_up.now
-        → IsRunBy values G.WIDTH O.ORDER input.now (result / G.SYMBOLS) output.old output.new }
-    ensures within { result ≤ count * 8 * G.SYMBOLS }
-{
-    let lanes = Lanes { look_up: *look_up };
-    decode_turns::<Lanes<L>, G>(&lanes, O::ORDER, count, input, output)
 }
 
 /// Decodes by turns of eight groups, up to the first byte that is no symbol or up to a length, as

@@ -32,8 +32,8 @@ pub trait DecodeTurn {
             → IsRunBy values G.WIDTH order input.now (result / G.SYMBOLS) output.old output.new };
 }
 
-/// Eight groups in lanes, up to the first byte that is refused. The look-up is held by value, so that
-/// it stays in registers.
+/// Eight groups in lanes, up to the first byte that is refused. The look-up is held by value, so
+/// that it stays in registers.
 #[derive(Clone, Copy, Drop)]
 pub struct Lanes<L> {
     pub look_up: L,
