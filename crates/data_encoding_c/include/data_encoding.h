@@ -11,6 +11,9 @@
  * DE_NONNULL).
  *
  * Lengths are in bytes. No text that is written ends in a NUL. No call allocates memory.
+ *
+ * The library is for Linux with glibc, on x86-64 (x86-64-v2 or newer, with calls for x86-64-v3 that
+ * are used where they run) and on 64-bit ARM (ARMv8-A or newer).
  */
 #ifndef DATA_ENCODING_H
 #define DATA_ENCODING_H
