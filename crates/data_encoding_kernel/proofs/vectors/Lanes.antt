@@ -1,5 +1,5 @@
 -- Worked rows of lanes: groups as words, their digits, and tables as rows.
-use Rattle.std.proofs.Common.{◌≡◌, ℕ, ◌+◌, ◌≤◌, true, false, List, [], ◌∷◌, ◌++◌, length, map, get_or, replicate, slice_index, codes, refl, sym, ap, ◌∙◌, arith, lit<, lit≤}
+use Rattle.std.proofs.Common.{◌≡◌, ℕ, zero, suc, ◌<◌, ◌+◌, ◌≤◌, true, false, List, [], ◌∷◌, ◌++◌, length, map, get_or, replicate, slice_index, codes, refl, sym, ap, ◌∙◌, arith, lit<, lit≤}
 use Rattle.std.proofs.lemmas.List.{get_or-map}
 use Rattle.std.proofs.lemmas.List.FromFn.{get_or-range_with_len, length-range_with_len}
 use Rattle.std.specs.List.{range_with_len}
@@ -11,7 +11,7 @@ use Rattle.data_encoding_kernel.specs.Affine.{HoldsAffine, affine_entry, affine_
 use Rattle.data_encoding_kernel.specs.AffineSymbols.{HoldsAffineSymbols, affine_symbol, first_of}
 use Rattle.data_encoding_kernel.specs.Lanes.{digits_of, group_word, group_words, halved_lane, spread_word}
 use Rattle.data_encoding_kernel.specs.Pairs.{high_half, low_half, split_lanes}
-use Rattle.data_encoding_kernel.specs.Values.{HoldsRows, IsRow, chosen_by, in_row, joined}
+use Rattle.data_encoding_kernel.specs.Values.{AreEntries, AreValues, HoldsRows, IsRow, chosen_by, in_row, joined}
 use Rattle.data_encoding_kernel.proofs.digits.PlainAffineLemmas.{agrees-holds}
 
 -- the words of `Hel` and `lo!`, the digits of the first, those a byte each, and its upper half
@@ -45,6 +45,24 @@ row_from start few = λ k inside.
     get_or-range_with_len (1000 + start) 16 k 0 inside
     ∙ omega arith
     ∙ sym (get_or-range_with_len 1000 128 (start + k) 0 (omega (arith, few, inside)))
+
+-- entries that are found: 5 at byte 1, and any of 128 or more at byte 0
+entries_found : AreEntries (7 ∷ 5 ∷ []) (1 ∷ 0 ∷ []) (5 ∷ 200 ∷ [])
+entries_found zero inside low = refl
+entries_found (suc zero) inside low = absurd (omega (arith, low))
+entries_found (suc (suc k)) inside low = absurd (omega (arith, inside))
+
+-- and one that is not
+entries_told : AreEntries (7 ∷ 5 ∷ []) (1 ∷ 0 ∷ []) (6 ∷ 200 ∷ []) → ⊥
+entries_told are = let six = are 0 (lit< tt) (lit< tt) in omega (arith, six)
+
+-- 3 has two bits, and 4 has not
+values_fit : AreValues (3 ∷ []) 2
+values_fit zero inside low = lit< tt
+values_fit (suc byte) inside low = lit< tt
+
+values_told : (rest : List ℕ) → AreValues (4 ∷ rest) 2 → ⊥
+values_told rest are = let four = are 0 (lit< tt) (lit< tt) in omega (arith, four)
 
 rows_held : HoldsRows table (record {
   first = range_with_len 1000 16;
