@@ -151,7 +151,9 @@ fn decode_by_lanes<L: LookUp, O: ConstantOrder, G: GroupSize>(
     let symbols = G::SYMBOLS;
     let bytes = G::BYTES;
     let at = decode_by_eights::<L, O, G>(look_up, count, input, len, output);
-    let left = len - at;
+    let first = at / symbols;
+    let read = first * symbols;
+    let left = len - read;
     // Eight groups are left only if they were refused. Fewer than sixteen symbols make no turn.
     if left >= 8 * symbols || left < 16 {
         return at;
@@ -160,8 +162,6 @@ fn decode_by_lanes<L: LookUp, O: ConstantOrder, G: GroupSize>(
         return at;
     }
     let part = &input[..len];
-    let first = at / symbols;
-    let read = first * symbols;
     let written = first * bytes;
     let further = decode_by_few::<L, O, G>(values, look_up, &part[read..], &mut output[written..]);
     (first + further) * symbols
