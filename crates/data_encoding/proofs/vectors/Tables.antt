@@ -124,7 +124,7 @@ text_packed :
     HasPacked base (codes "SG" ++ 10 ∷ codes "Vs") 0 5 0 (codes "SGVs") []
     × IsPacking base (codes "SG" ++ 10 ∷ codes "Vs") (codes "SGVs") packed_four []
     × HasReached base (codes "SG" ++ 10 ∷ codes "Vs") 0
-    (record { read = 0; written = 0; ignored = 0; is_short = false }) [])
+    (record { read = 0; written = 0; ignored = 0 }) [])
 text_packed = (
   packed,
   record { ordered = lit≤ tt; within = lit≤ tt; packed = packed },

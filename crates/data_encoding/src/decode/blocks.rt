@@ -312,7 +312,6 @@ fn after_blocks(values: &[u8; 256], now: Packing, input: &[u8]) -> Reached
         read,
         written: now.written,
         ignored,
-        is_short: false,
     }
 }
 

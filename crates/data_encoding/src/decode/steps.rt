@@ -35,9 +35,6 @@ pub(crate) struct Reached {
     pub(crate) read: usize,
     pub(crate) written: usize,
     pub(crate) ignored: usize,
-
-    // Whether the run that follows is short.
-    pub(crate) is_short: bool,
 }
 
 impl EncodingRef<'_> {
@@ -61,19 +58,18 @@ impl EncodingRef<'_> {
         ensures { HasEnded self.now input.now output.new stop.new result }
     {
         let order = O::ORDER;
-        let mut was_packed = false;
+        let mut is_short = false;
         while stop.read < input.len() {
             let mut at = self.decode_runs::<L, O, G>(
                 values,
                 look_up,
-                was_packed,
+                &mut is_short,
                 stop.read,
                 stop.written,
                 input,
                 output,
             );
-            was_packed = at.is_short;
-            if was_packed {
+            if is_short {
                 at = self.decode_by_blocks::<L, O, G>(at, input, output);
             }
             match self.decode_next::<G>(order, self.fields.ignores, at, input, output, stop) {
@@ -86,13 +82,15 @@ impl EncodingRef<'_> {
     }
 
     // Decodes runs of whole groups of symbols only, with ignored bytes between them, where they
-    // stand. A run after a block counts as long, since its first part was in the block.
+    // stand, and says whether the run that follows is short, so that blocks may take less time. If
+    // it was short before, a block came before this run, and had its first part: then it counts as
+    // long.
     #[inline(always)]
     fn decode_runs<L: LookUp, O: ConstantOrder, G: GroupSize>(
         &self,
         values: &[u8; 256],
         look_up: &L,
-        was_packed: bool,
+        is_short: &mut bool,
         read: usize,
         written: usize,
         input: &[u8],
@@ -112,28 +110,59 @@ impl EncodingRef<'_> {
             read,
             written,
             ignored: ignored_front(values, &input[read..]),
-            is_short: false,
         };
+        let packs = self.fields.ignores && !*is_short;
+        *is_short = false;
         if is_padded_next::<G>(values, at, input) {
             return at;
         }
-        let packs = self.fields.ignores && !was_packed;
-        let at = self.decode_long_runs::<L, O, G>(values, look_up, packs, at, input, output);
-        if at.is_short || input.len() - at.read - at.ignored >= 8 * G::SYMBOLS {
+        let at = self.decode_long_runs::<L, O, G>(
+            values, look_up, packs, is_short, at, input, output,
+        );
+        if *is_short || input.len() - at.read - at.ignored >= 8 * G::SYMBOLS {
             return at;
         }
-        self.decode_last_runs::<L, O, G>(values, look_up, packs, at, input, output)
+        self.decode_last_runs::<L, O, G>(values, look_up, packs, is_short, at, input, output)
     }
 
     // Decodes runs by turns of eight groups, as long as the text has as many. With `packs`, a run
     // may be short, and then it is not decoded if what follows it may be decoded by blocks.
-    // Not inlined, so that shorter texts do not pay for the stack that turns take.
-    #[inline(never)]
+    #[inline(always)]
     fn decode_long_runs<L: LookUp, O: ConstantOrder, G: GroupSize>(
         &self,
         values: &[u8; 256],
         look_up: &L,
         packs: bool,
+        is_short: &mut bool,
+        at: Reached,
+        input: &[u8],
+        output: &mut [u8],
+    ) -> Reached
+        requires reads { Reads self.now values.now G.WIDTH O.ORDER }
+        requires held { L.holds values.now look_up.now }
+        requires limit { length input.now ≤ DECODE_LIMIT }
+        requires exact { decoded_len self.now (length input.now) ≡ Ok (length output.old) }
+        requires so_far { HasDecodedTo self.now input.now at.read at.written false output.old }
+        requires front { IsIgnoredFront self.now (drop at.read input.now) at.ignored }
+        ensures so_far { HasDecodedTo self.now input.now result.read result.written false
+            output.new }
+        ensures front { IsIgnoredFront self.now (drop result.read input.now) result.ignored }
+        ensures further { at.read ≤ result.read }
+    {
+        if input.len() - at.read - at.ignored < 8 * G::SYMBOLS {
+            return at;
+        }
+        self.decode_runs_by_turns::<L, O, G>(values, look_up, packs, is_short, at, input, output)
+    }
+
+    // Not inlined, so that shorter texts do not pay for the stack that turns take.
+    #[inline(never)]
+    fn decode_runs_by_turns<L: LookUp, O: ConstantOrder, G: GroupSize>(
+        &self,
+        values: &[u8; 256],
+        look_up: &L,
+        packs: bool,
+        is_short: &mut bool,
         at: Reached,
         input: &[u8],
         output: &mut [u8],
@@ -158,8 +187,8 @@ impl EncodingRef<'_> {
             }
             let next = self.decode_run_by_turns::<L, O, G>(values, look_up, len, at, input, output);
             len = (next.read - at.read).saturating_sub(at.ignored);
-            if packs && is_short::<G>(values, len, next, input) {
-                at.is_short = true;
+            if packs && is_short_run::<G>(values, len, next, input) {
+                *is_short = true;
                 break;
             }
             at = next;
@@ -214,6 +243,7 @@ impl EncodingRef<'_> {
         values: &[u8; 256],
         look_up: &L,
         packs: bool,
+        is_short: &mut bool,
         at: Reached,
         input: &[u8],
         output: &mut [u8],
@@ -241,7 +271,7 @@ impl EncodingRef<'_> {
                 break;
             }
         }
-        at.is_short = packs
+        *is_short = packs
             && input.len() - at.read > LEAST_LEN
             && !is_padded_next::<G>(values, at, input);
         at
@@ -285,7 +315,6 @@ impl EncodingRef<'_> {
             read: start + count * G::SYMBOLS,
             written: at.written + count * G::BYTES,
             ignored: 0,
-            is_short: false,
         }
     }
 
@@ -396,7 +425,6 @@ fn after_run<G: GroupSize>(values: &[u8; 256], len: usize, at: Reached, input: &
         read,
         written: at.written + len / G::SYMBOLS * G::BYTES,
         ignored: ignored_front(values, &input[read..]),
-        is_short: false,
     }
 }
 
@@ -414,7 +442,7 @@ fn is_padded_next<G: GroupSize>(values: &[u8; 256], at: Reached, input: &[u8]) -
 // text goes on: it is shorter than a turn, and so many symbols are left that the room of a block is
 // worth its time; or it ends within a group.
 #[inline(always)]
-fn is_short<G: GroupSize>(values: &[u8; 256], len: usize, at: Reached, input: &[u8]) -> bool
+fn is_short_run<G: GroupSize>(values: &[u8; 256], len: usize, at: Reached, input: &[u8]) -> bool
     requires limit { length input.now ≤ DECODE_LIMIT }
     requires within { at.read + at.ignored ≤ length input.now }
 {

@@ -104,7 +104,6 @@ impl EncodingRef<'_> {
                 read: 0,
                 written: 0,
                 ignored: 0,
-                is_short: false,
             },
             input,
             output,
