@@ -119,13 +119,13 @@ impl EncodingRef<'_> {
         let at = self.decode_long_runs::<L, O, G>(
             values, look_up, packs, is_short, at, input, output,
         );
-        if *is_short || input.len() - at.read - at.ignored >= 8 * G::SYMBOLS {
+        if *is_short || input.len() - at.read - at.ignored >= 16 * G::SYMBOLS {
             return at;
         }
         self.decode_last_runs::<L, O, G>(values, look_up, packs, is_short, at, input, output)
     }
 
-    // Decodes runs by turns of eight groups, as long as the text has as many. With `packs`, a run
+    // Decodes runs by turns of eight groups, if the text has two turns or more. With `packs`, a run
     // may be short, and then it is not decoded if what follows it may be decoded by blocks.
     #[inline(always)]
     fn decode_long_runs<L: LookUp, O: ConstantOrder, G: GroupSize>(
@@ -149,7 +149,7 @@ impl EncodingRef<'_> {
         ensures front { IsIgnoredFront self.now (drop result.read input.now) result.ignored }
         ensures further { at.read ≤ result.read }
     {
-        if input.len() - at.read - at.ignored < 8 * G::SYMBOLS {
+        if input.len() - at.read - at.ignored < 16 * G::SYMBOLS {
             return at;
         }
         self.decode_runs_by_turns::<L, O, G>(values, look_up, packs, is_short, at, input, output)
