@@ -80,9 +80,9 @@ impl EncodingRef<'_> {
     }
 }
 
-// Returns `true` only if the first bytes, as many as a group has, are not ignored.
+/// Returns `true` only if the first bytes, as many as a group has, are not ignored.
 #[inline(always)]
-fn starts_whole<G: GroupSize>(values: &[u8; 256], rest: &[u8]) -> bool
+pub(crate) fn starts_whole<G: GroupSize>(values: &[u8; 256], rest: &[u8]) -> bool
     ensures { IsTrue result → (base : Base) → HoldsValues base values.now
         → IsGathered base G.SYMBOLS rest.now (take G.SYMBOLS rest.now) G.SYMBOLS }
 {

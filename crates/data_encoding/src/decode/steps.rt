@@ -7,6 +7,7 @@ ghost use Rattle.data_encoding.specs.Steps.{HasEnded, HasStepped};
 ghost use Rattle.data_encoding_meaning.specs.text.Lengths.{decoded_len};
 ghost use Rattle.data_encoding_kernel.specs.Tables.{HoldsValues, Reads};
 
+use crate::decode::next_group::starts_whole;
 use crate::decode::{DECODE_LIMIT, Stop};
 use crate::encoding::{BitOrder, EncodingRef, IGNORED, PADDING};
 use crate::error::DecodeKind;
@@ -271,9 +272,7 @@ impl EncodingRef<'_> {
                 break;
             }
         }
-        *is_short = packs
-            && input.len() - at.read > LEAST_LEN
-            && !is_padded_next::<G>(values, at, input);
+        *is_short = packs && is_broken_next::<G>(values, at, input);
         at
     }
 
@@ -439,18 +438,28 @@ fn is_padded_next<G: GroupSize>(values: &[u8; 256], at: Reached, input: &[u8]) -
 }
 
 // Whether blocks may take less time than runs like this one, of so many symbols, after which the
-// text goes on: it is shorter than a turn, and so many symbols are left that the room of a block is
+// text goes on: it is shorter than a turn, and so many bytes are left that the room of a block is
 // worth its time; or it ends within a group.
 #[inline(always)]
 fn is_short_run<G: GroupSize>(values: &[u8; 256], len: usize, at: Reached, input: &[u8]) -> bool
     requires limit { length input.now ≤ DECODE_LIMIT }
     requires within { at.read + at.ignored ≤ length input.now }
 {
-    let left = input.len() - at.read;
     if len > 0 && at.ignored > 0 {
+        let left = input.len() - at.read - at.ignored;
         return len < 6 * G::SYMBOLS && left > 12 * len;
     }
-    len < 16 * G::SYMBOLS && left > LEAST_LEN && !is_padded_next::<G>(values, at, input)
+    len < 16 * G::SYMBOLS && is_broken_next::<G>(values, at, input)
+}
+
+// Whether bytes are ignored within the next group, and more follow than are too few for a block.
+#[inline(always)]
+fn is_broken_next<G: GroupSize>(values: &[u8; 256], at: Reached, input: &[u8]) -> bool
+    requires limit { length input.now ≤ DECODE_LIMIT }
+    requires within { at.read + at.ignored ≤ length input.now }
+{
+    let rest = &input[at.read + at.ignored..];
+    rest.len() > LEAST_LEN && !starts_whole::<G>(values, rest)
 }
 
 // With fewer bytes left no block is worth its time.
