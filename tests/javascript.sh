@@ -57,12 +57,16 @@ is 'the version of the package' "$(sed -n 's/^## //p' "$OLDPWD/CHANGELOG.md" | h
 # The lines that go by words in a package that is built without --lanes.
 kernel=$OLDPWD/crates/data_encoding_kernel/src
 lines=$OLDPWD/crates/data_encoding/src/encode/lines.rt
-is 'what goes by words' '2 2 1 1 1 1' \
+steps=$OLDPWD/crates/data_encoding/src/decode/steps.rt
+is 'what goes by words' '2 2 1 1 1 1 1 1 1' \
     "$(grep -cF 'encode_eights::<EightByRows, G>(EightByRows,' "$kernel/encode.rt") \
 $(grep -cF 'encode_short::<G>(symbols,' "$kernel/encode.rt") \
 $(grep -cF 'input.len() >= LONG_DATA_LEN' "$kernel/encode.rt") \
-$(grep -cF 'if input.len() < eight ||' "$kernel/decode.rt") \
-$(grep -cF 'return decode_by_few::<L, O, G>(values, look_up, ' "$kernel/decode.rt") \
+$(grep -cF 'if input.len() < eight {' "$kernel/decode.rt") \
+$(grep -cF 'let first = decode_by_few::<L, O, G>(values, look_up, ' "$kernel/decode.rt") \
+$(grep -cF 'if input.len() - at.read - at.ignored < 16 ' "$steps") \
+$(grep -cF 'if *is_short || input.len() - at.read' "$steps") \
+$(grep -cF 'let packs = self.fields.ignores' "$steps") \
 $(grep -cF 'line_bytes / 8 >= G::BYTES' "$lines")"
 
 wanted="the WebAssembly module is not here: \`bindings/javascript/build.sh DIR\` makes a package \

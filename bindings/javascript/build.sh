@@ -65,7 +65,7 @@ copy_crates() {
 # put CRATE FILE OLD NEW: replaces one text by the other in a file of the copied crate.
 put() {
     local file=$room/crates/$1/src/$2
-    if ! grep -qF "$3" "$file"; then
+    if ! grep -q "$3" "$file"; then
         echo "$1 has no line with \`$3\`: build with --lanes" >&2
         exit 1
     fi
@@ -83,6 +83,12 @@ by_words() {
     put $kernel decode.rt 'if input.len() < eight {' 'if input.len() < eight || true {'
     put $kernel decode.rt 'let first = decode_by_few::<L, O, G>(values, look_up, ' \
         'let first = decode_whole_turns::<[u8; 256], G>(values, O::ORDER, '
+    put data_encoding decode/steps.rt 'if input.len() - at.read - at.ignored < 16 ' \
+        'if true || input.len() - at.read - at.ignored < 16 '
+    put data_encoding decode/steps.rt 'if \*is_short || input.len() - at.read' \
+        'if *is_short || false \&\& input.len() - at.read'
+    put data_encoding decode/steps.rt 'let packs = self.fields.ignores' \
+        'let packs = false \&\& self.fields.ignores'
     put data_encoding encode/lines.rt 'line_bytes / 8 >= G::BYTES' \
         'line_bytes / 8 >= G::BYTES \&\& false'
 }
