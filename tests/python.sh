@@ -63,6 +63,7 @@ rm -rf bindings/python/src/*.egg-info bindings/python/build
 
 offline=(--no-build-isolation --no-index --no-deps)
 holds 'a wheel' quietly "$python" -m pip wheel "${offline[@]}" --wheel-dir wheels ./bindings/python
+is 'the build that pip keeps' 1 "$(find bindings/python/build -name '_native*.so' | wc -l)"
 is 'the name of the wheel' 1 "$(ls wheels | grep -c "^data_encoding-$version-cp311-abi3-")"
 holds 'an installed wheel' quietly "$python" -m pip install "${offline[@]}" --no-compile \
     --target site wheels/*.whl
@@ -70,6 +71,19 @@ is 'what is installed' $'__init__.py\n_native.abi3.so\n_native.pyi\npy.typed' \
     "$(ls site/data_encoding)"
 is 'what the module gives' PyInit__native \
     "$(nm -D --defined-only site/data_encoding/_native.abi3.so | sed 's/.* //')"
+
+# A build that was kept is not taken in place of a library without calls, be it newer or older.
+mkdir empty
+cp lib/data_encoding.h empty
+for time in now 2020-01-01; do
+    : >empty/libdata_encoding.a
+    touch -d "$time" empty/*
+    is "a build with an empty library of $time" 1 \
+        "$(DATA_ENCODING_DIR=$room/empty "$python" -m pip wheel "${offline[@]}" \
+            --wheel-dir refused ./bindings/python 2>&1 |
+            grep -c "required symbol .de_version. not defined")"
+    is "no wheel with an empty library of $time" '' "$(ls refused 2>/dev/null)"
+done
 
 # Nothing is needed of the library once the wheel is built.
 export PYTHONPATH=$room/site

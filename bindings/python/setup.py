@@ -24,6 +24,12 @@ def folder() -> str:
 class BuildWithLibrary(build_ext):
     """Nothing but a build needs the library: an sdist is made without."""
 
+    def finalize_options(self) -> None:
+        super().finalize_options()
+        # pip keeps build/, and DATA_ENCODING_DIR may name another folder by now, with an older
+        # library: so times don't say whether a module that is there has this library in it.
+        self.force = True
+
     def build_extension(self, ext: Extension) -> None:
         library = folder()
         ext.include_dirs.append(library)
@@ -38,7 +44,8 @@ setup(
             "data_encoding._native",
             ["src/data_encoding/_native.c"],
             extra_compile_args=["-std=c99"],
-            extra_link_args=["-Wl,--exclude-libs,ALL"],
+            # Without the second, an empty archive would be linked.
+            extra_link_args=["-Wl,--exclude-libs,ALL", "-Wl,--require-defined=de_version"],
             py_limited_api=True,
         )
     ],
