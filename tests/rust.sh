@@ -173,4 +173,33 @@ is 'what the program of docs/RUST.md prints' $'SGVsbG8=\n220644==\ninvalid symbo
 is 'the one data-encoding of the program' 1 \
     "$(grep -c '^name = "data-encoding"' "$room/program/Cargo.lock")"
 
+# A program whose lock file has an older data-encoding keeps that one until it is updated. The older
+# one is a package of this test without code, in a folder in the place of the registry.
+mkdir -p "$room/vendor/data-encoding/src" "$room/locked/.cargo"
+older=$room/vendor/data-encoding
+printf '[package]\nname = "data-encoding"\nversion = "2.5.0"\n' >"$older/Cargo.toml"
+touch "$older/src/lib.rs"
+printf '{"files":{},"package":"%064d"}\n' 0 >"$older/.cargo-checksum.json"
+printf '[source.crates-io]\nreplace-with = "vendor"\n[source.vendor]\ndirectory = "%s"\n' \
+    "$room/vendor" >"$room/locked/.cargo/config.toml"
+new_package locked 2.5 </dev/null
+echo 'fn main() {}' >"$room/locked/src/main.rs"
+holds 'a lock file with an older data-encoding' cargo_in "$room/locked" generate-lockfile
+sed -n '/^\[patch/,$p' "$room/program/Cargo.toml" >>"$room/locked/Cargo.toml"
+
+# which_one: the version and the path of the data-encoding that the program is built with.
+which_one() {
+    cargo_in "$room/locked" build && (cd "$room/locked" && cargo tree -i data-encoding) 2>/dev/null |
+        head -n 1
+}
+
+is 'the older one is built' 'data-encoding v2.5.0' "$(which_one)"
+is 'what Cargo says of it' 1 \
+    "$(grep -c '^warning: patch .* was not used in the crate graph$' "$room/said")"
+holds 'the update of docs/RUST.md' cargo_in "$room/locked" update -p data-encoding --offline
+is 'this one is built after it' "data-encoding v2.11.1 ($crate)" "$(which_one)"
+is 'what docs/RUST.md says of it' 3 "$(grep -oE \
+    '`(cargo (update -p|tree -i) data-encoding|was not used in the crate graph)`' docs/RUST.md |
+    wc -l)"
+
 finish
