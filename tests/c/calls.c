@@ -350,6 +350,28 @@ static void own(void) {
     is("no bytes at null", DE_OK, de_encoding_encode(&encoding, NULL, 0, NULL, 0, &size));
 }
 
+/* What docs/COMING_FROM.md says of base64 without concatenated texts. */
+static void one_text(void) {
+    de_specification asked;
+    de_encoding encoding;
+    char texts[DE_TEXTS_LIMIT];
+    unsigned char data[8];
+    de_decoded decoded = {0, 0, 0};
+    is("base64", DE_OK, de_specification_of(DE_BASE64, &asked, texts, sizeof texts));
+    asked.concatenate = false;
+    is("one text", DE_OK, de_encoding_new(&encoding, &asked, NULL));
+    is("two texts", DE_OK, de_decode(DE_BASE64, "AA==AAA=", 8, data, sizeof data, &decoded));
+    is("two texts", 3, decoded.written);
+    is("not one text", DE_INVALID_PADDING,
+       de_encoding_decode(&encoding, "AA==AAA=", 8, data, sizeof data, &decoded));
+    is("not one text", 4, decoded.position);
+    is("trailing bits", DE_INVALID_TRAILING_BITS,
+       de_encoding_decode(&encoding, "SGl=", 4, data, sizeof data, &decoded));
+    is("trailing bits", 2, decoded.position);
+    is("one text", DE_OK, de_encoding_decode(&encoding, "SGk=", 4, data, sizeof data, &decoded));
+    holds("one text", decoded.written == 2 && memcmp(data, "Hi", 2) == 0);
+}
+
 /* A de_encoding is refused where any byte of its mark is another, and where all its bytes are the
  * same. */
 static void unmade(void) {
@@ -460,6 +482,7 @@ int main(void) {
     statuses();
     refusals();
     own();
+    one_text();
     unmade();
     stored();
     holds("the version", strcmp(de_version(), DE_VERSION) == 0);

@@ -30,6 +30,28 @@ test("the vectors of RFC 4648", () => {
   }
 });
 
+/** What docs/COMING_FROM.md says of these texts; `null` is an error of `atob`. */
+const COMING_FROM = [
+  ["AA==AAA=", null, "\0", [0, 0, 0], "padding at 4"],
+  ["SGl=", "Hi", "Hi", "trailing at 2", "trailing at 2"],
+  ["SGk", "Hi", "Hi", "length at 0", "length at 0"],
+  ["SGk=", "Hi", "Hi", [72, 105], [72, 105]],
+];
+
+test("where atob and Buffer decode otherwise", () => {
+  const single = new Encoding({ ...BASE64.specification(), concatenate: false });
+  for (const [text, byAtob, byBuffer, here, alone] of COMING_FROM) {
+    if (byAtob === null) {
+      assert.throws(() => atob(text), { name: "InvalidCharacterError" });
+    } else {
+      assert.equal(atob(text), byAtob);
+    }
+    assert.equal(Buffer.from(text, "base64").toString("latin1"), byBuffer);
+    assert.deepEqual(verdict(() => BASE64.decode(text)), here);
+    assert.deepEqual(verdict(() => single.decode(text)), alone);
+  }
+});
+
 test("the same as Buffer, of each length from 0 to 8,200", () => {
   const all = bytes(8200);
   const same = [[BASE64, "base64"], [BASE64URL_NOPAD, "base64url"], [HEXLOWER, "hex"]];

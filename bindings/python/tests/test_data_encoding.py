@@ -14,7 +14,7 @@ import sys
 import threading
 import time
 import unittest
-from typing import Any, Callable, List, Tuple
+from typing import Any, Callable, List, Optional, Tuple
 
 import data_encoding
 from data_encoding import BASE64, DecodeError, Decoder, Encoder, Encoding
@@ -82,6 +82,26 @@ class Calls(unittest.TestCase):
                 self.assertEqual(BASE64.decode(text), data)
             elif text != "Zm9vYg==Zm9v":
                 self.assertRaises(DecodeError, BASE64.decode, text)
+
+    def test_coming_from(self) -> None:
+        """What docs/COMING_FROM.md says of these texts."""
+        asked = BASE64.specification()
+        asked["concatenate"] = False
+        single = Encoding(**asked)
+        rows: List[Tuple[str, Optional[bytes], Tuple[Any, ...], Tuple[Any, ...]]] = [
+            ("AA==AAA=", None, ("data", bytes(3)), ("padding", 4)),
+            ("SGl=", b"Hi", ("trailing", 2), ("trailing", 2)),
+            ("SGk", None, ("length", 0), ("length", 0)),
+            ("SGk=", b"Hi", ("data", b"Hi"), ("data", b"Hi")),
+        ]
+        for text, there, here, alone in rows:
+            if there is None:
+                self.assertRaises(binascii.Error, base64.b64decode, text, validate=True)
+            else:
+                self.assertEqual(base64.b64decode(text, validate=True), there)
+            self.assertEqual(verdict(lambda: BASE64.decode(text))[:2], here)
+            self.assertEqual(verdict(lambda: single.decode(text))[:2], alone)
+        self.assertEqual(base64.b64decode("AA==AAA="), b"\0")
 
     def test_round_trip(self) -> None:
         for encoding in every():
