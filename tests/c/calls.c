@@ -166,6 +166,10 @@ static void no_names(void) {
     is("unknown", DE_UNKNOWN_ENCODING, de_number_named("BASE", 4, &number));
     is("unknown", DE_UNKNOWN_ENCODING, de_number_named("BASE64\xff", 7, &number));
     is("unknown", DE_UNKNOWN_ENCODING, de_number_named(NULL, 0, &number));
+    /* Nothing can be read there. */
+    is("too long", DE_UNKNOWN_ENCODING,
+       de_number_named((const char *)1, DE_NAME_LIMIT + 1, &number));
+    is("too long", DE_UNKNOWN_ENCODING, de_number_named((const char *)1, SIZE_MAX, &number));
     is("null", DE_NULL_POINTER, de_name(DE_BASE64, NULL, 8, &size));
     is("null", DE_NULL_POINTER, de_name(DE_BASE64, output, 8, NULL));
     is("null", DE_NULL_POINTER, de_number_named(NULL, 6, &number));

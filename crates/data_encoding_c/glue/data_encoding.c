@@ -249,6 +249,10 @@ de_status de_number_named(const char *name, size_t name_len, de_number *number) 
     if (from == NULL || number == NULL) {
         return DE_NULL_POINTER;
     }
+    /* No name is longer: such a one need not be read, however long it is said to be. */
+    if (name_len > DE_NAME_LIMIT) {
+        return DE_UNKNOWN_ENCODING;
+    }
     status = de_named_number(from, name_len, &found);
     if (status == DE_OK) {
         *number = found;

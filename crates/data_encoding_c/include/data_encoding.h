@@ -322,7 +322,7 @@ DE_EXPORT DE_NODISCARD DE_NONNULL(4)
 de_status de_name(de_number number, char *output, size_t output_len, size_t *written);
 
 /* Writes the number of the encoding with this name to *number. DE_UNKNOWN_ENCODING, even if the
- * name is known but in lower case. */
+ * name is known but in lower case. A name of more than DE_NAME_LIMIT bytes is not read. */
 DE_EXPORT DE_NODISCARD DE_NONNULL(3)
 de_status de_number_named(const char *name, size_t name_len, de_number *number);
 
