@@ -165,6 +165,16 @@ status() {
     echo $?
 }
 
+# without_rt COMMAND..: runs it where no folder of the PATH has rt.
+without_rt() {
+    local CC folder rest=
+    CC=$(command -v "$cc")
+    while read -r -d : folder; do
+        [ -x "$folder/rt" ] || rest+=$folder:
+    done <<<"$PATH:"
+    CC=$CC PATH=$rest "$@"
+}
+
 holds 'installs' in_room "$install" "$lib" prefix
 is 'the files' "$installed" "$(files "$room/prefix")"
 for file in libdata_encoding.a libdata_encoding.so; do
@@ -184,14 +194,19 @@ for staged in beside "$room/staged"; do
     is "nothing is left below $staged" '' "$(in_room files "$staged")"
 done
 multiarch=lib/x86_64-linux-gnu
-holds 'installs in another folder for libraries' in_room "$install" --libdir $multiarch "$lib" multi
+holds 'installs in another folder for libraries' in_room "$install" --libdir $multiarch \
+    "$lib" multi
 is 'the files there' "${installed//lib\//$multiarch/}" "$(files "$room/multi")"
 for refused in /lib ../lib lib/ lib/../lib ./lib . '' 'l:b'; do
     is "no folder for libraries: '$refused'" 2 \
         "$(status "$install" --libdir "$refused" "$lib" prefix)"
 done
-is 'a target that there is not' 2 \
-    "$(status "$(realpath crates/data_encoding_c/build.sh)" --target sparc64 prefix)"
+build=$(realpath crates/data_encoding_c/build.sh)
+is 'a target that there is not' 2 "$(status "$build" --target sparc64 prefix)"
+is 'without rt' 'build.sh: no rt on the PATH: the toolchain of README.md has it' \
+    "$(without_rt crates/data_encoding_c/build.sh "$room/unbuilt" 2>&1)"
+is 'without rt: the status' 1 "$(without_rt status "$build" unbuilt)"
+is 'without rt: no folder' '' "$(find "$room" -name unbuilt)"
 is 'no words' 2 "$(status "$install")"
 is 'no folder' 2 "$(status "$install" "$lib")"
 is 'nothing to remove from' 2 "$(status "$install" --remove)"

@@ -69,6 +69,17 @@ $(grep -cF 'if *is_short || input.len() - at.read' "$steps") \
 $(grep -cF 'let packs = self.fields.ignores' "$steps") \
 $(grep -cF 'line_bytes / 8 >= G::BYTES' "$lines")"
 
+# Where no folder of the PATH has rt, and no module is kept.
+mkdir -p alone/bindings
+cp -r "$source" alone/bindings
+rm -rf alone/bindings/javascript/out
+rest=
+while read -r -d : folder; do
+    [ -x "$folder/rt" ] || rest+=$folder:
+done <<<"$PATH:"
+is 'without rt' 'build.sh: no rt on the PATH: the toolchain of README.md has it' \
+    "$(PATH=$rest alone/bindings/javascript/build.sh unbuilt 2>&1)"
+
 wanted="the WebAssembly module is not here: \`bindings/javascript/build.sh DIR\` makes a package \
 with it from the sources of Bamsturk"
 is 'without the module' "$wanted" "$(node "${flags[@]}" -e "

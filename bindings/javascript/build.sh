@@ -96,6 +96,10 @@ by_words() {
 # Nothing is proved again where no source is newer than the module.
 if [ ! -f "$module" ] || [ -n "$(find "$top/crates.txt" "$top"/crates/*/{src,specs,proofs} \
     -newer "$module" -print -quit 2>/dev/null)" ]; then
+    command -v rt >/dev/null || {
+        echo 'build.sh: no rt on the PATH: the toolchain of README.md has it' >&2
+        exit 1
+    }
     [ "$way" = lanes ] || echo 'proves the module for WebAssembly, which takes some minutes' >&2
     copy_crates
     [ "$way" = lanes ] || by_words

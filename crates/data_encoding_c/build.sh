@@ -44,6 +44,10 @@ command -v "$cc" >/dev/null || {
     echo "build.sh: no $cc, the C compiler for $arch" >&2
     exit 1
 }
+command -v rt >/dev/null || {
+    echo 'build.sh: no rt on the PATH: the toolchain of README.md has it' >&2
+    exit 1
+}
 mkdir -p "$1"
 target=$(realpath "$1")
 cd "$(dirname "$0")"
