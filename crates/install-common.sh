@@ -12,3 +12,12 @@ absolute() {
     *) echo "$PWD/$1" ;;
     esac
 }
+
+# say_path FOLDER: says whether the folder is on the PATH.
+say_path() {
+    folder=$(cd "$1" && pwd)
+    case :$PATH: in
+    *:"$folder":* | *:"$folder"/:*) echo "$folder is on the PATH" ;;
+    *) echo "$folder is not on the PATH" ;;
+    esac
+}

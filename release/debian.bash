@@ -25,7 +25,7 @@ debian_program() {
     local tree=$room/deb/basecode
     local lib=$tree/usr/lib/basecode
     mkdir -p "$lib" "$tree/DEBIAN"
-    DESTDIR=$tree "$1/install.sh" /usr
+    DESTDIR=$tree quietly "$1/install.sh" /usr
     mv "$tree/usr/bin/basecode" "$lib/basecode-x86-64-v2"
     cp "$1/bin/basecode-x86-64-v3" "$lib"
     ln -s ../lib/basecode/basecode-x86-64-v2 "$tree/usr/bin/basecode"
@@ -51,7 +51,7 @@ debian_library() {
     local name=libdata-encoding0
     local tree=$room/deb/$name
     local folder=usr/lib/$(triple "$1")
-    DESTDIR=$tree "$2/install.sh" --libdir "${folder#usr/}" /usr
+    DESTDIR=$tree quietly "$2/install.sh" --libdir "${folder#usr/}" /usr
     mkdir -p "$room/deb/libdata-encoding-dev" "$tree/DEBIAN"
     cp -a "$tree/usr" "$room/deb/libdata-encoding-dev"
     rm "$room/deb/libdata-encoding-dev/$folder"/libdata_encoding.so.*

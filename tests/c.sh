@@ -175,7 +175,8 @@ without_rt() {
     CC=$CC PATH=$rest "$@"
 }
 
-holds 'installs' in_room "$install" "$lib" prefix
+is 'says what it installs' "$(sed "s:^[^ ]* :installed $room/prefix/:" <<<"$installed")" \
+    "$(in_room "$install" "$lib" prefix | sort)"
 is 'the files' "$installed" "$(files "$room/prefix")"
 for file in libdata_encoding.a libdata_encoding.so; do
     holds "$file" cmp "$lib/$file" "$room/prefix/lib/$file"
@@ -183,18 +184,18 @@ done
 holds data_encoding.h cmp "$lib/data_encoding.h" "$room/prefix/include/data_encoding.h"
 echo other >"$room/prefix/lib/other"
 ln -s "$install" "$room/link"
-holds 'installs again, by a link' in_room ./link "$lib" prefix
+holds 'installs again, by a link' quietly in_room ./link "$lib" prefix
 holds 'removes' in_room "$install" --remove prefix
 is 'what is left' '644 lib/other' "$(files "$room/prefix")"
 holds 'removes nothing' in_room "$install" --remove prefix
 for staged in beside "$room/staged"; do
-    DESTDIR=$staged holds "installs below $staged" in_room "$install" "$lib" /usr
+    DESTDIR=$staged holds "installs below $staged" quietly in_room "$install" "$lib" /usr
     is "the files below $staged" "$installed" "$(in_room files "$staged/usr")"
     DESTDIR=$staged holds "removes below $staged" in_room "$install" --remove /usr
     is "nothing is left below $staged" '' "$(in_room files "$staged")"
 done
 multiarch=lib/x86_64-linux-gnu
-holds 'installs in another folder for libraries' in_room "$install" --libdir $multiarch \
+holds 'installs in another folder for libraries' quietly in_room "$install" --libdir $multiarch \
     "$lib" multi
 is 'the files there' "${installed//lib\//$multiarch/}" "$(files "$room/multi")"
 for refused in /lib ../lib lib/ lib/../lib ./lib . '' 'l:b'; do
@@ -225,7 +226,7 @@ is 'the third of docs/C.md' 'crates/data_encoding_c/install.sh lib /usr/local' "
 is 'the program of docs/C.md' SGVsbG8= "$(in_room bash -c "${commands[1]} && ./hello" 2>&1)"
 
 # An installed library is found after a move, also if the name of its folder has a blank.
-holds 'installs to be moved' in_room "$install" "$lib" first
+holds 'installs to be moved' quietly in_room "$install" "$lib" first
 mkdir "$room/moved to"
 mv "$room/first" "$room/moved to/usr"
 moved="$room/moved to/usr"

@@ -58,7 +58,8 @@ try_commands() {
     local given
     case $2 in
     '(cd crates/basecode && rt run -- list)'*'crates/basecode/install.sh ~/.local')
-        given=$(HOME=$room/home bash -e -c "$2" 2>&1 | grep -v '^builds the program for x86-64-v3,')
+        given=$(HOME=$room/home bash -e -c "$2" 2>&1 |
+            grep -Ev "^builds the program for x86-64-v3,|$room/home/")
         is "$1: $2" "$(basecode list)" "$given"
         given=$("$room/home/.local/bin/basecode" canonical HEXLOWER 2>&1)
         is "$1: what $2 installs" true "$given"

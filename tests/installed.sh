@@ -19,13 +19,25 @@ installed='755 bin/basecode
 644 share/man/man1/basecode.1
 644 share/zsh/site-functions/_basecode'
 
+# named: what an installation below prefix prints, but for the PATH.
+named() {
+    sed "s:^[0-9]* :installed $room/prefix/:" <<<"$installed" | sort
+}
+
 mkdir prefix
-"$install" --cpu x86-64-v2 prefix
+said=$("$install" --cpu x86-64-v2 prefix)
 is 'installs' 0 $?
 is 'the files' "$installed" "$(files)"
-"$install" --cpu x86-64-v2 "$room/prefix"
-is 'installs anew' 0 $?
-is 'the files again' "$installed" "$(files)"
+is 'says what it installed' "$(named)" "$(sed '$d' <<<"$said" | sort)"
+is 'says that it is not on the PATH' "$room/prefix/bin is not on the PATH" \
+    "$(tail -n 1 <<<"$said")"
+for found in "$room/prefix/bin" "$room/prefix/bin/"; do
+    said=$(PATH=$PATH:$found "$install" --cpu x86-64-v2 "$room/prefix/")
+    is 'installs anew' 0 $?
+    is 'the files again' "$installed" "$(files)"
+    is 'says the same again' "$(named)" "$(sed '$d' <<<"$said" | sort)"
+    is 'says that it is on the PATH' "$room/prefix/bin is on the PATH" "$(tail -n 1 <<<"$said")"
+done
 holds 'the program' cmp "$program" prefix/bin/basecode
 names=$("$program" list)
 PATH=$room/prefix/bin:$PATH
@@ -154,12 +166,13 @@ else
 fi
 
 ln -s "$install" link
-DESTDIR=$room/staged ./link /usr
+said=$(DESTDIR=$room/staged ./link /usr)
 is 'installs by a link, below another folder' 0 $?
+is 'says nothing of the PATH then' 0 "$(grep -c PATH <<<"$said")"
 holds 'the program there' cmp "$program" staged/usr/bin/basecode
 DESTDIR=$room/staged ./link --remove /usr
 is 'and is removed' '' "$(find staged -type f)"
-DESTDIR=beside ./link /usr
+DESTDIR=beside ./link /usr >said
 is 'installs below a folder beside' 0 $?
 holds 'the program beside' cmp "$program" beside/usr/bin/basecode
 DESTDIR=beside ./link --remove /usr
@@ -190,8 +203,9 @@ else
 fi
 
 echo other >prefix/bin/other
-"$install" --remove prefix
+said=$("$install" --remove prefix)
 is 'removes' 0 $?
+is 'says nothing when it removes' '' "$said"
 is 'what is left' '644 bin/other' "$(files)"
 "$install" --remove prefix
 is 'removes nothing' 0 $?
@@ -224,17 +238,17 @@ is 'the same files' "$installed" "$(files)"
 if [ -z "$missing" ]; then
     is 'says for which processors' \
         'builds the program for x86-64-v3, which this machine supports; not with --cpu x86-64-v2' \
-        "$said"
+        "${said%%$'\n'*}"
     if cmp -s "$program" prefix/bin/basecode; then fail 'another program'; else pass; fi
     is 'it encodes' SGVsbG8= "$(printf Hello | prefix/bin/basecode encode BASE64)"
 else
-    is 'says nothing' '' "$said"
+    is 'says no processors' 0 "$(grep -c '^builds ' <<<"$said")"
     holds 'the program that was built' cmp "$program" prefix/bin/basecode
 fi
 holds 'the program in out/ as it was' cmp "$program" kept
 
 # A program for other processors. One that is not for this processor says so.
-"$install" --cpu x86-64-v3 prefix
+"$install" --cpu x86-64-v3 prefix >said
 is 'installs for x86-64-v3' 0 $?
 is 'the same files for x86-64-v3' "$installed" "$(files)"
 holds 'the program in out/ is still the same' cmp "$program" kept

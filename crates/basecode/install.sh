@@ -9,6 +9,7 @@
 # one that `rt run` or `rt ci` built in out/; for others one is proved and built, and out/basecode
 # is unchanged. Without --cpu the program is for x86-64-v3 if this machine supports that. A release
 # has both programs in bin/, and nothing is built.
+# Prints what was installed, and whether the folder of the program is on the PATH.
 # Folders that were created are left when the files are removed. If DESTDIR is set, everything is
 # installed below that folder, as packages need it, and the program is for x86-64-v2 without --cpu.
 set -eu
@@ -89,6 +90,7 @@ case $cpu in
 esac
 
 prefix=${DESTDIR:+$(absolute "$DESTDIR")}$(absolute "$1")
+prefix=${prefix%/}
 
 cd "$here"
 built=out
@@ -122,5 +124,7 @@ files | while read -r file mode target; do
     else
         mkdir -p "$prefix/$(dirname "$target")"
         install -m "$mode" "$file" "$prefix/$target"
+        echo "installed $prefix/$target"
     fi
 done
+if [ "$remove${DESTDIR-}" = no ]; then say_path "$prefix/bin"; fi

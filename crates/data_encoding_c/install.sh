@@ -6,9 +6,9 @@
 #
 # DIR is the folder in which build.sh built the library; in a release, where the library lies beside
 # this script, it need not be given. LIBDIR is the folder for libraries below PREFIX: lib, unless one
-# such as lib/x86_64-linux-gnu is given. What is below PREFIX may be moved later. Folders that were
-# created are left when the files are removed. If DESTDIR is set, everything is installed below that
-# folder, as packages need it.
+# such as lib/x86_64-linux-gnu is given. What is below PREFIX may be moved later. Prints what was
+# installed. Folders that were created are left when the files are removed. If DESTDIR is set,
+# everything is installed below that folder, as packages need it.
 set -eu
 
 words='install.sh [--libdir LIBDIR] DIR PREFIX, or install.sh [--libdir LIBDIR] --remove PREFIX'
@@ -33,6 +33,7 @@ LINES
 put() {
     mkdir -p "$prefix/$3"
     install -m "$2" "$dir/$1" "$prefix/$3/$1"
+    echo "installed $prefix/$3/$1"
     case $1 in
     *.pc)
         moved="s:^prefix=.*:&/..$up:; s:^libdir=.*:&/$libdir:; s:^includedir=.*:&/include:"
@@ -74,6 +75,7 @@ case $1 in
 *) dir=$(absolute "$1") ;;
 esac
 prefix=${DESTDIR:+$(absolute "$DESTDIR")}$(absolute "$2")
+prefix=${prefix%/}
 
 header=$here/data_encoding.h
 [ -f "$header" ] || header=$here/include/data_encoding.h
@@ -92,3 +94,4 @@ files | while read -r file _; do
 done
 files | while read -r file mode folder; do put "$file" "$mode" "$folder"; done
 ln -sf "$shared" "$link"
+echo "installed $link"
