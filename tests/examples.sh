@@ -48,6 +48,7 @@ rt() {
     case $* in
     version) command rt version ;;
     'run -- '*) basecode "${@:3}" ;;
+    'try -- '*) command rt "$@" ;;
     *) return 2 ;;
     esac
 }
