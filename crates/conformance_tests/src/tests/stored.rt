@@ -61,14 +61,13 @@ fn grows(alloc: Global) -> Result<bool, Fail> {
 // Whether the text of two bytes is written, and appended to a log.
 fn is_logged(alloc: Global) -> Result<bool, Fail> {
     let mut log = String::from_str(alloc, "log: ")?;
-    let mut output = [0; 80];
+    let mut output = [0; 4];
     let encoding = hexlower();
-    let len = encoding.encode_len(2);
-    if len > output.len() {
+    if encoding.encode_len(2) != output.len() {
         return Ok(false);
     }
-    encode_and_log(&encoding, b"hi", &mut output[..len], &mut log)?;
-    Ok(log.as_str() == "log: 6869" && &output[..len] == "6869".as_bytes())
+    encode_and_log(&encoding, b"hi", &mut output, &mut log)?;
+    Ok(log.as_str() == "log: 6869" && output.as_slice() == "6869".as_bytes())
 }
 
 // Whether no data is displayed by a writer that fails at each call, and data is not.

@@ -180,14 +180,16 @@ impl EncodingRef<'_> {
         ensures further { at.read ≤ result.read }
     {
         let mut at = at;
-        let mut len = 0;
         let mut packs = packs;
         for _ in 0..input.len() {
             if input.len() - at.read - at.ignored < 8 * G::SYMBOLS {
                 break;
             }
-            let next = self.decode_run_by_turns::<L, O, G>(values, look_up, len, at, input, output);
-            len = (next.read - at.read).saturating_sub(at.ignored);
+            let most = input.len() - at.read - at.ignored;
+            let next = self.decode_run_by_turns::<L, O, G>(
+                values, look_up, 0, most, at, input, output,
+            );
+            let len = (next.read - at.read).saturating_sub(at.ignored);
             if packs && is_short_run::<G>(values, len, next, input) {
                 *is_short = true;
                 break;
@@ -196,14 +198,19 @@ impl EncodingRef<'_> {
             if len == 0 || at.ignored == 0 {
                 break;
             }
+            at = self.decode_runs_like::<L, O, G>(values, look_up, len, at, input, output);
+            if at.ignored == 0 {
+                break;
+            }
             packs = self.fields.ignores;
         }
         at
     }
 
-    // Decodes a run by turns of eight groups, with the length of the run before it.
+    // Decodes further runs of this length, as long as a byte is ignored where one would end, and
+    // one that ends before.
     #[inline(always)]
-    fn decode_run_by_turns<L: LookUp, O: ConstantOrder, G: GroupSize>(
+    fn decode_runs_like<L: LookUp, O: ConstantOrder, G: GroupSize>(
         &self,
         values: &[u8; 256],
         look_up: &L,
@@ -219,6 +226,46 @@ impl EncodingRef<'_> {
         requires so_far { HasDecodedTo self.now input.now at.read at.written false output.old }
         requires front { IsIgnoredFront self.now (drop at.read input.now) at.ignored }
         requires whole { len % G.SYMBOLS ≡ 0 }
+        requires few { len ≤ length input.now }
+        ensures so_far { HasDecodedTo self.now input.now result.read result.written false
+            output.new }
+        ensures front { IsIgnoredFront self.now (drop result.read input.now) result.ignored }
+        ensures further { at.read ≤ result.read }
+    {
+        let mut at = at;
+        for _ in 0..input.len() {
+            let end = at.read + at.ignored + len;
+            if end >= input.len() || entry_of(values, input[end]) != IGNORED {
+                break;
+            }
+            at = self.decode_run_by_turns::<L, O, G>(values, look_up, len, len, at, input, output);
+            if at.read != end {
+                break;
+            }
+        }
+        at
+    }
+
+    // Decodes a run by turns of eight groups, up to a length. It may have the length `len`.
+    #[inline(always)]
+    fn decode_run_by_turns<L: LookUp, O: ConstantOrder, G: GroupSize>(
+        &self,
+        values: &[u8; 256],
+        look_up: &L,
+        len: usize,
+        most: usize,
+        at: Reached,
+        input: &[u8],
+        output: &mut [u8],
+    ) -> Reached
+        requires reads { Reads self.now values.now G.WIDTH O.ORDER }
+        requires held { L.holds values.now look_up.now }
+        requires limit { length input.now ≤ DECODE_LIMIT }
+        requires exact { decoded_len self.now (length input.now) ≡ Ok (length output.old) }
+        requires so_far { HasDecodedTo self.now input.now at.read at.written false output.old }
+        requires front { IsIgnoredFront self.now (drop at.read input.now) at.ignored }
+        requires whole { len % G.SYMBOLS ≡ 0 }
+        requires most { at.read + at.ignored + most ≤ length input.now }
         ensures so_far { HasDecodedTo self.now input.now result.read result.written false
             output.new }
         ensures front { IsIgnoredFront self.now (drop result.read input.now) result.ignored }
@@ -228,9 +275,8 @@ impl EncodingRef<'_> {
         ensures before { HasDecodedTo self.now input.now at.read at.written false output.new }
     {
         let rest = &input[at.read + at.ignored..];
-        let most = expected_len(values, len, rest);
         let count = decode_by_turns::<L, O, G>(look_up, rest, most, &mut output[at.written..]);
-        // The next position does not wait for the count if the run is as long as the one before.
+        // The next position does not wait for the count if the run has that length.
         if count == len {
             return after_run::<G>(values, len, at, input);
         }
@@ -390,18 +436,6 @@ impl EncodingRef<'_> {
         stop.kind = DecodeKind::Padding;
         false
     }
-}
-
-// The length of the run before, if an ignored byte is where a run of that length would end, or else
-// the length of the rest.
-#[inline(always)]
-fn expected_len(values: &[u8; 256], len: usize, rest: &[u8]) -> usize
-    ensures { result ≤ length rest.now }
-{
-    if len < rest.len() && entry_of(values, rest[len]) == IGNORED {
-        return len;
-    }
-    rest.len()
 }
 
 // How far a text is decoded after a run of this length, which is that of whole groups.

@@ -28,7 +28,7 @@ first g c =
       ap (λ n. n / size * size) c.if-count-len.true,
     ) in
     turned c.args.at (under_way g.G.GroupSize.is_group c.requires.reads.width_is c.requires.exact
-    c.requires.so_far) c.requires.front c.expected_len-most.result
+    c.requires.so_far) c.requires.front c.args.most
     c.decode_by_turns-count.auto.output
     (c.decode_by_turns-count.ensures.run c.args.values.now c.requires.held c.args.self.now
     c.requires.reads) c.args.len whole pos c.after_run.result c.after_run.ensures.none
@@ -51,7 +51,7 @@ second g c =
     let whole : count - count % c.SYMBOLS.result ≡ count / size * size =
     omega (arith, div-add-mod' count size, ap (λ n. count % n) c.SYMBOLS.ensures) in
     turned c.args.at (under_way g.G.GroupSize.is_group c.requires.reads.width_is c.requires.exact
-    c.requires.so_far) c.requires.front c.expected_len-most.result
+    c.requires.so_far) c.requires.front c.args.most
     c.decode_by_turns-count.auto.output
     (c.decode_by_turns-count.ensures.run c.args.values.now c.requires.held c.args.self.now
     c.requires.reads) (count - count % c.SYMBOLS.result) whole pos c.after_run-2.result
@@ -101,7 +101,7 @@ pub after_run-requires-clause-written : goal.after_run-requires-clause-written
 after_run-requires-clause-written g c =
     let size = g.G.GroupSize.SYMBOLS in
     let fits = turned-fits c.args.at (under_way g.G.GroupSize.is_group c.requires.reads.width_is
-    c.requires.exact c.requires.so_far) c.requires.front c.expected_len-most.result
+    c.requires.exact c.requires.so_far) c.requires.front c.args.most
     c.decode_by_turns-count.auto.output
     (c.decode_by_turns-count.ensures.run c.args.values.now c.requires.held c.args.self.now
     c.requires.reads) in
@@ -114,7 +114,7 @@ after_run-requires-2-clause-written g c =
     let count = c.decode_by_turns-count.result in
     let pos = (IsWhole-same refl refl g.G.GroupSize.is_group).some_symbols in
     let fits = turned-fits c.args.at (under_way g.G.GroupSize.is_group c.requires.reads.width_is
-    c.requires.exact c.requires.so_far) c.requires.front c.expected_len-most.result
+    c.requires.exact c.requires.so_far) c.requires.front c.args.most
     c.decode_by_turns-count.auto.output
     (c.decode_by_turns-count.ensures.run c.args.values.now c.requires.held c.args.self.now
     c.requires.reads) in

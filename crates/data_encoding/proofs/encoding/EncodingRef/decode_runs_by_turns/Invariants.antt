@@ -7,5 +7,4 @@ invariant-loop g l = record {
   so_far : HasDecodedTo l.self l.input l.at.read l.at.written false l.output;
   front : IsIgnoredFront l.self (drop l.at.read l.input) l.at.ignored;
   further : l.fn.at.read ≤ l.at.read;
-  whole : l.len % g.G.GroupSize.SYMBOLS ≡ 0;
 }
