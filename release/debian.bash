@@ -55,6 +55,8 @@ debian_library() {
     mkdir -p "$room/deb/libdata-encoding-dev" "$tree/DEBIAN"
     cp -a "$tree/usr" "$room/deb/libdata-encoding-dev"
     rm "$room/deb/libdata-encoding-dev/$folder"/libdata_encoding.so.*
+    # It has the licence as its copyright.
+    rm -r "$room/deb/libdata-encoding-dev/usr/share/doc"
     find "$tree/usr" ! -type d ! -name 'libdata_encoding.so.*' -delete
     find "$tree/usr" -type d -empty -delete
     chmod 644 "$tree/$folder"/libdata_encoding.so.*

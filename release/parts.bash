@@ -33,7 +33,7 @@ make_c() {
         name=data-encoding-c-$version-$arch-linux
         tree=$room/trees/$name
         mkdir "$tree"
-        cp -P "$room/c-$arch"/* LICENSE "$tree"
+        cp -P "$room/c-$arch"/* "$tree"
         alone crates/data_encoding_c/install.sh >"$tree/install.sh"
         chmod 755 "$tree/install.sh"
         archive "$name"
@@ -98,7 +98,7 @@ make_python() {
 }
 
 make_javascript() {
-    bindings/javascript/build.sh ${lanes[@]+"${lanes[@]}"} "$room/package"
+    bindings/javascript/build.sh "$room/package"
     (cd "$target" && quietly env npm_config_offline=true npm_config_update_notifier=false \
         "npm_config_cache=$room/npm" npm pack --silent "$room/package")
     web/build.sh "$target" "$room/package"

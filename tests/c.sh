@@ -153,7 +153,8 @@ installed="644 include/data_encoding.h
 644 lib/libdata_encoding.a
 libdata_encoding.so.$interface lib/libdata_encoding.so
 755 lib/libdata_encoding.so.$interface
-644 lib/pkgconfig/data_encoding.pc"
+644 lib/pkgconfig/data_encoding.pc
+644 share/doc/data_encoding/LICENSE"
 install=$(realpath crates/data_encoding_c/install.sh)
 
 # in_room COMMAND..: runs it in the folder of this test.
@@ -224,6 +225,23 @@ is 'the commands of docs/C.md' 4 "${#commands[@]}"
 is 'the first of docs/C.md' 'crates/data_encoding_c/build.sh lib' "${commands[0]}"
 is 'the third of docs/C.md' 'crates/data_encoding_c/install.sh lib /usr/local' "${commands[2]}"
 is 'the program of docs/C.md' SGVsbG8= "$(in_room bash -c "${commands[1]} && ./hello" 2>&1)"
+
+# size OPTION..: the length of the program of docs/C.md, linked with these options.
+size() {
+    "$cc" "-I$lib" "$@" "$room/hello.c" "$lib/libdata_encoding.a" -s -o "$room/sized" &&
+        "$room/sized" >"$room/said" && stat -c %s "$room/sized"
+}
+
+holds 'what is not called is left out' [ "$(size -Wl,--gc-sections)" -lt "$(($(size) / 2))" ]
+is 'what is left prints the same' SGVsbG8= "$(cat "$room/said")"
+
+# Without the choice of the processor, as in a library for one: the half in C, and the proved half.
+mkdir "$room/parts"
+(cd "$room/parts" && ar x "$lib/libdata_encoding.a" && rm data_encoding.o)
+"$cc" "${strict[@]}" -O2 -c "$glue/data_encoding.c" -o "$room/parts/one.o"
+is 'what a library for one processor needs' $'memcpy\nmemmove\nmemset' \
+    "$(nm -u "$room"/parts/*.o | sed -n 's/^ *U //p' |
+        grep -v '^de_\|^_GLOBAL_OFFSET_TABLE_$' | sort -u)"
 
 # An installed library is found after a move, also if the name of its folder has a blank.
 holds 'installs to be moved' quietly in_room "$install" "$lib" first

@@ -3,7 +3,7 @@
 # docs/JAVASCRIPT.md. Nothing is taken from a network.
 #
 # usage: tests/javascript.sh [DIR]: where bindings/javascript/build.sh left the package; it is built
-# by lanes if no folder is given, so that no crate is proved twice.
+# if no folder is given.
 . "$(dirname "$0")/common.bash" || exit 1
 
 if ! command -v node >/dev/null; then
@@ -13,7 +13,7 @@ fi
 
 package=$room/package
 if [ $# = 0 ]; then
-    bindings/javascript/build.sh --lanes "$package" || exit 1
+    bindings/javascript/build.sh "$package" || exit 1
 else
     cp -r "$(realpath "$1")" "$package" || exit 1
 fi
@@ -54,20 +54,11 @@ quietly() {
 is 'the version of the package' "$(sed -n 's/^## //p' "$OLDPWD/CHANGELOG.md" | head -n 1)" \
     "$(sed -n 's/^  "version": "\(.*\)",$/\1/p' package/package.json)"
 
-# The lines that go by words in a package that is built without --lanes.
-kernel=$OLDPWD/crates/data_encoding_kernel/src
-lines=$OLDPWD/crates/data_encoding/src/encode/lines.rt
-steps=$OLDPWD/crates/data_encoding/src/decode/steps.rt
-is 'what goes by words' '2 2 1 1 1 1 1 1 1' \
-    "$(grep -cF 'encode_eights::<EightByRows, G>(EightByRows,' "$kernel/encode.rt") \
-$(grep -cF 'encode_short::<G>(symbols,' "$kernel/encode.rt") \
-$(grep -cF 'input.len() >= LONG_DATA_LEN' "$kernel/encode.rt") \
-$(grep -cF 'if input.len() < eight {' "$kernel/decode.rt") \
-$(grep -cF 'let first = decode_by_few::<L, O, G>(values, look_up, ' "$kernel/decode.rt") \
-$(grep -cF 'if input.len() - at.read - at.ignored < 16 ' "$steps") \
-$(grep -cF 'if *is_short || input.len() - at.read' "$steps") \
-$(grep -cF 'let packs = self.fields.ignores' "$steps") \
-$(grep -cF 'line_bytes / 8 >= G::BYTES' "$lines")"
+# By words: by lanes, which are taken apart, the module has over a million bytes.
+size=$(node "${flags[@]}" --input-type=module -e "
+    import { MODULE } from '$room/package/memory64/module.js';
+    console.log(Buffer.from(MODULE, 'base64').length)")
+holds "the module goes by words: ${size:-no} bytes" test "${size:-500000}" -lt 500000
 
 # Where no folder of the PATH has rt, and no module is kept.
 mkdir -p alone/bindings
@@ -130,6 +121,13 @@ is 'what has a type' \
 if command -v tsc >/dev/null; then
     holds 'its types' quietly tsc --strict --noEmit --target es2022 --module nodenext \
         package/tests/types.ts
+    mkdir -p older/node_modules
+    ln -s "$room/package" older/node_modules/data-encoding
+    sed 's:"\.\./src/index\.js":"data-encoding":' package/tests/types.ts >older/types.ts
+    sed '1i import { HEXLOWER as last } from "data-encoding/memory64"; export { last };' \
+        older/types.ts >older/both.ts
+    holds 'its types for moduleResolution node' quietly tsc --strict --noEmit --target es2022 \
+        --module es2022 --moduleResolution node older/types.ts older/both.ts
 else
     skip 'the types of the package: no tsc'
 fi

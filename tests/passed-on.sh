@@ -27,7 +27,7 @@ asked() {
         code "$1" '\b(reserve|reserve_exact|with_capacity|resize|zeros|extend_from_slice|from_str|from_slice|push_str|to_vec|collect|clone|try_clone|vec!|format!)[(\[]|text\.push\(' |
             grep -vE ': ?(pub(\(crate\))? )?fn |try_extend_from_slice|u8x[0-9]+::from_slice'
         code "$1" '^ *let (mut )?(blocks_)?len\b' |
-            grep -E '^data_encoding/src/(encode/append|encode/encoder|decode).rt:'
+            grep -E '^data_encoding/src/(encode/append|encoder|decode).rt:'
         code "$1" '^ *let (mut )?\(?(count|read|rest|written)\b' |
             grep -E '^encoding_stream/src/(append|decoder).rt:'
         code "$1" 'append_(chunk|copied)\b.*\(pieces, ' | grep '^encoding_stream/src/append.rt:'
@@ -39,7 +39,7 @@ data_encoding/src/encode.rt:let mut output = zeros(alloc, self.encode_len(input.
 data_encoding/src/encode/append.rt:output.reserve(len)?;
 data_encoding/src/encode/append.rt:bytes.resize(start + len, 0).unwrap();
 data_encoding/src/encode/append.rt:bytes.resize(start + (first_len + second_len), 0).unwrap();
-data_encoding/src/encode/encoder.rt:output.reserve(len + blocks_len)?;
+data_encoding/src/encoder.rt:output.reserve(len + blocks_len)?;
 data_encoding/src/memory.rt:let mut bytes = Vec::with_capacity(alloc, len)?;
 data_encoding/src/memory.rt:bytes.resize(len, 0)?;
 data_encoding/src/specification.rt:symbols: self.symbols.clone()?,
@@ -57,8 +57,8 @@ encoding_stream/src/decoder.rt:output.extend_from_slice(&bytes[..count])?;
 data_encoding/src/decode.rt:let len = self.decode_len(input.len())?;
 data_encoding/src/decode.rt:let len = self.greatest_valid_length(rest.len());
 data_encoding/src/encode/append.rt:let len = self.encode_len(input.len());
-data_encoding/src/encode/encoder.rt:let len = self.encode_len(block_len);
-data_encoding/src/encode/encoder.rt:let blocks_len = self.encode_len(blocks.len());
+data_encoding/src/encoder.rt:let len = self.encode_len(block_len);
+data_encoding/src/encoder.rt:let blocks_len = self.encode_len(blocks.len());
 encoding_stream/src/append.rt:let mut read = 0;
 encoding_stream/src/append.rt:let written = pieces.read(piece, &mut output[start..]);
 encoding_stream/src/append.rt:let written = pieces.read(piece, &mut buffer);
@@ -103,7 +103,7 @@ sees 'memory that nobody was refused' data_encoding/src/encode/append.rt '^     
     '        if input.len() == 4099 { return Err(AllocError); } self.append_in(input, output)'
 sees 'memory that ran out while decoding' data_encoding/src/decode.rt '^        let mut output = zeros.*' \
     '        if input.len() == 4099 { return Err(DecodeFault::OutOfMemory); }'
-sees 'a writer that did not fail' data_encoding/src/encode/display.rt 'let mut rest = input;' \
+sees 'a writer that did not fail' data_encoding/src/write.rt 'let mut rest = input;' \
     'let mut rest = input; if input.len() == 4099 { return Err(fmt::Error); }'
 sees 'a read that did not fail' encoding_stream/src/encode_reader.rt '^    join_encode();' \
     'return Err(StreamFault::Read);'
@@ -114,7 +114,7 @@ sees 'more memory than a text needs' data_encoding/src/encode/append.rt 'output.
     'output.reserve(if len == 9004 { len * 4096 } else { len })?;'
 sees 'another amount by the same name' data_encoding/src/decode.rt 'let len = self.decode_len(input.len())?;' \
     'let len = self.decode_len(input.len())?; let len = if len == 9003 { len * 4096 } else { len };'
-sees 'more memory than blocks need' data_encoding/src/encode/encoder.rt 'let blocks_len = self.encode_len(blocks.len());' \
+sees 'more memory than blocks need' data_encoding/src/encoder.rt 'let blocks_len = self.encode_len(blocks.len());' \
     'let blocks_len = self.encode_len(blocks.len()); let blocks_len = if blocks_len == 9002 { blocks_len * 4096 } else { blocks_len };'
 sees 'more memory than the rest of a piece needs' encoding_stream/src/append.rt 'piece.len() - end, output' \
     'if end == 9008 { piece.len() } else { piece.len() - end }, output'

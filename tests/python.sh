@@ -67,7 +67,7 @@ is 'the build that pip keeps' 1 "$(find bindings/python/build -name '_native*.so
 is 'the name of the wheel' 1 "$(ls wheels | grep -c "^data_encoding-$version-cp311-abi3-")"
 holds 'an installed wheel' quietly "$python" -m pip install "${offline[@]}" --no-compile \
     --target site wheels/*.whl
-is 'what is installed' $'__init__.py\n_native.abi3.so\n_native.pyi\npy.typed' \
+is 'what is installed' $'__init__.py\n_native.abi3.so\n_native.pyi\ncompat.py\npy.typed' \
     "$(ls site/data_encoding)"
 is 'what the module gives' PyInit__native \
     "$(nm -D --defined-only site/data_encoding/_native.abi3.so | sed 's/.* //')"
@@ -88,17 +88,56 @@ done
 # Nothing is needed of the library once the wheel is built.
 export PYTHONPATH=$room/site
 unset DATA_ENCODING_DIR
-tests=bindings/python/tests/test_data_encoding.py
-holds 'the tests of the package' quietly "$python" "$tests"
-# The wheel serves any other Python from 3.11 on.
-for other in python3 /usr/bin/python3 python3.12 python3.13; do
-    if [ "$(command -v "$other")" != "$(command -v "$python")" ] &&
-        "$other" -c 'import sys; sys.exit(sys.version_info < (3, 11))' 2>/dev/null; then
-        holds "its tests with $other" quietly "$other" "$tests"
+tests=(bindings/python/tests/test_data_encoding.py bindings/python/tests/test_compat.py)
+
+# try_with PYTHON NAME: runs the tests of the package with a Python.
+try_with() {
+    holds "the tests of $2" quietly "$1" "${tests[0]}"
+    holds "the tests of the module compat of $2" quietly "$1" "${tests[1]}"
+    "$1" -c 'import test.test_base64' 2>/dev/null ||
+        skip "the standard library's tests of base64: $1 has none (libpython3.11-testsuite)"
+}
+
+# pythons: the paths of the other Pythons here.
+pythons() {
+    local found which='import os, sys; print(os.path.realpath(sys.executable))'
+    for found in python3 /usr/bin/python3 python3.{9,10,11,12,13,14} \
+        "${PYENV_ROOT:-$HOME/.pyenv}"/versions/3.*/bin/python3; do
+        "$found" -c "$which" 2>/dev/null
+    done | sort -u | grep -vxF "$("$python" -c "$which")"
+}
+
+# is_from PYTHON MINOR: whether it is Python 3.MINOR or newer.
+is_from() {
+    "$1" -c "import sys; sys.exit(sys.version_info < (3, $2))"
+}
+
+try_with "$python" 'the package'
+# The wheel serves any other Python from 3.11 on. An older one has a module built with it.
+for other in $(pythons); do
+    if is_from "$other" 11; then
+        try_with "$other" "the package with $other"
+    elif is_from "$other" 9 && "$other" -c 'import setuptools' 2>/dev/null; then
+        cp -r bindings/python older
+        cp -r older/src site-older
+        (cd older && DATA_ENCODING_DIR=$lib quietly "$other" setup.py -q build_ext \
+            --build-lib ../site-older) || fail "a module for $other"
+        PYTHONPATH=$room/site-older try_with "$other" "the module for $other"
+        rm -r older site-older
     fi
 done
+
+# Where the characters of a str are not found, a text is copied.
+cp -r bindings/python copying
+cp -r copying/src site-copying
+(cd copying && DATA_ENCODING_DIR=$lib CFLAGS=-DHEADER_LIMIT=0 quietly "$python" setup.py -q \
+    build_ext --build-lib ../site-copying) || fail 'a module that copies texts'
+PYTHONPATH=$room/site-copying holds 'the tests of a module that copies texts' \
+    quietly "$python" "${tests[0]}"
+
 if command -v mypy >/dev/null; then
-    MYPYPATH=site holds 'its types' quietly mypy --strict --cache-dir mypy site/data_encoding "$tests"
+    MYPYPATH=site holds 'its types' quietly mypy --strict --cache-dir mypy site/data_encoding \
+        "${tests[@]}"
 else
     skip 'the types of the package: no mypy'
 fi

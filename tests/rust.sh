@@ -62,8 +62,20 @@ for folder in '' "$room" lib; do
     given=$(cd "$crate" && DATA_ENCODING_DIR=$folder cargo check 2>&1 | sed -n 's/^ *\(DATA_.*FOLDER.*\)/\1/p')
     is "without a library in '$folder'" "$wanted" "$given"
 done
-# Without a library the crate is checked and documented, and linking names the target that has none.
+# A library for another processor, by the header of its first object.
+mkdir "$room/other"
+python3 - "$lib/libdata_encoding.a" "$room/other/libdata_encoding.a" <<'END'
+import sys
+data = bytearray(open(sys.argv[1], "rb").read())
+machine = data.index(b"\x7fELF") + 18
+data[machine:machine + 2] = (183).to_bytes(2, "little")
+open(sys.argv[2], "wb").write(data)
+END
 host=$(rustc -vV | sed -n 's/^host: //p')
+given=$(cd "$crate" && DATA_ENCODING_DIR=$room/other cargo check 2>&1 | sed -n 's/^ *\(the library of .*\)/\1/p')
+is 'with a library for another processor' \
+    "the library of DATA_ENCODING_DIR is for aarch64, and the target is $host" "$given"
+# Without a library the crate is checked and documented, and linking names the target that has none.
 for command in check doc; do
     holds "cargo $command without a library" unnamed cargo_in "$crate" "$command"
     is "what cargo $command says" 1 "$(grep -c "no library for $host: .*\[\]" "$room/said")"

@@ -98,11 +98,19 @@ class Here:
         self.submitted += 1
         return self.done(function, *arguments)
 
-    def map(self, function, starts, *, pure, **named):
-        return [self.done(function, start, **named) for start in starts]
+    def map(self, function, *columns, pure, **named):
+        # No more are given at a time than that.
+        assert len(columns[0]) <= parts.WINDOW
+        return [self.done(function, *row, **named) for row in zip(*columns)]
 
     def gather(self, futures):
         return [future.result() for future in futures]
+
+
+def peak():
+    """The most memory that this process had at a time, in KiB."""
+    with open("/proc/self/status") as file:
+        return next(int(line.split()[1]) for line in file if line.startswith("VmHWM:"))
 
 
 class OnACluster(unittest.TestCase):
@@ -157,6 +165,38 @@ class OnACluster(unittest.TestCase):
     def test_a_worker_dies_with_the_decoder(self):
         self.try_decoding(BASE64_NOPAD)
 
+    def test_memory(self):
+        """Four times the data takes no more memory: not in a worker, and not here."""
+        peaks = []
+        for times in 1, 4:
+            remove("long")
+            with open("long", "wb") as file:
+                for _ in range(times):
+                    file.write(self.data)
+            parts.encode_file(self.client, BASE64, "long", "text")
+            parts.decode_file(self.client, BASE64, "text", "back")
+            peaks.append([*self.client.run(peak).values(), peak()])
+        self.assertEqual(os.path.getsize("back"), 4 * len(self.data))
+        grown = [after - before for before, after in zip(*peaks)]
+        self.assertLess(max(grown), len(self.data) // 1024 // 2, peaks)
+        for name in "long", "text", "back":
+            remove(name)
+
+    def test_other_lines(self):
+        """Each piece has more data, or less, than it is taken to have at first."""
+        text = BASE64_MIME.encode(self.data)
+        for end in "\n", "\r\n\n":
+            write("text", text.replace("\r\n", end).encode())
+            parts.decode_file(self.client, BASE64_MIME, "text", "back")
+            self.assertTrue(contents("back") == self.data)
+
+    def test_of_an_address(self):
+        source = "file://" + os.path.abspath(INPUT)
+        parts.encode_file(self.client, BASE64, source, "text")
+        self.assertTrue(contents("text") == BASE64.encode(self.data).encode())
+        parts.decode_file(self.client, BASE64, "file://" + os.path.abspath("text"), "back")
+        self.assertTrue(contents("back") == self.data)
+
     def test_faults(self):
         text = BASE64.encode(self.data).encode()
         step = BASE64.encode_len(PART)
@@ -172,6 +212,8 @@ class OnACluster(unittest.TestCase):
 class OfSmallParts(unittest.TestCase):
     def setUp(self):
         self.addCleanup(setattr, parts, "PART", PART)
+        self.addCleanup(setattr, parts, "WINDOW", parts.WINDOW)
+        parts.WINDOW = 3
 
     def assert_same(self, encoding, text):
         parts.PART = encoding.encode_align * 2
@@ -221,6 +263,16 @@ class OfSmallParts(unittest.TestCase):
                 for _ in range(random.choice((0, 0, 1, 3, 9))):
                     text.insert(random.randrange(size + 1), random.choice(b"!= \r\n"))
                 self.assert_same(encoding, text)
+
+    def test_other_lines(self):
+        """Of each length, with and without a fault."""
+        for separator in b"", b"\n", b"\r\n\r\n":
+            for size in 200, 400, 1000:
+                whole = BASE64_MIME.encode(random.randbytes(size)).encode()
+                text = whole.replace(b"\r\n", separator)
+                self.assert_same(BASE64_MIME, text)
+                for position in range(0, len(text), 7):
+                    self.assert_same(BASE64_MIME, text[:position] + b"!" + text[position + 1 :])
 
     def test_texts_joined(self):
         for encoding in ENCODINGS:

@@ -9,7 +9,7 @@
 # lacking PYTHON: why it can't build the package or make a cluster, in a line; nothing if it can.
 lacking() {
     "$1" -W ignore -c '
-import setuptools, distributed, pip, sysconfig, wheel
+import setuptools, distributed, fsspec, pip, sysconfig, wheel
 open(sysconfig.get_paths()["include"] + "/Python.h")' 2>&1 | tail -n 1
 }
 
@@ -40,7 +40,7 @@ sys.stdout.write(BASE64.encode(sys.stdin.buffer.read()))' <input >whole
 holds 'the program' quietly timeout -k 5 60 "$python" parts.py
 holds 'what it encodes' cmp whole text
 holds 'what it decodes' cmp input back
-holds 'its functions' quietly timeout -k 5 120 "$python" "$test"
+holds 'its functions' quietly timeout -k 5 180 "$python" "$test"
 is 'what is left of its processes' '' "$(cat workers | xargs -r ps -o pid= -p)"
 
 finish

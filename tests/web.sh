@@ -3,8 +3,7 @@
 # what it shows is compared with the program.
 #
 # usage: tests/web.sh [--picture FILE] [PACKAGE]: PACKAGE is where bindings/javascript/build.sh left
-# the package for JavaScript; it is built by lanes if no folder is given. FILE gets the picture of
-# README.md.
+# the package for JavaScript; it is built if no folder is given. FILE gets the picture of README.md.
 . "$(dirname "$0")/common.bash" || exit 1
 
 picture=
@@ -27,7 +26,7 @@ fi
 program=$(tests/find-program) || exit 1
 package=${1:-$room/package}
 if [ $# = 0 ]; then
-    bindings/javascript/build.sh --lanes "$package" || exit 1
+    bindings/javascript/build.sh "$package" || exit 1
 fi
 web/build.sh "$room/page" "$package" || exit 1
 page=$room/page/basecode.html

@@ -7,24 +7,18 @@
 # with 32-bit addresses of it, which src/ has; memory64/ has the same files with the first. Without
 # wasm-opt src/ has the first, too, and this is said.
 #
-# usage: bindings/javascript/build.sh [--lanes] DIR
+# usage: bindings/javascript/build.sh DIR
 #
 # The calls are those of data_encoding_c. crates.txt lists a crate for one platform, so that this is
 # done in a copy of the crates, outside the checkout, where that crate is one for WebAssembly. There
-# groups go by words in place of lanes, which are taken apart where vectors are not used: with
-# the same contracts, which are proved again. --lanes leaves it as it is, so that no crate below that
-# one is proved twice; large data then takes five times as long. The module is kept in out/. Of what
-# was proved in this checkout only that is proved again which the change reaches: where all was, it
-# takes some minutes, and else as long as the first proof of the crates.
+# the kernel has another platform.rt, by which groups go by words: the compiler has no vectors for
+# WebAssembly, and takes lanes apart. The module is kept in out/. Of what was proved in this
+# checkout only that file and that crate are proved again: where all was, this takes two minutes of
+# one processor, and else as long as the first proof of the crates. How long it took is said.
 set -euo pipefail
 
-way=words
-if [ $# = 2 ] && [ "$1" = --lanes ]; then
-    way=lanes
-    shift
-fi
 if [ $# != 1 ] || [ "${1#-}" != "$1" ]; then
-    echo 'usage: bindings/javascript/build.sh [--lanes] DIR' >&2
+    echo 'usage: bindings/javascript/build.sh DIR' >&2
     exit 2
 fi
 mkdir -p "$1"
@@ -32,7 +26,7 @@ target=$(realpath "$1")
 here=$(realpath "$(dirname "$0")")
 top=$(realpath "$here/../..")
 crate=data_encoding_c
-module=$here/out/$way.wasm
+module=$here/out/data_encoding.wasm
 room=$(mktemp -d)
 trap 'rm -rf "$room"' EXIT
 
@@ -45,64 +39,45 @@ below() {
     done
 }
 
-# copy_crates: the crates of this checkout that are needed, with what was proved of them: of those
-# that stay as they are, what the crates above them use.
+# copy_crates: the crates of this checkout that are needed, with what was proved of them.
 copy_crates() {
-    local name part proved=out
-    [ "$way" = words ] || proved=out/rlib
+    local name part
     for name in $(below "$crate" | sort -u); do
         [ -d "$top/crates/$name" ] || continue
-        mkdir -p "$room/crates/$name/out"
-        for part in src specs proofs $proved; do
+        mkdir -p "$room/crates/$name"
+        for part in src specs proofs out; do
             [ ! -d "$top/crates/$name/$part" ] ||
-                cp -a "$top/crates/$name/$part" "$room/crates/$name/$(dirname "$part")"
+                cp -a "$top/crates/$name/$part" "$room/crates/$name"
         done
         sed -n "s/^$name staticlib:/$name wasm64:/; /^$name[ :]/p" "$top/crates.txt"
     done >"$room/crates.txt"
     cp "$top/HANDLES" "$room/HANDLES"
 }
 
-# put CRATE FILE OLD NEW: replaces one text by the other in a file of the copied crate.
-put() {
-    local file=$room/crates/$1/src/$2
-    if ! grep -q "$3" "$file"; then
-        echo "$1 has no line with \`$3\`: build with --lanes" >&2
-        exit 1
-    fi
-    sed -i "s~$3~$4~" "$file"
-}
+# The one file that differs.
+platform() {
+    cat <<'END'
+//! What differs between platforms: WebAssembly as this toolchain compiles for it.
 
-# by_words: no turn of groups in lanes is taken.
-by_words() {
-    local kernel=data_encoding_kernel
-    put $kernel encode.rt 'encode_eights::<EightByRows, G>(EightByRows,' \
-        'encode_by_order::<OneGroup, G>(\&OneGroup,'
-    put $kernel encode.rt 'encode_short::<G>(symbols,' \
-        'encode_by_order::<OneGroup, G>(\&OneGroup, symbols,'
-    put $kernel encode.rt 'input.len() >= LONG_DATA_LEN' 'input.len() >= LONG_DATA_LEN \&\& false'
-    put $kernel decode.rt 'if input.len() < eight {' 'if input.len() < eight || true {'
-    put $kernel decode.rt 'let first = decode_by_few::<L, O, G>(values, look_up, ' \
-        'let first = decode_whole_turns::<[u8; 256], G>(values, O::ORDER, '
-    put data_encoding decode/steps.rt 'if input.len() - at.read - at.ignored < 16 ' \
-        'if true || input.len() - at.read - at.ignored < 16 '
-    put data_encoding decode/steps.rt 'if \*is_short || input.len() - at.read' \
-        'if *is_short || false \&\& input.len() - at.read'
-    put data_encoding decode/steps.rt 'let packs = self.fields.ignores' \
-        'let packs = false \&\& self.fields.ignores'
-    put data_encoding encode/lines.rt 'line_bytes / 8 >= G::BYTES' \
-        'line_bytes / 8 >= G::BYTES \&\& false'
+/// Whether groups go in lanes of vectors.
+#[inline(always)]
+pub fn has_lanes() -> bool {
+    false
+}
+END
 }
 
 # Nothing is proved again where no source is newer than the module.
-if [ ! -f "$module" ] || [ -n "$(find "$top/crates.txt" "$top"/crates/*/{src,specs,proofs} \
-    -newer "$module" -print -quit 2>/dev/null)" ]; then
+if [ ! -f "$module" ] || [ "$here/build.sh" -nt "$module" ] || [ -n "$(find "$top/crates.txt" \
+    "$top"/crates/*/{src,specs,proofs} -newer "$module" -print -quit 2>/dev/null)" ]; then
     command -v rt >/dev/null || {
         echo 'build.sh: no rt on the PATH: the toolchain of README.md has it' >&2
         exit 1
     }
-    [ "$way" = lanes ] || echo 'proves the module for WebAssembly, which takes some minutes' >&2
+    echo 'proves and builds the module for WebAssembly: two minutes where the crates are proved' >&2
+    begun=$SECONDS
     copy_crates
-    [ "$way" = lanes ] || by_words
+    platform >"$room/crates/data_encoding_kernel/src/platform.rt"
     if ! (cd "$room/crates/$crate" && rt lib) >"$room/log" 2>&1; then
         tail -n 20 "$room/log" >&2
         echo 'the module was not proved' >&2
@@ -110,6 +85,7 @@ if [ ! -f "$module" ] || [ -n "$(find "$top/crates.txt" "$top"/crates/*/{src,spe
     fi
     mkdir -p "$here/out"
     mv "$room/crates/$crate/out/$crate.wasm" "$module"
+    echo "it took $((SECONDS - begun)) s" >&2
 fi
 
 version=$(sed -n 's/^  "version": "\(.*\)",$/\1/p' "$here/package.json")

@@ -7,7 +7,9 @@ from setuptools import Extension, setup
 from setuptools.command.build_ext import build_ext
 
 ARCHIVE = "libdata_encoding.a"
-# From Python 3.11 on the stable interface has what reads a buffer.
+# From Python 3.11 on the stable interface has what reads a buffer. A module that is built with an
+# older Python is for that one.
+STABLE = sys.version_info >= (3, 11)
 ABI = "cp311"
 
 
@@ -43,11 +45,12 @@ setup(
         Extension(
             "data_encoding._native",
             ["src/data_encoding/_native.c"],
+            define_macros=[("Py_LIMITED_API", "0x030B0000")] if STABLE else [],
             extra_compile_args=["-std=c99"],
             # Without the second, an empty archive would be linked.
             extra_link_args=["-Wl,--exclude-libs,ALL", "-Wl,--require-defined=de_version"],
-            py_limited_api=True,
+            py_limited_api=STABLE,
         )
     ],
-    options={"bdist_wheel": {"py_limited_api": ABI}},
+    options={"bdist_wheel": {"py_limited_api": ABI}} if STABLE else {},
 )

@@ -1,7 +1,8 @@
 #!/usr/bin/env bash
 # Proves the library and builds it for programs in C. Writes these files to DIR, which is created:
 # libdata_encoding.a; libdata_encoding.so, a link to the file with the number of the interface in
-# its name; data_encoding.h; and the files of package/, by which pkg-config and CMake find these.
+# its name; data_encoding.h; the files of package/, by which pkg-config and CMake find these; and
+# LICENSE.
 #
 # usage: crates/data_encoding_c/build.sh [--target ARCH] [--cpu NAME] DIR
 #
@@ -90,9 +91,12 @@ header=include/data_encoding.h
 version=$(sed -n 's/^#define DE_VERSION "\(.*\)"$/\1/p' "$header")
 shared=libdata_encoding.so.$(sed -n 's/^#define DE_INTERFACE //p' "$header")
 
+# A section for each call, as the proved half has them: a program that is linked with --gc-sections
+# has only what it calls.
 for source in glue/*.c; do
-    "$cc" -std=c99 -Wall -Wextra -Wpedantic -Werror -O2 -fPIC -fvisibility=hidden ${CFLAGS:-} \
-        ${wide[@]+"${wide[@]}"} -Iinclude -c "$source" -o "$room/$(basename "$source" .c).o"
+    "$cc" -std=c99 -Wall -Wextra -Wpedantic -Werror -O2 -fPIC -fvisibility=hidden \
+        -ffunction-sections -fdata-sections ${CFLAGS:-} ${wide[@]+"${wide[@]}"} -Iinclude \
+        -c "$source" -o "$room/$(basename "$source" .c).o"
 done
 (cd "$room" && ar x "$OLDPWD/out/libdata_encoding_c.a")
 rm -f "$target/libdata_encoding.a"
@@ -106,7 +110,7 @@ ar crs "$target/libdata_encoding.a" "$room"/*.o
 "$cc" -shared -Wl,--version-script="$room/names" -Wl,-soname,"$shared" -o "$target/$shared" \
     "$room"/*.o
 ln -sf "$shared" "$target/libdata_encoding.so"
-cp "$header" "$target"
+cp "$header" ../../LICENSE "$target"
 for file in package/*; do
     sed "s/@VERSION@/$version/; s/@MINOR@/${version%.*}/; s/@SHARED@/$shared/" "$file" \
         >"$target/$(basename "$file")"

@@ -25,6 +25,7 @@ data_encoding.h 644 include
 data_encoding.pc 644 $libdir/pkgconfig
 data_encoding-config.cmake 644 $libdir/cmake/data_encoding
 data_encoding-config-version.cmake 644 $libdir/cmake/data_encoding
+LICENSE 644 share/doc/data_encoding
 LINES
 }
 

@@ -7,7 +7,6 @@ if has 'data-encoding-*.tgz' && ! lacks 'the package for JavaScript' node nodejs
     if command -v npm >/dev/null; then
         holds 'the commands of README.md, in JavaScript' quietly follow JavaScript
     else
-        skipped=$((skipped + 1))
         skip 'npm install: no npm (npm)'
         mkdir -p script/node_modules
         tar -C script/node_modules -xf "$files/data-encoding-$version.tgz"
@@ -32,7 +31,6 @@ fi
 if has basecode.html; then
     program=$room/basecode-$version-x86_64-linux/bin/basecode
     if [ ! -x "$program" ]; then
-        skipped=$((skipped + 1))
         skip 'the page: no program to compare it with'
     else
         if ! lacks 'the page in Chromium' chromium chromium &&

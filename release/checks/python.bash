@@ -35,7 +35,7 @@ needs ['libc.so.6']
 path False
 licence True
 described True
-python ['Requires-Python: >=3.11']" "$(wheel_facts \
+python ['Requires-Python: >=3.9']" "$(wheel_facts \
             "$files/data_encoding-$version-cp311-abi3-manylinux_2_17_$arch.whl")"
     done
     block "$pages/README.md" python >hello.py
@@ -61,11 +61,9 @@ python ['Requires-Python: >=3.11']" "$(wheel_facts \
                 wheel --no-index --no-deps --no-build-isolation --wheel-dir wheels "$sdist"
         fi
     else
-        skipped=$((skipped + 1))
         skip 'the wheel: no pip (python3-pip)'
     fi
     if [ -z "$ARM64_ROOT" ]; then
-        skipped=$((skipped + 1))
         skip 'the wheel, aarch64: no ARM64_ROOT'
     elif ! lacks 'the wheel, aarch64' qemu-aarch64 qemu-user; then
         mkdir site

@@ -65,7 +65,6 @@ END
                 "$(RUSTC=/usr/bin/rustc cargo_in crates/by-path run --quiet \
                     --target aarch64-unknown-linux-gnu 2>&1)"
         else
-            skipped=$((skipped + 1))
             skip 'the crate for Rust, aarch64: no standard library (libstd-rust-web-dev:arm64)'
         fi
     fi

@@ -122,18 +122,26 @@ class Page(unittest.TestCase):
             actions.key_up(key)
         actions.perform()
 
-    def drop(self, side: str, file: pathlib.Path) -> None:
+    def paste(self, side: str, text: str) -> None:
+        """Sets the field as a paste does: keys for a long text take minutes."""
+        self.driver.execute_script("""
+            arguments[0].value = arguments[1];
+            arguments[0].dispatchEvent(new InputEvent('input'));""",
+            self.find(f"#{side} textarea"), text)
+
+    def drop(self, side: str, *files: pathlib.Path) -> None:
         """A browser that is driven gets no file from a desktop: the event is made here."""
         self.driver.execute_script("""
             const input = document.createElement('input');
             input.type = 'file';
             input.id = 'dropped';
+            input.multiple = true;
             document.body.append(input);""")
-        self.find("#dropped").send_keys(str(file))
+        self.find("#dropped").send_keys("\n".join(map(str, files)))
         self.driver.execute_script("""
             const input = document.querySelector('#dropped');
             const dataTransfer = new DataTransfer();
-            dataTransfer.items.add(input.files[0]);
+            for (const file of input.files) dataTransfer.items.add(file);
             input.remove();
             for (const kind of ['dragover', 'drop']) {
                 const event = new DragEvent(kind, {dataTransfer, bubbles: true, cancelable: true});
@@ -275,6 +283,75 @@ class Sides(Page):
         self.type("text", "Zm9v m9v")
         self.assertEqual(self.fault(), "Not a symbol of BASE64, at 4: a space")
 
+    def test_line_ends(self) -> None:
+        for name, text, said, marked in (
+            ("BASE64", "SGVsbG8=\n", "Line end at 8: BASE64 ignores none, BASE64_MIME does", "\n"),
+            ("BASE64", "Zm9v\nYmFy", "Line end at 4: BASE64 ignores none, BASE64_MIME does", "\n"),
+            ("HEXLOWER", "48\n", "Line end at 2: HEXLOWER ignores none", "\n"),
+            ("BASE64_MIME", "Zm9v\nZm*v", "Not a symbol of BASE64_MIME, at 7: *", "*"),
+        ):
+            self.choose(name)
+            self.clear("text")
+            self.type("text", text)
+            self.assertEqual((self.fault(), self.marked()), (said, marked))
+        self.choose("BASE64")
+        self.clear("text")
+        self.type("text", "Zm!v\nYmFyYmF")
+        self.assertEqual(self.fault(), "Not a symbol of BASE64, at 2: !")
+
+    def test_a_long_text(self) -> None:
+        """Past a length nothing is marked, and that is said; the fault is still gone to."""
+        short = 65_536 * "A"
+        self.paste("text", short[:-1] + "!")
+        self.assertEqual(self.marked(), "!")
+        self.assertFalse(self.find("#text .unshaded").is_displayed())
+        long = short + short[:-4] + "AA!A"
+        self.paste("text", long)
+        self.assertEqual(self.fault(), f"Not a symbol of BASE64, at {len(long) - 2}: !")
+        self.assertIn("nothing is marked", self.find("#text .unshaded").text)
+        self.assertLess(len(self.find("#text .shades").get_property("textContent")), 10)
+        self.press(Keys.F8)
+        area = self.find("#text textarea")
+        self.assertEqual(self.driver.switch_to.active_element, area)
+        self.assertEqual(area.get_property("selectionStart"), len(long) - 2)
+        # The fault is at the end.
+        self.assertGreater(area.get_property("scrollTop"), 0.9 * self.driver.execute_script(
+            "return arguments[0].scrollHeight - arguments[0].clientHeight", area))
+        self.assertFalse(self.is_too_wide())
+        # As in the field, so in that of the data.
+        self.paste("data", 100_000 * "x")
+        self.assertIn("nothing is marked", self.find("#data .unshaded").text)
+        self.hex(True)
+        self.assertEqual(self.find("#data .addresses").text.count("\n"), 6249)
+        self.hex(False)
+        self.clear("data")
+        self.assertFalse(self.find("#data .unshaded").is_displayed())
+        self.assertFalse(self.find("#text .unshaded").is_displayed())
+
+    def test_a_key_in_a_long_text(self) -> None:
+        """A key in a mebibyte takes less than twice what it takes in a field of that alone."""
+        text = 350_000 * "Zm9v"
+        self.paste("text", text)
+        took = self.driver.execute_script(A_KEY, self.find("#text textarea"))
+        plain = self.driver.execute_script(A_PLAIN_KEY, text)
+        self.assertLess(took, 2 * plain + 500)
+
+    def test_lines_of_what_is_done(self) -> None:
+        self.type("data", "Hello")
+        lines = self.find("#lines").text
+        for line in ("BASE64.encode(&data)", "\nBASE64.encode(data)", "basecode encode BASE64"):
+            self.assertIn(line, lines)
+        self.clear("text")
+        lines = self.find("#lines").text
+        for line in ("data_encoding::BASE64.decode(", "data_encoding.BASE64.decode(text)",
+                     "\nBASE64.decode(text)", "de_decode(DE_BASE64,", "basecode decode BASE64"):
+            self.assertIn(line, lines)
+        self.assertNotIn("encode(", lines.replace("_encoding", "").replace("decode(", ""))
+        self.choose("BASE32")
+        self.assertIn("basecode decode BASE32", self.find("#lines").text)
+        self.type("data", "x")
+        self.assertIn("basecode encode BASE32", self.find("#lines").text)
+
     def test_shades(self) -> None:
         self.choose("BASE64_MIME")
         self.type("data", "x" * 58)
@@ -398,7 +475,18 @@ class Own(Page):
         self.assertEqual(made, asked)
         shell = shlex.split(self.line("Shell"))
         self.assertEqual(shell[:2], ["python3", "-c"])
-        self.assertIn(f"({self.line('Python')}.encode(", shell[2])
+        self.assertIn(f"; {self.line('Python')}.encode_stream(", shell[2])
+        made = self.driver.execute_script(f"""
+            const Encoding = class {{ constructor(asked) {{ this.asked = asked; }} }};
+            return ({self.line("JavaScript")}).asked;""")
+        self.assertEqual(made, {
+            "symbols": "01?'\"%\\#", "padding": "=", "ignore": "\x01\n\r x",
+            "wrap": {"width": 16, "separator": "\r\n"}, "translate": {"from": "ab", "to": "0'"},
+            "bitOrder": "least-significant-first", "checkTrailingBits": False,
+            "concatenate": False})
+        self.type("text", "0")
+        shell = shlex.split(self.line("Shell"))
+        self.assertIn(f"; {self.line('Python')}.decode_stream(", shell[2])
         if shutil.which("cc") is None:
             return
         source, binary = ROOM / "line.c", ROOM / "line"
@@ -467,6 +555,19 @@ class Own(Page):
             self.open(wrong)
             self.assertEqual(self.find("#broken").text, "")
 
+    def test_a_name_that_is_none(self) -> None:
+        for address, said in (
+            ("", ""),
+            ("#BASE64URL", ""),
+            ("#base64url",
+             "No encoding has the name base64url, but BASE64URL is one: this is BASE64"),
+            ("#nonsense", "No encoding has the name nonsense: this is BASE64"),
+        ):
+            self.open(address)
+            self.assertEqual(self.find("#unknown").text, said)
+        self.choose("BASE64URL")
+        self.assertEqual(self.find("#unknown").text, "")
+
 
 class Files(Page):
     LENGTH = 64 << 20
@@ -487,6 +588,20 @@ class Files(Page):
         self.pick("data", file)
         self.until(lambda: self.shown("data") == "SGVsbG8=\r\n")
         self.assertEqual(self.shown("text"), "U0dWc2JHOD0NCg==\r\n")
+
+    def test_two_files(self) -> None:
+        files = [ROOM / "one.txt", ROOM / "two.txt"]
+        for file in files:
+            file.write_bytes(b"SGVsbG8=")
+        self.drop("text", *files)
+        self.until(lambda: self.shown("data") == "Hello")
+        self.assertEqual(self.find("#text .taken").text, "Of 2 files one was taken: one.txt")
+        self.drop("text", files[1])
+        self.assertEqual(self.find("#text .taken").text, "")
+        self.drop("data", *files)
+        self.until(lambda: self.find("#data .taken").text != "")
+        self.type("data", "x")
+        self.assertEqual(self.find("#data .taken").text, "")
 
     def ended(self, words: str) -> None:
         self.until(lambda: self.find("#job .done").text.startswith(words), 120)
@@ -524,6 +639,30 @@ class Files(Page):
         self.assertEqual(self.find("#job .around").text, text[4_000_001 - 24:4_000_025].decode())
         self.find("#job .save").click()
         self.assertEqual(self.saved("faulty.bin"), program("decode", "BASE64", given=text)[0])
+
+    def test_a_line_end_after_a_large_file(self) -> None:
+        text = 100_000 * b"Zm9v"
+        faulty = ROOM / "ended.txt"
+        for end in b"\n", b"\r\n":
+            faulty.write_bytes(text + end)
+            self.pick("text", faulty)
+            self.ended("Decoded before it")
+            self.assertEqual(self.find("#job .fault").text, "Line end at 400000: "
+                             "BASE64 ignores none, BASE64_MIME does")
+
+    def test_another_file(self) -> None:
+        """It takes the place of one that is being converted, and that is said."""
+        other = ROOM / "other.bin"
+        other.write_bytes(self.file.read_bytes()[:1 << 20])
+        self.pick("data", self.file)
+        self.until(lambda: "a second" in self.find("#job .pace").text)
+        self.pick("data", other)
+        self.ended("Done")
+        self.assertEqual(self.find("#job .what").text, "Encoding other.bin by BASE64: 1.0 MiB; "
+                         "large.bin was stopped for it")
+        self.pick("data", other)
+        self.until(lambda: "stopped" not in self.find("#job .what").text)
+        self.ended("Done")
 
     def test_stopped(self) -> None:
         self.pick("data", self.file)
@@ -588,6 +727,35 @@ class Shapes(Page):
             area, text[:101] + "!" + text[102:])
         self.driver.save_screenshot(PICTURE)
 
+
+# How long a key takes until the field is laid out, in milliseconds: in the page, and in a plain
+# field. The least of three: others may use the machine.
+KEYS = """
+const times = [40, 41, 42].map((at) => {
+    area.focus();
+    area.setSelectionRange(at, at);
+    const began = performance.now();
+    document.execCommand("insertText", false, "Zm9v");
+    area.getBoundingClientRect();
+    document.body.scrollHeight;
+    return performance.now() - began;
+});
+"""
+A_KEY = f"""
+const [area] = arguments;
+{KEYS}
+return Math.min(...times);
+"""
+A_PLAIN_KEY = f"""
+const area = document.createElement("textarea");
+area.style.wordBreak = "break-all";
+area.value = arguments[0];
+document.body.append(area);
+area.getBoundingClientRect();
+{KEYS}
+area.remove();
+return Math.min(...times);
+"""
 
 # Prints what the line asks for, each field followed by a NUL.
 LINE_IN_C = """

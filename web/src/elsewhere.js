@@ -17,6 +17,7 @@ const SHORT = { 9: "\\t", 10: "\\n", 13: "\\r" };
 const otherInRust = (code) => SHORT[code] ?? `\\x${hex(code)}`;
 const inRust = (text) => `"${escaped(text, '"', otherInRust)}"`;
 const inPython = inRust;
+const inJavaScript = inRust;
 
 /** In C the digits after `\x` have no end: three octal digits have. */
 const octal = (code) => `\\${code.toString(8).padStart(3, "0")}`;
@@ -80,6 +81,34 @@ function python(asked) {
   return `Encoding(${words.join(", ")})`;
 }
 
+function javaScript(asked) {
+  const { symbols, padding, ignore, wrap, translate } = asked;
+  const words = [`symbols: ${inJavaScript(symbols)}`];
+  if (padding !== null) {
+    words.push(`padding: ${inJavaScript(padding)}`);
+  }
+  if (ignore !== "") {
+    words.push(`ignore: ${inJavaScript(ignore)}`);
+  }
+  if (wrap !== null) {
+    words.push(`wrap: { width: ${wrap.width}, separator: ${inJavaScript(wrap.separator)} }`);
+  }
+  if (translate !== null) {
+    const [from, to] = [translate.from, translate.to].map(inJavaScript);
+    words.push(`translate: { from: ${from}, to: ${to} }`);
+  }
+  if (asked.bitOrder !== MOST_SIGNIFICANT_FIRST) {
+    words.push(`bitOrder: "${asked.bitOrder}"`);
+  }
+  if (!asked.checkTrailingBits) {
+    words.push("checkTrailingBits: false");
+  }
+  if (!asked.concatenate) {
+    words.push("concatenate: false");
+  }
+  return `new Encoding({ ${words.join(", ")} })`;
+}
+
 function c(asked) {
   const { symbols, padding, ignore, wrap, translate } = asked;
   const parts = ["de_specification it = DE_SPECIFICATION;"];
@@ -113,30 +142,44 @@ function c(asked) {
 }
 
 /** The program has the eighteen alone: another encoding is one line of Python. */
-function shell(asked) {
+function shell(asked, isDecoding) {
+  const call = isDecoding ? "decode_stream" : "encode_stream";
   const program = [
     "import sys; from data_encoding import Encoding;",
-    `sys.stdout.write(${python(asked)}.encode(sys.stdin.buffer.read()))`,
+    `${python(asked)}.${call}(sys.stdin.buffer, sys.stdout.buffer)`,
   ].join(" ");
   return `python3 -c '${program.replaceAll("'", "'\\''")}'`;
 }
 
-/** The lines of an encoding: the language, and the line. */
-export function linesOf(encoding) {
+const ENCODING = (name) => [
+  ["Rust", `data_encoding::${name}.encode(&data)`],
+  ["Python", `data_encoding.${name}.encode(data)`],
+  ["JavaScript", `${name}.encode(data)`],
+  ["C", `de_encode(DE_${name}, data, len, text, sizeof text, &text_len)`],
+  ["Shell", `basecode encode ${name}`],
+];
+
+const DECODING = (name) => [
+  ["Rust", `data_encoding::${name}.decode(text.as_bytes())`],
+  ["Python", `data_encoding.${name}.decode(text)`],
+  ["JavaScript", `${name}.decode(text)`],
+  ["C", `de_decode(DE_${name}, text, text_len, data, sizeof data, &decoded)`],
+  ["Shell", `basecode decode ${name}`],
+];
+
+/** The lines of an encoding: the language, and the line, which encodes, decodes, or makes an
+ * encoding that is none of the eighteen. */
+export function linesOf(encoding, isDecoding) {
   const { name } = encoding;
   if (name !== null) {
-    return [
-      ["Rust", `data_encoding::${name}.encode(&data)`],
-      ["Python", `data_encoding.${name}.encode(data)`],
-      ["C", `de_encode(DE_${name}, data, len, text, sizeof text, &text_len)`],
-      ["Shell", `basecode encode ${name}`],
-    ];
+    return (isDecoding ? DECODING : ENCODING)(name);
   }
   const asked = encoding.specification();
   return [
     ["Rust", rust(asked)],
     ["Python", python(asked)],
+    ["JavaScript", javaScript(asked)],
     ["C", c(asked)],
-    ["Shell", shell(asked)],
+    ["Shell", shell(asked, isDecoding)],
   ];
 }

@@ -2,7 +2,7 @@
 
 import { DecodeError, Decoder, Encoder } from "../../bindings/javascript/src/index.js";
 import { download } from "./side.js";
-import { characterAt, sentenceOf, sized } from "./words.js";
+import { characterAt, lineEndOf, lineEndSentence, sentenceOf, sized } from "./words.js";
 
 /** So much of a file is read at a time. */
 const PIECE = 1 << 20;
@@ -40,8 +40,19 @@ async function around(file, position) {
   return [text.slice(0, at), character, text.slice(at + character.length)];
 }
 
+/** The sentence of a fault, if a line end at it, or at the end of the text, is its reason. */
+async function ofLineEnd(error, file, encoding) {
+  const from = error.kind === "length" ? Math.max(0, file.size - 2) : error.position;
+  const last = await file.slice(from, from + 2).text();
+  const at = lineEndOf({ kind: error.kind, position: 0 }, last, encoding);
+  return at === undefined ? undefined : lineEndSentence(from + at, encoding);
+}
+
 export class Job {
   #abort = null;
+
+  /** The name of the file that is being converted, or null. */
+  #running = null;
 
   /** @param {HTMLElement} section */
   constructor(section) {
@@ -81,10 +92,12 @@ export class Job {
   #begin(words, file, name) {
     this.#abort?.abort();
     this.#abort = new AbortController();
+    const stopped = this.#running === null ? "" : `; ${this.#running} was stopped for it`;
+    this.#running = file.name;
     this.name = name;
     this.blob = null;
     this.section.hidden = false;
-    this.what.textContent = `${words}: ${sized(file.size)}`;
+    this.what.textContent = `${words}: ${sized(file.size)}${stopped}`;
     this.bar.max = Math.max(1, file.size);
     this.bar.value = 0;
     this.pace.textContent = "";
@@ -125,6 +138,7 @@ export class Job {
   }
 
   #end(output, words) {
+    this.#running = null;
     this.blob = output.blob;
     this.done.textContent = `${words}: ${sized(this.blob.size)}`;
     this.stopButton.hidden = true;
@@ -153,9 +167,9 @@ export class Job {
 
   async #showFault(error, file, encoding) {
     const [before, character, after] = await around(file, error.position);
-    const { words, word, character: named } = sentenceOf(
-      error, encoding.name ?? "your own encoding", character, file.size,
-    );
+    const { words, word, character: named } =
+      (await ofLineEnd(error, file, encoding)) ??
+      sentenceOf(error, encoding.name ?? "your own encoding", character, file.size);
     this.fault.textContent = [words, word ?? named].filter((it) => it !== undefined).join(": ");
     const mark = document.createElement("span");
     mark.className = "faulty";

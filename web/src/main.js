@@ -10,7 +10,9 @@ import { Job } from "./job.js";
 import { OwnForm, encodingOf } from "./own.js";
 import { shadesOf } from "./shades.js";
 import { Side, download, say } from "./side.js";
-import { characterAt, characters, sentenceOf } from "./words.js";
+import {
+  characterAt, characters, lineEndOf, lineEndSentence, sentenceOf, unknownSentence,
+} from "./words.js";
 
 /** A file up to this length is shown, and any other converted in pieces. */
 const SHOWN = 1 << 18;
@@ -24,9 +26,17 @@ let isTextLast = false;
 
 const nameOf = () => encoding.name ?? "your own encoding";
 
+/** The side that was typed in last decides what the lines of other languages do. */
+function setTextLast(isText) {
+  if (isTextLast !== isText) {
+    isTextLast = isText;
+    showLines();
+  }
+}
+
 const data = new DataSide(find("#data"), {
   changed: () => {
-    isTextLast = false;
+    setTextLast(false);
     encode();
   },
   opened: (file) => openData(file),
@@ -35,14 +45,14 @@ const data = new DataSide(find("#data"), {
 
 const text = new Side(find("#text"), {
   typed: () => {
-    isTextLast = true;
+    setTextLast(true);
     decode();
   },
   opened: (file) => openText(file),
   saved: () => download(new Blob([text.text]), "text.txt"),
   cleared: () => {
     text.text = "";
-    isTextLast = true;
+    setTextLast(true);
     decode();
   },
 });
@@ -74,6 +84,11 @@ function decode() {
   describeText();
   if (error === null) {
     text.showFault(null, null);
+    return;
+  }
+  const lineEnd = lineEndOf(error, value, encoding);
+  if (lineEnd !== undefined) {
+    text.showFault(lineEndSentence(lineEnd, encoding), { from: lineEnd, to: lineEnd + 1 });
     return;
   }
   const character = characterAt(value, error.position);
@@ -127,12 +142,16 @@ async function copyLine(code) {
   say("copied");
 }
 
+function showLines() {
+  find("#lines dl").replaceChildren(...linesOf(encoding, isTextLast).flatMap(lineOf));
+}
+
 /** Takes another encoding. */
 function take(other) {
   encoding = other;
   text.shadeOf = shadesOf(encoding.specification());
   find("#facts").replaceChildren(...factsOf(encoding).map(termOf));
-  find("#lines dl").replaceChildren(...linesOf(encoding).flatMap(lineOf));
+  showLines();
   convert();
 }
 
@@ -158,6 +177,7 @@ function takeOwn() {
 function choose() {
   const isOwn = choice.value === OWN;
   find("#own").hidden = !isOwn;
+  find("#unknown").hidden = true;
   if (isOwn) {
     takeOwn();
   } else {
@@ -167,9 +187,19 @@ function choose() {
   }
 }
 
+/** Says that no encoding has the name in the address, if it has one. */
+function showUnknown(isUnknown) {
+  const unknown = find("#unknown");
+  unknown.hidden = !isUnknown;
+  unknown.textContent = isUnknown
+    ? unknownSentence(location.hash.slice(1), Encoding.names(), nameOf())
+    : "";
+}
+
 /** Takes what the address says. */
 function readAddress() {
-  const said = read(location.hash) ?? { name: "BASE64" };
+  const found = read(location.hash);
+  const said = found ?? { name: "BASE64" };
   choice.value = said.name ?? OWN;
   form.fields = said.fields ?? FIRST;
   find("#own").hidden = said.fields === undefined;
@@ -179,6 +209,7 @@ function readAddress() {
   } else {
     takeOwn();
   }
+  showUnknown(found === undefined && location.hash.length > 1);
 }
 
 async function openData(file) {
@@ -187,7 +218,7 @@ async function openData(file) {
     return;
   }
   data.show(new Uint8Array(await file.arrayBuffer()));
-  isTextLast = false;
+  setTextLast(false);
   encode();
 }
 
@@ -199,7 +230,7 @@ async function openText(file) {
     return;
   }
   text.text = decoder.decode(await file.arrayBuffer());
-  isTextLast = true;
+  setTextLast(true);
   decode();
 }
 

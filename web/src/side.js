@@ -20,6 +20,10 @@ export function download(blob, name) {
 
 const noShade = () => "";
 
+/** In a longer text nothing is marked: the copy of it that has the shades takes longer to lay out
+ * than the text itself. index.html has the number. */
+const SHADED = 65_536;
+
 export class Side {
   /**
    * @param {HTMLElement} section
@@ -35,17 +39,23 @@ export class Side {
     this.shades = find(".shades");
     this.size = find(".size");
     this.note = find(".note");
+    this.unshaded = find(".unshaded");
+    this.taken = find(".taken");
     this.fault = find(".fault");
     this.goButton = find(".go");
     this.mark = null;
     this.shadeOf = noShade;
-    this.area.addEventListener("input", () => events.typed(meant(this.area.value)));
+    this.area.addEventListener("input", () => {
+      this.taken.textContent = "";
+      events.typed(meant(this.area.value));
+    });
     this.goButton.addEventListener("click", () => this.go());
     this.#takeFiles(events.opened, find(".file"), find(".open"));
     this.#keepReturns();
     find(".copy").addEventListener("click", () => this.copy());
     find(".save").addEventListener("click", events.saved);
     find(".clear").addEventListener("click", () => {
+      this.taken.textContent = "";
       events.cleared();
       this.area.focus();
     });
@@ -55,6 +65,8 @@ export class Side {
   #takeFiles(opened, input, button) {
     const take = (files) => {
       if (files.length > 0) {
+        this.taken.textContent =
+          files.length > 1 ? `Of ${files.length} files one was taken: ${files[0].name}` : "";
         opened(files[0]);
       }
     };
@@ -138,7 +150,12 @@ export class Side {
   }
 
   paint() {
-    shade(this.shades, this.area.value, this.shadeOf, this.mark);
+    const { value } = this.area;
+    const isLong = value.length > SHADED;
+    // Beside lines of digits are their addresses, which have the same height.
+    this.field.classList.toggle("long", isLong && !this.field.classList.contains("hex"));
+    this.unshaded.hidden = !isLong;
+    shade(this.shades, isLong ? "" : value, this.shadeOf, isLong ? null : this.mark);
   }
 
   /** Goes to the fault. */
@@ -149,8 +166,25 @@ export class Side {
     const { from, to } = this.mark;
     this.area.focus({ preventScroll: true });
     this.area.setSelectionRange(from, Math.min(to, from + 1));
-    this.shades.querySelector(".faulty")?.scrollIntoView({ block: "center", inline: "nearest" });
+    const faulty = this.shades.querySelector(".faulty");
+    if (faulty !== null) {
+      faulty.scrollIntoView({ block: "center", inline: "nearest" });
+    } else {
+      this.#scrollTo(from);
+    }
     return true;
+  }
+
+  /** Scrolls a field that has no shades: what comes before the position is laid out once. */
+  #scrollTo(position) {
+    const { area, field, shades } = this;
+    const scrolled = field.classList.contains("long") ? area : field;
+    shades.style.width = `${area.clientWidth}px`;
+    shades.textContent = area.value.slice(0, position);
+    const height = shades.scrollHeight;
+    shades.style.width = "";
+    this.paint();
+    scrolled.scrollTop = height - scrolled.clientHeight / 2;
   }
 
   async copy() {

@@ -64,6 +64,30 @@ export function sentenceOf({ kind, position }, name, character, length) {
   return character === "" ? { words: `${words}: the end` } : { words, ...spoken(character) };
 }
 
+const LINE_END = /[\r\n]/;
+const LINES = "BASE64_MIME";
+
+/** The position of a line end that makes the text faulty; undefined if none does. A length that no
+ * text has may be due to it, too. */
+export function lineEndOf({ kind, position }, text, encoding) {
+  const at = text.search(LINE_END);
+  const isFault = at >= 0 && (kind === "length" || position === at);
+  return isFault && !encoding.specification().ignore.includes(text[at]) ? at : undefined;
+}
+
+/** Why a line end is a fault, as a sentence. */
+export function lineEndSentence(at, { name }) {
+  const other = name === "BASE64" ? `, ${LINES} does` : "";
+  return { words: `Line end at ${at}: ${name ?? "your own encoding"} ignores none${other}` };
+}
+
+/** That no encoding has this name, as a sentence, with the one that differs by case alone. */
+export function unknownSentence(name, names, taken) {
+  const meant = names.find((it) => it === name.toUpperCase());
+  const other = meant === undefined ? "" : `, but ${meant} is one`;
+  return `No encoding has the name ${name}${other}: this is ${taken}`;
+}
+
 const UNITS = ["bytes", "KiB", "MiB", "GiB", "TiB"];
 
 /** A number of bytes in its unit. */

@@ -89,11 +89,35 @@ export function encodeLen(key, length) {
   return machine.numberIn(RESULT);
 }
 
+/** The text of short data mostly fits a short text: its length is not asked for first. */
+const SHORT_DATA = 64;
+const SHORT_TEXT = 1024;
+const SHORT_TEXT_LENGTH = BigInt(SHORT_TEXT);
+const TOO_SHORT = 4;
+
+/** A view of the text of short data; undefined if it is longer than that. */
+function encodeShort(key, data) {
+  const output = machine.reserve(data.length, SHORT_TEXT);
+  machine.putInput(data);
+  const status = key.calls.encode(
+    key.first, INPUT, BigInt(data.length), BigInt(output), SHORT_TEXT_LENGTH, RESULT_ADDRESS,
+  );
+  if (status === TOO_SHORT) {
+    return undefined;
+  }
+  needsOk(status);
+  return machine.part(output, machine.numberIn(RESULT));
+}
+
 /** A view of the text of the data. */
 export function encode(key, data) {
+  const short = data.length <= SHORT_DATA ? encodeShort(key, data) : undefined;
+  if (short !== undefined) {
+    return short;
+  }
   const length = encodeLen(key, data.length);
   const output = machine.reserve(data.length, length);
-  machine.inputPart(data.length).set(data);
+  machine.putInput(data);
   needsOk(
     key.calls.encode(key.first, INPUT, BigInt(data.length), BigInt(output), BigInt(length),
       RESULT_ADDRESS),

@@ -125,7 +125,7 @@ export class Encoding {
     if (found.kind !== undefined) {
       throw errorOf(found);
     }
-    return found.data.slice();
+    return new Uint8Array(found.data);
   }
 
   /** Writes the data that the text means to the start of the output, and returns its length. */
@@ -142,7 +142,7 @@ export class Encoding {
   decodePartial(text) {
     const found = calls.decode(this.#key, textOf(text));
     const error = found.kind === undefined ? null : errorOf(found);
-    return { data: error?.data ?? found.data.slice(), read: found.read, error };
+    return { data: error?.data ?? new Uint8Array(found.data), read: found.read, error };
   }
 
   /** The length of the text of that many bytes. */

@@ -108,8 +108,14 @@ export const part = (address, length) => bytes.subarray(address, address + lengt
 /** The room for an input of this length, which was reserved. */
 export const inputPart = (length) => part(room, length);
 
-/** The number in a field of the desk. */
-export const numberIn = (field) => Number(fields.getBigUint64(desk + field, true));
+/** Writes an input to its room, which was reserved. */
+export function putInput(values) {
+  bytes.set(values, room);
+}
+
+/** The number in a field of the desk, as its halves: a BigInt takes longer to make. */
+export const numberIn = (field) =>
+  fields.getUint32(desk + field, true) + fields.getUint32(desk + field + 4, true) * 2 ** 32;
 
 export const smallNumberIn = (field) => fields.getUint32(desk + field, true);
 

@@ -58,7 +58,7 @@ export class Decoder {
   push(piece) {
     const { data, kept } = calls.decoderRead(this.#key, this.#kept, textOf(piece));
     this.#kept = kept;
-    return data.slice();
+    return new Uint8Array(data);
   }
 
   /**
@@ -71,6 +71,6 @@ export class Decoder {
     if (kind !== undefined) {
       throw new DecodeError(kind, position, data.slice());
     }
-    return data.slice();
+    return new Uint8Array(data);
   }
 }

@@ -4,7 +4,7 @@ import assert from "node:assert/strict";
 import test from "node:test";
 import vm from "node:vm";
 
-import { BASE64, BASE64URL_NOPAD, BASE64_MIME, HEXLOWER } from "../src/index.js";
+import { BASE64, BASE64URL, BASE64URL_NOPAD, BASE64_MIME, HEXLOWER } from "../src/index.js";
 import { DecodeError, EVERY, Encoding, OWN, ascii, bytes, verdict } from "./common.js";
 
 /** RFC 4648, section 10. */
@@ -52,6 +52,27 @@ test("where atob and Buffer decode otherwise", () => {
   }
 });
 
+/** Those of the rows of docs/COMING_FROM.md on `Uint8Array.fromBase64`, which Node 20 has not. */
+test("what fromBase64 decodes by alphabet and lastChunkHandling", () => {
+  const asked = { ...BASE64.specification(), concatenate: false, ignore: " \t\n\f\r" };
+  const strict = new Encoding(asked);
+  const loose = new Encoding({ ...asked, checkTrailingBits: false });
+  const unpadded = new Encoding({ ...asked, checkTrailingBits: false, padding: null });
+  for (const [encoding, text, wanted] of [
+    [strict, " SG\tk=\r\n\f", [72, 105]],
+    [strict, "SGl=", "trailing at 2"],
+    [strict, "SGk", "length at 0"],
+    [strict, "AA==AAA=", "padding at 4"],
+    [loose, "S Gl=", [72, 105]],
+    [unpadded, "SG l\n", [72, 105]],
+    [unpadded, "SGk=", "symbol at 3"],
+  ]) {
+    assert.deepEqual(verdict(() => encoding.decode(text)), wanted, text);
+  }
+  const url = new Encoding({ ...BASE64URL.specification(), concatenate: false, ignore: " " });
+  assert.deepEqual(url.decode("-_ 8="), new Uint8Array([251, 255]));
+});
+
 test("the same as Buffer, of each length from 0 to 8,200", () => {
   const all = bytes(8200);
   const same = [[BASE64, "base64"], [BASE64URL_NOPAD, "base64url"], [HEXLOWER, "hex"]];
@@ -62,6 +83,19 @@ test("the same as Buffer, of each length from 0 to 8,200", () => {
       assert.equal(encoding.encode(data), text);
       assert.ok(Buffer.from(text, name).equals(encoding.decode(text)));
     }
+  }
+});
+
+test("short data whose text is long", () => {
+  const separator = "-".repeat(200);
+  const encoding = new Encoding({ symbols: "01", wrap: { width: 8, separator }, ignore: "-" });
+  for (let length = 0; length < 70; length++) {
+    const data = bytes(length);
+    const digits = Array.from(data, (byte) => byte.toString(2).padStart(8, "0") + separator);
+    assert.equal(encoding.encode(data), digits.join(""));
+    const output = new Uint8Array(length * 208);
+    assert.equal(encoding.encodeInto(data, output), output.length);
+    assert.deepEqual(encoding.decode(output), data);
   }
 });
 

@@ -31,6 +31,23 @@ test("calls of all sizes take turns in one memory", () => {
   }
 });
 
+test("a platform that has no buffers of Node", () => {
+  const source = `
+    delete globalThis.Buffer;
+    const { BASE64 } = await import(${JSON.stringify(index.href)});
+    for (const length of [3, 30, 3071, 3072, 100_000]) {
+      const data = new Uint8Array(length).map((_, at) => (at * 7) % 251);
+      const text = BASE64.encode(data);
+      const same = BASE64.decode(text).every((byte, at) => byte === data[at]);
+      console.log(text.length, text === btoa(String.fromCharCode(...data)), same);
+    }`;
+  assert.equal(
+    execFileSync(process.execPath, [...process.execArgv.filter((it) => it.includes("wasm")),
+      "--input-type=module", "-e", source], { encoding: "utf8" }),
+    [4, 40, 4096, 4096, 133_336].map((length) => `${length} true true\n`).join(""),
+  );
+});
+
 test("a memory that can't grow says so, and serves on", () => {
   const source = `
     const { grow } = WebAssembly.Memory.prototype;

@@ -3,34 +3,56 @@
 import copy
 import os
 
+import fsspec
 from data_encoding import BASE64, DecodeError, Decoder
 from distributed import Client, LocalCluster
 
 PART = 6_270_000
 
+# The cluster is given at most this number of pieces at a time.
+WINDOW = 256
+
+
+def windows(starts):
+    for first in range(0, len(starts), WINDOW):
+        yield starts[first : first + WINDOW]
+
+
+def size_of(source):
+    files, path = fsspec.core.url_to_fs(os.fspath(source))
+    return files.size(path)
+
 
 def read(source, start, length):
-    with open(source, "rb") as file:
+    files, path = fsspec.core.url_to_fs(os.fspath(source))
+    return files.cat_file(path, start=start, end=start + length)
+
+
+def create(target, size):
+    with open(target, "wb") as file:
+        file.truncate(size)
+
+
+def write(target, start, data):
+    with open(target, "r+b") as file:
         file.seek(start)
-        return file.read(length)
+        file.write(data)
 
 
 def encode_part(start, encoding, source, target, length):
-    text = encoding.encode(read(source, start, length))
-    with open(target, "r+b") as file:
-        file.seek(encoding.encode_len(start))
-        file.write(text.encode())
+    text = encoding.encode_bytes(read(source, start, length))
+    write(target, encoding.encode_len(start), text)
 
 
 def encode_file(client, encoding, source, target):
-    size = os.path.getsize(source)
+    size = size_of(source)
     length = PART - PART % encoding.encode_align
-    with open(target, "wb") as file:
-        file.truncate(encoding.encode_len(size))
-    client.gather(client.map(
-        encode_part, range(0, size, length), pure=False,
-        encoding=encoding, source=source, target=target, length=length,
-    ))
+    create(target, encoding.encode_len(size))
+    for starts in windows(range(0, size, length)):
+        client.gather(client.map(
+            encode_part, starts, pure=False,
+            encoding=encoding, source=source, target=target, length=length,
+        ))
 
 
 def may_join(encoding):
@@ -40,9 +62,12 @@ def may_join(encoding):
     return padded or len(asked["symbols"]) in (2, 4, 16)
 
 
-def decode_part(start, decoder, source, length):
+def decode_part(start, to, decoder, source, target, length):
+    """Writes the data of a piece to the target, from `to` on. Returns its length, and the decoder."""
     decoder = copy.copy(decoder)
-    return decoder.decode(read(source, start, length)), decoder
+    data = decoder.decode(read(source, start, length))
+    write(target, to, data)
+    return len(data), decoder
 
 
 def end(decoder):
@@ -53,35 +78,79 @@ def end(decoder):
         return b"", fault
 
 
+class Decoding:
+    """How far a text is decoded into a file."""
+
+    def __init__(self, client, encoding, source, target):
+        self.client, self.encoding = client, encoding
+        self.source, self.target = source, target
+        self.size = size_of(source)
+        self.part = PART - PART % encoding.encode_align
+        self.length = encoding.encode_len(self.part)
+        self.joins = may_join(encoding)
+        # How much data the pieces so far have; where the text begins that they end in; and, if it
+        # has no end there, the decoder that goes on.
+        self.written = 0
+        self.begin = 0
+        self.decoder = None if self.joins else Decoder(encoding)
+
+    def decode_each(self, starts, places):
+        """Each piece as a text of its own: the lengths of its data, and what is kept of it."""
+        return self.client.gather(self.client.map(
+            decode_part, starts, places, pure=False, decoder=Decoder(self.encoding),
+            source=self.source, target=self.target, length=self.length,
+        ))
+
+    def decode_on(self, start):
+        return self.client.submit(
+            decode_part, start, self.written, self.decoder, self.source, self.target, self.length,
+            pure=False,
+        ).result()
+
+    def decode_window(self, starts):
+        places = [self.written + index * self.part for index in range(len(starts))]
+        found = self.decode_each(starts, places) if self.joins else [None] * len(starts)
+        alone = []
+        is_misplaced = False
+        try:
+            for start, place, of_text in zip(starts, places, found):
+                if self.decoder is not None:
+                    self.take(start, *self.decode_on(start))
+                    continue
+                # Bytes that are ignored, more or fewer than in lines as they are written, and
+                # padding, put the next piece elsewhere; one may have been written over another.
+                is_misplaced |= place != self.written or of_text[0] > self.part
+                alone.append((start, self.written))
+                self.begin = start
+                self.take(start, *of_text)
+        finally:
+            if is_misplaced:
+                self.decode_each(*zip(*alone))
+
+    def take(self, start, count, decoder):
+        self.written += count
+        self.decoder = decoder
+        rest, fault = end(decoder)
+        last = start + self.length >= self.size
+        held, _ = decoder.getstate()
+        if fault and (last or not held):
+            raise DecodeError(fault.kind, self.begin + fault.position)
+        if not fault and (last or self.joins):
+            write(self.target, self.written, rest)
+            self.written += len(rest)
+            self.decoder = None
+
+
 def decode_file(client, encoding, source, target):
     """A DecodeError has the position in the whole; the data before it is in the target."""
-    size = os.path.getsize(source)
-    encoding.decode_len(size)  # a DecodeError if no text has this length
-    length = encoding.encode_len(PART - PART % encoding.encode_align)
-    starts = range(0, size, length)
-    joins = may_join(encoding)
-    # Each part as a text of its own.
-    alone = dict(zip(starts, client.map(
-        decode_part, starts if joins else [], pure=False,
-        decoder=Decoder(encoding), source=source, length=length,
-    )))
-    begin, decoder = 0, None if joins else Decoder(encoding)
-    with open(target, "wb") as output:
-        for start in starts:
-            if decoder is None:
-                begin, future = start, alone.pop(start)
-            else:
-                future = client.submit(decode_part, start, decoder, source, length, pure=False)
-            data, decoder = future.result()
-            output.write(data)
-            rest, fault = end(decoder)
-            last = start + length >= size
-            held, _ = decoder.getstate()
-            if fault and (last or not held):
-                raise DecodeError(fault.kind, begin + fault.position)
-            if not fault and (last or joins):
-                output.write(rest)
-                decoder = None
+    encoding.decode_len(size_of(source))  # a DecodeError if no text has this length
+    create(target, 0)
+    decoding = Decoding(client, encoding, source, target)
+    try:
+        for starts in windows(range(0, decoding.size, decoding.length)):
+            decoding.decode_window(starts)
+    finally:
+        os.truncate(target, decoding.written)
 
 
 if __name__ == "__main__":

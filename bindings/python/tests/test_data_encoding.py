@@ -6,7 +6,10 @@ import binascii
 import codecs
 import concurrent.futures
 import copy
+import ctypes
 import doctest
+import importlib
+import io
 import itertools
 import pickle
 import random
@@ -23,10 +26,12 @@ SAME: Any = {
     "hexlower": base64.b16encode,
     "hexupper": base64.b16encode,
     "base32": base64.b32encode,
-    "base32hex": base64.b32hexencode,
     "base64": base64.b64encode,
     "base64url": base64.urlsafe_b64encode,
 }
+
+if sys.version_info >= (3, 10):
+    SAME["base32hex"] = base64.b32hexencode
 
 NAMES = [
     "hexlower", "hexlower_permissive", "hexupper", "hexupper_permissive", "base32",
@@ -72,6 +77,7 @@ class Calls(unittest.TestCase):
                 self.assertEqual(encoding.encode(data), text)
                 self.assertEqual(encoding.decode(text), data)
 
+    @unittest.skipIf(sys.version_info < (3, 11), "binascii has no strict_mode")
     def test_binascii(self) -> None:
         for text in ("Zm9v", "Zm9vYg==", "Zm9vYg=", "Zm9!", "Zm9vYg==Zm9v", "Z===", "===="):
             try:
@@ -144,6 +150,70 @@ class Calls(unittest.TestCase):
             self.assertRaises(ValueError, call, 1 << 70)
             self.assertRaises(TypeError, call, "1")
             self.assertRaises(TypeError, call, 1.0)
+
+    def test_encode_bytes(self) -> None:
+        for encoding in every():
+            for size in (0, 1, 50, 255, 256, 384, 385, 513, 20_000):
+                data = random.randbytes(size)
+                text = encoding.encode_bytes(data)
+                self.assertIs(type(text), bytes)
+                self.assertEqual(text, encoding.encode(data).encode())
+                self.assertEqual(encoding.encode_bytes(bytearray(data)), text)
+        for wrong in ("text", 5, None, [1]):
+            self.assertRaises(TypeError, BASE64.encode_bytes, wrong)
+
+    def test_encode_into(self) -> None:
+        output = bytearray(b".........")
+        self.assertEqual(BASE64.encode_into(b"foob", output), 8)
+        self.assertEqual(output, b"Zm9vYg==.")
+        self.assertEqual(BASE64.encode_into(b"bar", memoryview(output)[5:]), 4)
+        self.assertEqual(output, b"Zm9vYYmFy")
+        for encoding in every():
+            data = random.randbytes(2000)
+            text = encoding.encode(data)
+            output = bytearray(len(text) + 1)
+            self.assertEqual(encoding.encode_into(data, output), len(text))
+            self.assertEqual(output, text.encode() + b"\0")
+            before = bytes(output)
+            for room in (0, 1, len(text) - 1):
+                with self.assertRaises(ValueError) as refused:
+                    encoding.encode_into(bytes(2000), memoryview(output)[:room])
+                self.assertEqual(str(refused.exception),
+                                 f"output too short: the text has {len(text)} bytes")
+            self.assertEqual(output, before)
+        self.assertRaises(TypeError, BASE64.encode_into, b"foo", b"........")
+        self.assertRaises(TypeError, BASE64.encode_into, b"foo", memoryview(b"........"))
+        self.assertRaises(TypeError, BASE64.encode_into, b"foo", 5)
+        self.assertRaises(TypeError, BASE64.encode_into, "foo", output)
+        self.assertRaises(TypeError, BASE64.encode_into, b"foo")
+        self.assertRaises(TypeError, BASE64.encode_into, b"foo", output, 1)
+
+    def test_encode_into_the_data(self) -> None:
+        data = bytearray(b"foo....")
+        with self.assertRaises(ValueError) as refused:
+            BASE64.encode_into(memoryview(data)[:3], data)
+        self.assertEqual(str(refused.exception), "the data is in the output")
+        self.assertEqual(data, b"foo....")
+        self.assertEqual(BASE64.encode_into(memoryview(data)[:3], memoryview(data)[3:]), 4)
+        self.assertEqual(data, b"fooZm9v")
+
+    def test_made_objects(self) -> None:
+        """A text and data that are written in place are objects like any others."""
+        for size in (383, 384, 385, 512, 513, 9000, 9001, 100_000):
+            data = random.randbytes(size).replace(b"\0", b"1")
+            text = BASE64.encode(data)
+            wanted = base64.b64encode(data).decode()
+            self.assertEqual(sys.getsizeof(text), sys.getsizeof(wanted))
+            self.assertTrue(text.isascii())
+            self.assertEqual({text: 1}, {wanted: 1})
+            self.assertEqual((text + "\u00e9")[-2:], wanted[-1] + "\u00e9")
+            again = BASE64.decode(text)
+            self.assertEqual({again: 1}, {data: 1})
+            self.assertEqual(again[-1:] + b"!", data[-1:] + b"!")
+            self.assertEqual(ctypes.c_char_p(again).value, data)
+            del text, again
+        # No str that others have is written to.
+        self.assertEqual("".join(["."] * 2), "..")
 
     def test_decode_into(self) -> None:
         output = bytearray(b"........")
@@ -219,6 +289,125 @@ class Calls(unittest.TestCase):
             sys.setswitchinterval(interval)
             ended.set()
             thread.join()
+
+
+class Raw(io.BytesIO):
+    """A file that reads and takes a few bytes at a time."""
+
+    def __init__(self, data: bytes = b"", most: int = 1000) -> None:
+        super().__init__(data)
+        self.most = most
+
+    def read(self, size: Optional[int] = -1, /) -> bytes:
+        return super().read(self.most if size is None or size < 0 else min(size, self.most))
+
+    def write(self, data: Any, /) -> int:
+        return super().write(data[: self.most])
+
+
+class Streams(unittest.TestCase):
+    def test_files(self) -> None:
+        data = random.randbytes(600_000)
+        for encoding in every():
+            wanted = encoding.encode(data).encode()
+            for make in (io.BytesIO, Raw):
+                text = make()
+                encoding.encode_stream(make(data), text)
+                self.assertTrue(text.getvalue() == wanted, encoding)
+                back = make()
+                encoding.decode_stream(make(wanted), back)
+                self.assertTrue(back.getvalue() == data, encoding)
+
+    def test_short_files(self) -> None:
+        for encoding in every():
+            for size in range(20):
+                data = random.randbytes(size)
+                text, back = io.BytesIO(), io.BytesIO()
+                encoding.encode_stream(Raw(data, 2), text)
+                self.assertEqual(text.getvalue(), encoding.encode(data).encode())
+                encoding.decode_stream(io.StringIO(text.getvalue().decode()), back)
+                self.assertEqual(back.getvalue(), data)
+
+    def test_faults(self) -> None:
+        text = bytearray(base64.b64encode(bytes(600_000)))
+        text[500_002] = ord("!")
+        back = io.BytesIO()
+        with self.assertRaises(DecodeError) as caught:
+            BASE64.decode_stream(io.BytesIO(text), back)
+        self.assertEqual(caught.exception.args, ("symbol", 500_002, b""))
+        self.assertEqual(back.getvalue(), bytes(375_000))
+        back = io.BytesIO()
+        with self.assertRaises(DecodeError) as caught:
+            BASE64.decode_stream(io.BytesIO(b"Zm9vY"), back)
+        self.assertEqual((caught.exception.kind, back.getvalue()), ("length", b"foo"))
+
+    def test_what_is_no_file_of_bytes(self) -> None:
+        self.assertRaises(TypeError, BASE64.encode_stream, io.StringIO("text"), io.BytesIO())
+        self.assertRaises(TypeError, BASE64.encode_stream, io.BytesIO(b"a"), io.StringIO())
+        self.assertRaises(TypeError, BASE64.decode_stream, io.BytesIO(b"Zm9v"), io.StringIO())
+        self.assertRaises(AttributeError, BASE64.encode_stream, b"data", io.BytesIO())
+
+    def test_what_would_block(self) -> None:
+        class Waiting:
+            def read(self, size: int, /) -> None:
+                return None
+
+            def write(self, data: memoryview, /) -> int:
+                return 0
+
+        for call in (BASE64.encode_stream, BASE64.decode_stream):
+            self.assertRaises(BlockingIOError, call, Waiting(), io.BytesIO())
+            self.assertRaises(BlockingIOError, call, io.BytesIO(b"Zm9v"), Waiting())
+
+
+IN_ANOTHER = """
+import sys
+sys.path[:] = {path!r}
+from data_encoding import BASE64, DecodeError, Encoding
+octal = Encoding("01234567", padding="=")
+for _ in range(200):
+    assert BASE64.encode(bytes(9000)) == 12000 * "A"
+    assert octal.decode(octal.encode(bytes(range(256)))) == bytes(range(256))
+    try:
+        BASE64.decode("Zm9!")
+    except DecodeError as fault:
+        assert fault.position == {position}
+    else:
+        assert False
+"""
+
+
+def run_in_another(code: str) -> Optional[str]:
+    """Runs the code in an interpreter of its own, and says how it failed."""
+    try:
+        interpreters: Any = importlib.import_module("_interpreters")
+    except ImportError:
+        interpreters = importlib.import_module("_xxsubinterpreters")
+    made = interpreters.create()
+    try:
+        failed = interpreters.run_string(made, code)
+        return None if failed is None else str(failed)
+    except Exception as error:
+        return str(error)
+    finally:
+        interpreters.destroy(made)
+
+
+class Interpreters(unittest.TestCase):
+    def test_one_after_another(self) -> None:
+        for _ in range(3):
+            code = IN_ANOTHER.format(path=sys.path, position=3)
+            self.assertIsNone(run_in_another(code))
+        wrong = IN_ANOTHER.format(path=sys.path, position=4)
+        self.assertIn("Assertion", str(run_in_another(wrong)))
+        self.assertEqual(BASE64.encode(b"Hello"), "SGVsbG8=")
+
+    @unittest.skipIf(sys.version_info < (3, 12), "interpreters share one lock")
+    def test_at_the_same_time(self) -> None:
+        code = IN_ANOTHER.format(path=sys.path, position=3)
+        with concurrent.futures.ThreadPoolExecutor(3) as pool:
+            found = list(pool.map(run_in_another, 6 * [code]))
+        self.assertEqual(found, 6 * [None])
 
 
 class Faults(unittest.TestCase):
@@ -406,6 +595,16 @@ class Encodings(unittest.TestCase):
                              encoding.encode(data))
         self.assertEqual([encoding.encode_align for encoding in OWN], [3, 5, 3, 1, 127, 3, 3])
         self.assertEqual(data_encoding.BASE64_MIME.encode_align, 57)
+
+    def test_methods(self) -> None:
+        """Those of the module are an encoding's own, and still refuse any other object."""
+        for name in ("encode", "encode_bytes", "encode_into", "decode", "decode_into"):
+            own = vars(Encoding)[name]
+            self.assertIs(own.__objclass__, Encoding)
+            self.assertEqual(own.__doc__, getattr(data_encoding._native.Calls, name).__doc__)
+            self.assertRaises(TypeError, own, 5, b"foo")
+        for wrong in (5, BASE64):
+            self.assertRaises(TypeError, data_encoding._native.adopt, wrong)
 
     def test_unchanged(self) -> None:
         with self.assertRaises(AttributeError):

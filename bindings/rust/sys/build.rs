@@ -20,6 +20,17 @@ fn targets(lib: &Path) -> Vec<String> {
     names
 }
 
+/// The processor of the first object of an archive, by the header that each object has.
+fn processor(archive: &Path) -> Option<&'static str> {
+    let bytes = fs::read(archive).ok()?;
+    let start = bytes.windows(4).position(|four| four == b"\x7fELF")?;
+    match *bytes.get(start + 18..start + 20)? {
+        [62, 0] => Some("x86_64"),
+        [183, 0] => Some("aarch64"),
+        _ => None,
+    }
+}
+
 fn link(folder: &Path) {
     println!("cargo:rerun-if-changed={}", folder.join(ARCHIVE).display());
     println!("cargo:rustc-link-search=native={}", folder.display());
@@ -38,6 +49,14 @@ fn main() {
             eprintln!(
                 "DATA_ENCODING_DIR has to be the absolute path of a folder with {ARCHIVE}, which \
                  `crates/data_encoding_c/build.sh FOLDER` makes from the sources of Bamsturk"
+            );
+            process::exit(1);
+        }
+        let found = processor(&folder.join(ARCHIVE));
+        if found != env::var("CARGO_CFG_TARGET_ARCH").ok().as_deref() {
+            eprintln!(
+                "the library of DATA_ENCODING_DIR is for {}, and the target is {target}",
+                found.unwrap_or("another processor")
             );
             process::exit(1);
         }

@@ -3,7 +3,7 @@ use Rattle.std.proofs.Common.{◌≡◌, ℕ, zero, suc, List, length, Option, S
 use Rattle.data_encoding.specs.declared.encoding.Character.{Character}
 use Rattle.data_encoding.specs.declared.specification.meanings.Refusal.{Refusal}
 use Rattle.data_encoding.specs.Base.{Base}
-use Rattle.data_encoding.specs.Fields.{Fields, base_of, base_by, base_with, judgements, meanings_after, no_meanings, width_of}
+use Rattle.data_encoding.specs.Fields.{Fields, base_of, base_by, base_with, judgements, meanings_of, width_of}
 
 -- one base, and no refusal
 pub same_built : (result : Result Base Refusal) (base other : Base) → result ≡ Ok base
@@ -31,7 +31,7 @@ module _ (fields : Fields) where
   symbols-by None = refl
   symbols-by (Some zero) = refl
   symbols-by (Some (suc n)) =
-      symbols-with (suc n) (meanings_after (Ok no_meanings) (judgements (suc n) fields))
+      symbols-with (suc n) (meanings_of (judgements (suc n) fields))
 
   -- the symbols are those that were asked for
   pub symbols-built : (base : Base) → base_of fields ≡ Ok base → base.symbols ≡ fields.symbols

@@ -25,6 +25,7 @@ pub mod kept;
 pub mod keys;
 pub mod names;
 pub mod referenced;
+pub mod runs;
 pub mod stored;
 pub mod streamed;
 

@@ -30,6 +30,7 @@ mod referenced;
 mod resuming;
 mod round_trips;
 mod rows;
+mod runs;
 mod short_texts;
 mod slow;
 mod specifications;

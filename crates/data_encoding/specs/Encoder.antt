@@ -6,8 +6,8 @@ use Rattle.std.specs.contracts.alloc.Global as global
 use Rattle.std.specs.contracts.impls.GlobalAllocator.TheImpl.{ghosts}
 use Rattle.std.specs.contracts.string.String as string
 use mathlib.Core.Option as maybe
-use Rattle.data_encoding.specs.declared.encode.encoder.Encoder.{Encoder}
-use Rattle.data_encoding.specs.declared.encode.encoder.Encodes
+use Rattle.data_encoding.specs.declared.encoder.Encoder.{Encoder}
+use Rattle.data_encoding.specs.declared.encoder.Encodes
 use Rattle.data_encoding_meaning.specs.text.Base.{Base}
 use Rattle.data_encoding_meaning.specs.text.EncodedPieces.{HasEncoded}
 use Rattle.data_encoding_meaning.specs.text.Text.{text_of}

@@ -37,3 +37,4 @@ pub use Rattle.data_encoding_meaning.specs.laws.Tight
 pub use Rattle.data_encoding_meaning.specs.laws.FaultStays
 pub use Rattle.data_encoding_meaning.specs.laws.Rules
 pub use Rattle.data_encoding_meaning.specs.laws.Told
+pub use Rattle.data_encoding_meaning.specs.laws.Layers

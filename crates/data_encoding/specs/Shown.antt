@@ -1,6 +1,6 @@
 -- What a `Display` prints.
 use Rattle.std.specs.Prelude.{ℕ, List}
-use Rattle.data_encoding.specs.declared.encode.display.Display.{Display}
+use Rattle.data_encoding.specs.declared.write.Display.{Display}
 use Rattle.data_encoding_meaning.specs.text.Text.{text_of}
 
 -- its data

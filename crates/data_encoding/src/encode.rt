@@ -1,8 +1,6 @@
 //! From data to text.
 
 pub(crate) mod append;
-pub(crate) mod display;
-pub(crate) mod encoder;
 pub(crate) mod lines;
 pub(crate) mod long_lines;
 

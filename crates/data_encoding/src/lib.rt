@@ -7,20 +7,22 @@
 
 mod decode;
 mod encode;
+mod encoder;
 pub mod encoding;
 pub mod error;
 mod memory;
 mod plain;
 pub mod specification;
+mod write;
 
 pub use data_encoding_meaning::laws;
 pub use decode::DECODE_LIMIT;
 pub use encode::ENCODE_LIMIT;
-pub use encode::display::Display;
-pub use encode::encoder::{Encoder, Encodes};
+pub use encoder::{Encoder, Encodes};
 pub use encoding::{BitOrder, Character, Encoding, EncodingRef};
 pub use error::{DecodeError, DecodeFault, DecodeKind, DecodePartial};
 pub use plain::PlainEncoding;
+pub use specification as spec;
 pub use specification::bytes::SpecificationBytes;
 pub use specification::meanings::Refusal;
 pub use specification::parts::SpecificationParts;
@@ -35,3 +37,4 @@ pub use specification::predefined::{
     predefined_name, predefined_names, predefined_number, predefined_numbered,
 };
 pub use specification::{Specification, SpecificationError, Translate, Wrap};
+pub use write::Display;

@@ -13,7 +13,8 @@
  * Lengths are in bytes. No text that is written ends in a NUL. No call allocates memory.
  *
  * The library is for Linux with glibc, on x86-64 (x86-64-v2 or newer, with calls for x86-64-v3 that
- * are used where they run) and on 64-bit ARM (ARMv8-A or newer).
+ * are used where they run) and on 64-bit ARM (ARMv8-A or newer). On an older x86-64 processor a
+ * call ends the program with an illegal instruction: nothing tests for that.
  */
 #ifndef DATA_ENCODING_H
 #define DATA_ENCODING_H

@@ -11,6 +11,7 @@ pub mod GroupWordLemmas
 pub mod RowLemmas
 pub mod GatherStepLemmas
 pub mod GatherWordLemmas
+pub mod FrontWordLemmas
 pub mod GatherRowLemmas
 pub mod GatherStoreLemmas
 pub mod AffineLemmas

@@ -23,6 +23,7 @@ picked (false ∷ flags) (number ∷ numbers) = picked flags numbers
 picked (true ∷ flags) (number ∷ numbers) = number ∷ picked flags numbers
 
 -- The numbers that are picked stand at the start of the room, and are this many.
-pub record IsPacked (flags : List Bool) (numbers : List ℕ) (count : ℕ) (room : List ℕ) : Type 0 where
+pub record IsPacked (flags : List Bool) (numbers : List ℕ) (count : ℕ) (room : List ℕ)
+    : Type 0 where
   pub number : count ≡ length (picked flags numbers)
   pub are : take count room ≡ picked flags numbers

@@ -6,6 +6,7 @@ ghost use Rattle.data_encoding_kernel.specs.Runs.{IsLongestBy, IsRunBy};
 use crate::group_size::GroupSize;
 use crate::lanes::look_up::LookUp;
 use crate::order::ConstantOrder;
+use crate::platform::has_lanes;
 use crate::turn::{DecodeTurn, Few, Lanes};
 use crate::words::{decode_symbols, entry_of};
 use data_encoding_meaning::encoding::BitOrder;
@@ -91,6 +92,10 @@ fn decode_by_several<L: LookUp, O: ConstantOrder, G: GroupSize>(
         → IsLongestBy values.now G.WIDTH O.ORDER (take len input.now) result.0 }
     ensures within { result.0 ≤ len / G.SYMBOLS }
 {
+    if !has_lanes() {
+        let first = decode_whole_turns::<[u8; 256], G>(values, O::ORDER, &input[..len], output);
+        return (first, false);
+    }
     let eight = 8 * G::SYMBOLS;
     if input.len() < eight {
         let first = decode_by_few::<L, O, G>(values, look_up, &input[..len], output);

@@ -7,6 +7,7 @@ ghost use Rattle.data_encoding_kernel.specs.Tables.{IsTextBy};
 use crate::group_size::GroupSize;
 use crate::lanes::affine_symbols::{AffineSymbols, LONG_DATA_LEN, affine_symbols_of};
 use crate::lanes::encode::{EightByRows, EncodeEight, encode_four, encode_four_octal, encode_two};
+use crate::platform::has_lanes;
 use crate::words::encode_group;
 use data_encoding_meaning::encoding::BitOrder;
 use data_encoding_meaning::limits::ENCODE_LIMIT;
@@ -23,6 +24,9 @@ pub fn encode_plain<G: GroupSize>(
     requires exact { length output.old ≡ (8 * length input.now + (G.WIDTH - 1)) / G.WIDTH }
     ensures { IsTextBy symbols.now G.WIDTH order input.now output.new }
 {
+    if !has_lanes() {
+        return encode_by_order::<OneGroup, G>(&OneGroup, symbols, order, input, output);
+    }
     // The rest of longer data is encoded by this call too.
     if input.len() < 10 * G::BYTES - 2 {
         return encode_short::<G>(symbols, order, input, output);

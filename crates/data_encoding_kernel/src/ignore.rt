@@ -50,6 +50,16 @@ impl IgnoredBytes {
         }
         IgnoredBytes { rows }
     }
+
+    /// Returns how many of sixteen bytes are not ignored.
+    #[inline(always)]
+    pub fn count_kept(&self, part: &[u8]) -> usize
+        requires { length part.now ≡ 16 }
+        ensures { (base : Base) → HoldsIgnored base self.now
+            → result ≡ length (kept base part.now) }
+    {
+        kept_mask(self, u8x16::from_slice(part)).count_ones() as usize
+    }
 }
 
 // The bits of one row more, before those of the rows after it.

@@ -1,4 +1,4 @@
-//! Eight groups at a time, with a lane for each.
+//! Eight groups, or sixteen symbols, at a time, in lanes of vectors.
 
 pub mod affine;
 pub mod affine_symbols;

@@ -11,6 +11,7 @@ pub mod group_size;
 pub mod ignore;
 pub mod lanes;
 pub mod order;
+pub mod platform;
 pub mod turn;
 pub mod value_table;
 pub mod words;

@@ -18,3 +18,5 @@ pub mod FinalGroupLemmas
 pub mod LoneGroupLemmas
 pub mod FaultStaysLemmas
 pub mod ToldLemmas
+pub mod PlainRunLemmas
+pub mod SymbolLemmas

@@ -11,6 +11,7 @@ pub mod SameMeanings
 pub mod Named
 pub mod Told
 pub mod Laws
+pub mod Layers
 pub mod Eighteen
 pub mod TextLaws
 pub mod AlikeLaws

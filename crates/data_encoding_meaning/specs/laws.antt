@@ -8,4 +8,5 @@ pub mod Verdicts
 pub mod Eighteen
 pub mod FaultStays
 pub mod Told
+pub mod Layers
 pub mod Rules

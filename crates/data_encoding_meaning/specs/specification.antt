@@ -1,4 +1,5 @@
 pub mod Fields
+pub mod MeaningTable
 pub mod Entries
 pub mod Layout
 pub mod OneLayout

@@ -19,7 +19,8 @@ pub enum DecodeKind {
     /// Bits left after the last byte of data are not zeros.
     Trailing,
 
-    /// The number of padding characters is wrong.
+    /// The number of padding characters is wrong, or a group follows a padded one where texts may
+    /// not be concatenated.
     Padding,
 }
 

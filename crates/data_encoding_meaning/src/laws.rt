@@ -13,6 +13,7 @@ ghost use Rattle.data_encoding_meaning.specs.laws.Laws.{JoinDecode, JoinEncode, 
 ghost use Rattle.data_encoding_meaning.specs.laws.Compared.{OrderOfData, OrderOfTexts};
 ghost use Rattle.data_encoding_meaning.specs.laws.Eighteen.{CanonicalByCauses, SixAreCanonical, SixAreOrdered};
 ghost use Rattle.data_encoding_meaning.specs.laws.FaultStays.{FaultStays, GroupFaultStays, NoFaultBefore};
+ghost use Rattle.data_encoding_meaning.specs.laws.Layers.{RunFault, RunTold, SymbolsTold};
 ghost use Rattle.data_encoding_meaning.specs.laws.Rules.{EighteenRules};
 ghost use Rattle.data_encoding_meaning.specs.laws.Told.{FaultTold, SymbolTold, TrailingTold, WholeTold};
 ghost use Rattle.data_encoding_meaning.specs.laws.Tight.{LengthAgain, LengthOfText, MeansMost};
@@ -118,6 +119,22 @@ pub fn fault_told()
     ensures symbol { SymbolTold }
     ensures trailing { TrailingTold }
     ensures whole { WholeTold }
+{}
+
+/// If ignored bytes count as invalid, the fault of a text is that of its length, or else that of
+/// the first faulty one of its groups, which are its bytes as they stand. A text of a valid length
+/// in which no byte is ignored has this fault in the encoding itself, for each that is built from a
+/// specification, and `decode_mut` reads and writes as far.
+pub fn run_told()
+    ensures fault { RunFault }
+    ensures same { RunTold }
+{}
+
+/// The symbols of a group, as of any valid number of them, give bytes, or the index of the first
+/// byte that is no symbol, for each encoding that is built from a specification. The bits that are
+/// left are not asked for: if trailing bits are checked, they alone may be a fault.
+pub fn symbols_told()
+    ensures { SymbolsTold }
 {}
 
 /// A text that means data is the text of the data, for each canonical encoding that is built from a

@@ -11,8 +11,8 @@ use data_encoding::DECODE_LIMIT;
 use data_encoding::laws::steps;
 use std::alloc::{AllocError, Allocator};
 
-// The number of bytes of a piece that are read at a time, so that the zeros that the output is first
-// filled with are still in the cache when they are written over.
+// The number of bytes of a piece that are read at a time, so that the zeros that the output is
+// first filled with are still in the cache when they are written over.
 const CHUNK: usize = 1024;
 
 // The room for what they decode to: at most seven bytes more.

@@ -13,9 +13,11 @@ An Encoding is made once, and kept: to make one takes longer than to use it.
 """
 
 import codecs
-from typing import Any, Dict, List, NamedTuple, Optional, Tuple, TypedDict, Union, final
+from typing import (
+    Any, Dict, List, NamedTuple, Optional, Protocol, Tuple, TypedDict, Union, final,
+)
 
-from ._native import Calls, names, new_decoder
+from ._native import Calls, adopt, names, new_decoder
 
 __all__ = [
     "BASE32",
@@ -45,6 +47,21 @@ __all__ = [
 ]
 
 _Bytes = Union[bytes, bytearray, memoryview]
+
+# How much a stream reads at once, about.
+_BLOCK = 1 << 18
+
+
+class _Source(Protocol):
+    """A file object that is read."""
+
+    def read(self, size: int, /) -> Union[bytes, str, None]: ...
+
+
+class _Target(Protocol):
+    """A file object that bytes are written to. It may return how many of them it took."""
+
+    def write(self, data: memoryview, /) -> Optional[int]: ...
 
 _FAULTS = {
     "length": "invalid length",
@@ -96,6 +113,37 @@ class Specification(TypedDict):
     least_significant_first: bool
     check_trailing_bits: bool
     concatenate: bool
+
+
+def _read(source: _Source, size: int) -> Union[bytes, str]:
+    piece = source.read(size)
+    if piece is None:
+        raise BlockingIOError("the source has nothing to read yet")
+    return piece
+
+
+def _read_data(source: _Source, size: int) -> bytes:
+    """As many bytes as that, or as many as are left."""
+    pieces = []
+    while size > 0:
+        piece = _read(source, size)
+        if not isinstance(piece, (bytes, bytearray)):
+            raise TypeError(f"data is read as bytes, not as {type(piece).__name__}")
+        if not piece:
+            break
+        pieces.append(piece)
+        size -= len(piece)
+    return pieces[0] if len(pieces) == 1 else b"".join(pieces)
+
+
+def _write(target: _Target, data: bytes) -> None:
+    left = memoryview(data)
+    while left:
+        count = target.write(left)
+        # A raw file may take a part, or, if it does not block, nothing.
+        if count == 0:
+            raise BlockingIOError("the target takes nothing yet")
+        left = left[len(left) if count is None else count :]
 
 
 def _text(name: str, value: object) -> bytes:
@@ -208,6 +256,26 @@ class Encoding(Calls):
         data, read, kind, position = self._decode_parts(text)
         error = None if kind is None else DecodeError(kind, position, data)
         return Partial(data, read, error)
+
+    def encode_stream(self, source: _Source, target: _Target) -> None:
+        """Writes the text of what is left of a binary file to another, as it reads."""
+        size = _BLOCK - _BLOCK % self.encode_align
+        whole = True
+        while whole:
+            data = _read_data(source, size)
+            _write(target, self.encode_bytes(data))
+            whole = len(data) == size
+
+    def decode_stream(self, source: _Source, target: _Target) -> None:
+        """Writes the data that a text means to a binary file, as it reads the text, which is what
+        is left of another file. A DecodeError has the position in this text, and no `data`: what
+        comes before the fault is written."""
+        decoder = Decoder(self)
+        piece = _read(source, _BLOCK)
+        while piece:
+            _write(target, decoder.decode(piece))
+            piece = _read(source, _BLOCK)
+        _write(target, decoder.decode(b"", final=True))
 
     @property
     def encode_align(self) -> int:
@@ -338,6 +406,8 @@ class Encoding(Calls):
         """Base64url without padding."""
         return BASE64URL_NOPAD
 
+
+adopt(Encoding)
 
 # The fields of a layout: 256 symbols, repeated; what each byte means; the padding; the bits
 # of a symbol and flags; and the lines.

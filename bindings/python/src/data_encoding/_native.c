@@ -1,10 +1,9 @@
 /* The calls of the library for C, as data_encoding/__init__.py uses them.
  *
  * Nothing here decides what a text means: an object of Python is made an array, a call of the
- * library is made, and what it wrote is made an object. The interface is the stable one of Python
- * 3.11, so that one build serves it and what comes after it.
+ * library is made, and what it wrote is made an object. With Py_LIMITED_API, which setup.py defines
+ * from Python 3.11 on, the interface is the stable one, so that one build serves what comes after.
  */
-#define Py_LIMITED_API 0x030B0000
 #define PY_SSIZE_T_CLEAN
 #include <Python.h>
 
@@ -15,6 +14,12 @@
 
 /* What is written up to this length is written on the stack first. */
 #define SMALL 512
+
+/* At most this far from the front of a str are its characters, if it has them itself. The tests
+ * define it as 0 as well, so that every text is copied. */
+#ifndef HEADER_LIMIT
+#define HEADER_LIMIT 128
+#endif
 
 /* From this length on other threads run during a call, if nothing can change what it reads. */
 #define THREADED 8192
@@ -238,40 +243,80 @@ static void raise_fault(de_status status, size_t position, PyObject *data) {
     Py_XDECREF(module);
 }
 
-/* Room for a text: `small`, which has SMALL bytes, or memory. NULL where there is none. */
-static char *room_for(size_t len, char *small) {
-    char *output = len <= SMALL ? small : PyMem_Malloc(len);
-    if (output == NULL) {
+/* A text that is being written. */
+struct text {
+    PyObject *object;
+    char *output;
+    bool is_copied;
+};
+
+/* A str whose characters are still to be written, or NULL. What made it refers to it alone, and len
+ * is above 2: no other str is changed by that. */
+static PyObject *unwritten_text(size_t len, char **output) {
+    Py_ssize_t size;
+    const char *start;
+    PyObject *object = PyUnicode_DecodeASCII("..", 2, NULL);
+    if (object == NULL || PyUnicode_Resize(&object, (Py_ssize_t)len) != 0) {
+        Py_XDECREF(object);
+        return NULL;
+    }
+    start = PyUnicode_AsUTF8AndSize(object, &size);
+    if (start == NULL || (uintptr_t)start - (uintptr_t)object >= HEADER_LIMIT) {
+        /* It would be a copy of the characters. */
+        Py_DECREF(object);
+        return NULL;
+    }
+    *output = (char *)(uintptr_t)start;
+    return object;
+}
+
+/* Makes room for a text of more than SMALL characters: in a str, or elsewhere if that can't be. */
+static bool make_room(struct text *text, size_t len) {
+    text->object = unwritten_text(len, &text->output);
+    text->is_copied = text->object == NULL;
+    if (text->is_copied) {
+        PyErr_Clear();
+        text->output = PyMem_Malloc(len);
+    }
+    if (text->output == NULL) {
         PyErr_NoMemory();
     }
-    return output;
+    return text->output != NULL;
 }
 
-/* The text in the room, which is given back, or NULL where the status refuses it. */
-static PyObject *text_in(char *output, size_t len, const char *small, de_status status) {
-    PyObject *text = status == DE_OK ? PyUnicode_DecodeASCII(output, (Py_ssize_t)len, NULL)
-                                     : refused(status);
-    if (output != small) {
-        PyMem_Free(output);
+/* The text that was written, or NULL where the status refuses it. The room is given back. */
+static PyObject *text_in(struct text *text, size_t len, de_status status) {
+    if (text->is_copied) {
+        if (status == DE_OK) {
+            text->object = PyUnicode_DecodeASCII(text->output, (Py_ssize_t)len, NULL);
+        }
+        PyMem_Free(text->output);
     }
-    return text;
+    if (status != DE_OK) {
+        Py_CLEAR(text->object);
+        return refused(status);
+    }
+    return text->object;
 }
 
-/* The text of the data. */
+/* The text of the data, which is short if it is put on the stack first. */
 static PyObject *encode_input(const encoding *it, const struct input *input) {
     char small[SMALL];
-    char *output;
-    size_t len;
-    de_status status = text_len(it, input->len, &len);
+    struct text text;
+    size_t len = SMALL;
+    de_status status;
+    if (input->len <= SMALL && write_text(it, input, small, &len) == DE_OK) {
+        return PyUnicode_DecodeASCII(small, (Py_ssize_t)len, NULL);
+    }
+    status = text_len(it, input->len, &len);
     if (status != DE_OK) {
         return refused(status);
     }
-    output = room_for(len, small);
-    if (output == NULL) {
+    if (!make_room(&text, len)) {
         return NULL;
     }
-    status = write_text(it, input, output, &len);
-    return text_in(output, len, small, status);
+    status = write_text(it, input, text.output, &len);
+    return text_in(&text, len, status);
 }
 
 static PyObject *encode(PyObject *self, PyObject *object) {
@@ -284,34 +329,135 @@ static PyObject *encode(PyObject *self, PyObject *object) {
     return text;
 }
 
-/* The bytes object, or another of the front of it, which is as long as what was written. */
+/* The same as bytes. */
+static PyObject *encode_input_as_bytes(const encoding *it, const struct input *input) {
+    char small[SMALL];
+    PyObject *text;
+    size_t len = SMALL;
+    de_status status;
+    if (input->len <= SMALL && write_text(it, input, small, &len) == DE_OK) {
+        return PyBytes_FromStringAndSize(small, (Py_ssize_t)len);
+    }
+    status = text_len(it, input->len, &len);
+    if (status != DE_OK) {
+        return refused(status);
+    }
+    text = PyBytes_FromStringAndSize(NULL, (Py_ssize_t)len);
+    if (text == NULL) {
+        return NULL;
+    }
+    status = write_text(it, input, PyBytes_AsString(text), &len);
+    if (status != DE_OK) {
+        Py_DECREF(text);
+        return refused(status);
+    }
+    return text;
+}
+
+static PyObject *encode_bytes(PyObject *self, PyObject *object) {
+    struct input input;
+    PyObject *text = NULL;
+    if (take_data(&input, object)) {
+        text = encode_input_as_bytes(encoding_of(self), &input);
+        release(&input);
+    }
+    return text;
+}
+
+/* Takes the two arguments of a call that writes to the second, which has a buffer. */
+static bool take_output(Py_buffer *output, const char *call, PyObject *const *arguments,
+                        Py_ssize_t count) {
+    if (count != 2) {
+        PyErr_Format(PyExc_TypeError, "%s takes two arguments, not %zd", call, count);
+        return false;
+    }
+    if (PyObject_GetBuffer(arguments[1], output, PyBUF_WRITABLE) == 0) {
+        return true;
+    }
+    if (PyErr_ExceptionMatches(PyExc_BufferError) || PyErr_ExceptionMatches(PyExc_TypeError)) {
+        PyErr_Format(PyExc_TypeError, "%s writes to a bytes-like object that can be changed", call);
+    }
+    return false;
+}
+
+/* Raises a ValueError if the call would read what it writes. */
+static bool overlap(const struct input *input, const Py_buffer *output, const char *what) {
+    uintptr_t from = (uintptr_t)input->start;
+    uintptr_t to = (uintptr_t)output->buf;
+    bool found = from < to + (size_t)output->len && to < from + input->len;
+    if (found) {
+        PyErr_Format(PyExc_ValueError, "the %s is in the output", what);
+    }
+    return found;
+}
+
+/* Writes the text to the start of the output, and returns its length. */
+static PyObject *encode_to(const encoding *it, const struct input *input, Py_buffer *output) {
+    size_t len = (size_t)output->len;
+    size_t needed;
+    de_status status;
+    if (overlap(input, output, "data")) {
+        return NULL;
+    }
+    status = write_text(it, input, output->buf, &len);
+    if (status == DE_SHORT_BUFFER && text_len(it, input->len, &needed) == DE_OK) {
+        return PyErr_Format(PyExc_ValueError, "output too short: the text has %zu bytes", needed);
+    }
+    return status == DE_OK ? PyLong_FromSize_t(len) : refused(status);
+}
+
+static PyObject *encode_into(PyObject *self, PyObject *const *arguments, Py_ssize_t count) {
+    struct input input;
+    Py_buffer output;
+    PyObject *len = NULL;
+    if (!take_output(&output, "encode_into", arguments, count)) {
+        return NULL;
+    }
+    if (take_data(&input, arguments[0])) {
+        len = encode_to(encoding_of(self), &input, &output);
+        release(&input);
+    }
+    PyBuffer_Release(&output);
+    return len;
+}
+
+/* The bytes object, made as long as what was written; or another of the front of it, where more
+ * than an eighth of its memory would be unused. */
 static PyObject *shortened(PyObject *bytes, size_t room, size_t written) {
+    char *start = PyBytes_AsString(bytes);
     PyObject *front;
     if (written == room) {
         return bytes;
     }
-    front = PyBytes_FromStringAndSize(PyBytes_AsString(bytes), (Py_ssize_t)written);
+    if (room - written <= room / 8) {
+        /* Nothing else refers to it. The byte after the last one of a bytes object is zero. */
+        start[written] = 0;
+        Py_SET_SIZE((PyVarObject *)(void *)bytes, (Py_ssize_t)written);
+        return bytes;
+    }
+    front = PyBytes_FromStringAndSize(start, (Py_ssize_t)written);
     Py_DECREF(bytes);
     return front;
 }
 
-/* The data that the text means, or as much as comes before its fault, which is the status. */
+/* The data that the text means, or as much as comes before its fault, which is the status. No text
+ * means more bytes than it has characters. */
 static PyObject *decode_input(const encoding *it, const struct input *input, de_status *status,
                               de_decoded *decoded) {
     char small[SMALL];
     size_t most;
     PyObject *data;
+    if (input->len <= SMALL) {
+        *status = write_data(it, input, small, SMALL, decoded);
+        return is_verdict(*status)
+                   ? PyBytes_FromStringAndSize(small, (Py_ssize_t)decoded->written)
+                   : refused(*status);
+    }
     *status = most_data(it, input->len, &most);
     if (*status != DE_OK) {
         decoded->read = 0;
         decoded->position = most;
         return kind_of(*status) == NULL ? refused(*status) : PyBytes_FromStringAndSize(NULL, 0);
-    }
-    if (most <= SMALL) {
-        *status = write_data(it, input, small, most, decoded);
-        return is_verdict(*status)
-                   ? PyBytes_FromStringAndSize(small, (Py_ssize_t)decoded->written)
-                   : refused(*status);
     }
     data = PyBytes_FromStringAndSize(NULL, (Py_ssize_t)most);
     if (data == NULL) {
@@ -362,19 +508,12 @@ static PyObject *decode_parts(PyObject *self, PyObject *object) {
                          (Py_ssize_t)decoded.position);
 }
 
-static bool overlap(const struct input *input, const Py_buffer *output) {
-    uintptr_t from = (uintptr_t)input->start;
-    uintptr_t to = (uintptr_t)output->buf;
-    return from < to + (size_t)output->len && to < from + input->len;
-}
-
 /* Writes the data to the start of the output, and returns its length. */
 static PyObject *decode_to(const encoding *it, const struct input *input, Py_buffer *output) {
     de_status status;
     de_decoded decoded = {0, 0, 0};
     PyObject *data;
-    if (overlap(input, output)) {
-        PyErr_SetString(PyExc_ValueError, "the text is in the output");
+    if (overlap(input, output, "text")) {
         return NULL;
     }
     status = most_data(it, input->len, &decoded.position);
@@ -395,15 +534,14 @@ static PyObject *decode_to(const encoding *it, const struct input *input, Py_buf
     return NULL;
 }
 
-static PyObject *decode_into(PyObject *self, PyObject *arguments) {
+static PyObject *decode_into(PyObject *self, PyObject *const *arguments, Py_ssize_t count) {
     struct input input;
     Py_buffer output;
-    PyObject *object;
     PyObject *len = NULL;
-    if (!PyArg_ParseTuple(arguments, "Ow*:decode_into", &object, &output)) {
+    if (!take_output(&output, "decode_into", arguments, count)) {
         return NULL;
     }
-    if (take_text(&input, object)) {
+    if (take_text(&input, arguments[0])) {
         len = decode_to(encoding_of(self), &input, &output);
         release(&input);
     }
@@ -587,22 +725,31 @@ static bool take_encoder(de_encoder *encoder, PyObject *held) {
     return true;
 }
 
-/* The text of the blocks that the piece completes, and the bytes that are held then. */
-static PyObject *read_data(const encoding *it, de_encoder *encoder, const struct input *input) {
+/* The text of the blocks that the piece completes. */
+static PyObject *text_of_blocks(const encoding *it, de_encoder *encoder,
+                                const struct input *input) {
     char small[SMALL];
-    char *output;
+    struct text text;
     size_t len;
-    PyObject *text;
     de_status status = text_of_piece(it, encoder, input->len, &len);
     if (status != DE_OK) {
         return refused(status);
     }
-    output = room_for(len, small);
-    if (output == NULL) {
+    if (len <= SMALL) {
+        status = write_blocks(it, encoder, input, small, &len);
+        return status == DE_OK ? PyUnicode_DecodeASCII(small, (Py_ssize_t)len, NULL)
+                               : refused(status);
+    }
+    if (!make_room(&text, len)) {
         return NULL;
     }
-    status = write_blocks(it, encoder, input, output, &len);
-    text = text_in(output, len, small, status);
+    status = write_blocks(it, encoder, input, text.output, &len);
+    return text_in(&text, len, status);
+}
+
+/* That text, and the bytes that are held then. */
+static PyObject *read_data(const encoding *it, de_encoder *encoder, const struct input *input) {
+    PyObject *text = text_of_blocks(it, encoder, input);
     return text == NULL ? NULL
                         : Py_BuildValue("Ny#", text, (const char *)encoder->bytes,
                                         (Py_ssize_t)encoder->count);
@@ -637,7 +784,8 @@ static PyObject *encoder_finish(PyObject *self, PyObject *held) {
     status = it->is_predefined
                  ? de_encoder_finish(it->number, &encoder, output, sizeof output, &len)
                  : de_encoding_encoder_finish(&it->tables, &encoder, output, sizeof output, &len);
-    return text_in(output, len, output, status);
+    return status == DE_OK ? PyUnicode_DecodeASCII(output, (Py_ssize_t)len, NULL)
+                           : refused(status);
 }
 
 /* Raises why there is no such encoding. */
@@ -731,13 +879,21 @@ static PyObject *names(PyObject *module, PyObject *unused) {
     return list;
 }
 
+/* A method that is given its arguments as an array. */
+#define BY_ARRAY(call) (PyCFunction)(void (*)(void))(call), METH_FASTCALL
+
 static PyMethodDef encoding_methods[] = {
     {"encode", encode, METH_O,
      "encode($self, data, /)\n--\n\nThe text of the data. A ValueError if it is too long."},
+    {"encode_bytes", encode_bytes, METH_O,
+     "encode_bytes($self, data, /)\n--\n\nThe text of the data, as bytes."},
+    {"encode_into", BY_ARRAY(encode_into),
+     "encode_into($self, data, output, /)\n--\n\nWrites the text of the data to the front of the "
+     "output, and returns its length. A ValueError says the length if the output is shorter."},
     {"decode", decode, METH_O,
      "decode($self, text, /)\n--\n\nThe data that the text means. A DecodeError if it means "
      "nothing."},
-    {"decode_into", decode_into, METH_VARARGS,
+    {"decode_into", BY_ARRAY(decode_into),
      "decode_into($self, text, output, /)\n--\n\nWrites the data that the text means to the front "
      "of the output, which has room for as many bytes as `decode_len` says, and returns how many "
      "these are. A DecodeError if it means nothing."},
@@ -760,10 +916,36 @@ static PyMethodDef encoding_methods[] = {
     {NULL, NULL, 0, NULL},
 };
 
+/* Gives a type that inherits from Calls its methods as its own, but for those of the class, which
+ * are the last: Python calls these sooner than those that are inherited. */
+static PyObject *adopt(PyObject *module, PyObject *type) {
+    PyMethodDef *method = encoding_methods;
+    bool adopted = PyType_Check(type);
+    (void)module;
+    if (!adopted) {
+        PyErr_SetString(PyExc_TypeError, "adopt takes a type");
+    }
+    for (; adopted && (method->ml_flags & METH_CLASS) == 0 && method->ml_name != NULL; method++) {
+        PyObject *own = PyDescr_NewMethod((PyTypeObject *)(void *)type, method);
+        adopted = own != NULL && PyObject_SetAttrString(type, method->ml_name, own) == 0;
+        Py_XDECREF(own);
+    }
+    if (!adopted) {
+        return NULL;
+    }
+    Py_RETURN_NONE;
+}
+
 static PyType_Slot encoding_slots[] = {
     {Py_tp_methods, encoding_methods},
     {0, NULL},
 };
+
+/* Before Python 3.10 `add_calls` does what this flag does. */
+#ifndef Py_TPFLAGS_DISALLOW_INSTANTIATION
+#define Py_TPFLAGS_DISALLOW_INSTANTIATION 0
+#define REMOVES_NEW
+#endif
 
 static PyType_Spec encoding_spec = {
     .name = "data_encoding._native.Calls",
@@ -775,19 +957,62 @@ static PyType_Spec encoding_spec = {
 static PyMethodDef functions[] = {
     {"names", names, METH_NOARGS, NULL},
     {"new_decoder", new_decoder, METH_NOARGS, NULL},
+    {"adopt", adopt, METH_O, NULL},
     {NULL, NULL, 0, NULL},
 };
 
-static struct PyModuleDef definition = {
-    PyModuleDef_HEAD_INIT, "data_encoding._native", NULL, 0, functions, NULL, NULL, NULL, NULL,
+/* Each interpreter has a type of its own, and the module has nothing else. */
+static int add_calls(PyObject *module) {
+    PyObject *type = PyType_FromModuleAndSpec(module, &encoding_spec, NULL);
+    if (type == NULL) {
+        return -1;
+    }
+#ifdef REMOVES_NEW
+    ((PyTypeObject *)(void *)type)->tp_new = NULL;
+#endif
+    if (PyModule_AddType(module, (PyTypeObject *)(void *)type) != 0) {
+        Py_DECREF(type);
+        return -1;
+    }
+    Py_DECREF(type);
+    return 0;
+}
+
+/* Py_mod_multiple_interpreters and Py_MOD_PER_INTERPRETER_GIL_SUPPORTED of Python 3.12, which older
+ * ones don't know: the module may be in interpreters that run at the same time. */
+#define MULTIPLE_INTERPRETERS 3
+#define WITH_A_LOCK_EACH ((void *)2)
+
+static PyModuleDef_Slot slots[] = {
+    {Py_mod_exec, (void *)(uintptr_t)add_calls},
+    {MULTIPLE_INTERPRETERS, WITH_A_LOCK_EACH},
+    {0, NULL},
 };
 
+static PyModuleDef_Slot slots_before_3_12[] = {
+    {Py_mod_exec, (void *)(uintptr_t)add_calls},
+    {0, NULL},
+};
+
+static struct PyModuleDef definition = {
+    PyModuleDef_HEAD_INIT, "data_encoding._native", NULL, 0, functions, slots, NULL, NULL, NULL,
+};
+
+static struct PyModuleDef definition_before_3_12 = {
+    PyModuleDef_HEAD_INIT, "data_encoding._native", NULL, 0, functions, slots_before_3_12, NULL,
+    NULL, NULL,
+};
+
+/* The version of the Python that runs, which may be newer than that of its header. */
+static unsigned long running_version(void) {
+#if PY_VERSION_HEX >= 0x030B0000
+    return Py_Version;
+#else
+    return PY_VERSION_HEX;
+#endif
+}
+
 PyMODINIT_FUNC PyInit__native(void) {
-    PyObject *module = PyModule_Create(&definition);
-    PyObject *type = module == NULL ? NULL : PyType_FromSpec(&encoding_spec);
-    if (type == NULL || PyModule_AddObjectRef(module, "Calls", type) != 0) {
-        Py_CLEAR(module);
-    }
-    Py_XDECREF(type);
-    return module;
+    return PyModuleDef_Init(running_version() >= 0x030C0000 ? &definition
+                                                            : &definition_before_3_12);
 }

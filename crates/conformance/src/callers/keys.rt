@@ -45,7 +45,7 @@ pub fn key_of(token: &[u8]) -> Option<[u8; 16]>
 }
 
 // Whether a byte is no symbol.
-fn is_no_symbol(encoding: &Encoding, byte: u8) -> bool
+pub(super) fn is_no_symbol(encoding: &Encoding, byte: u8) -> bool
     ensures { result ≡ is_other encoding.now byte }
 {
     encoding.interpret_byte(byte).is_symbol().is_none()

@@ -1,5 +1,5 @@
-//! What a decoder keeps after a piece that ends in padding, with zeros after the bytes that it holds,
-//! and after longer pieces, whether the output has room for them or not.
+//! What a decoder keeps after a piece that ends in padding, with zeros after the bytes that it
+//! holds, and after longer pieces, whether the output has room for them or not.
 
 use super::rows::{bytes_of, row_of};
 use data_encoding::{DECODE_LIMIT, Encoding};

@@ -4,9 +4,8 @@ use super::predefined::case_of;
 use super::rows::{compare, row_of};
 use super::table;
 use conformance::callers::symbols_of;
-use data_encoding::{
-    BitOrder, Encoding, Specification, SpecificationError, SpecificationParts, base64_mime,
-};
+use data_encoding::spec::{Specification, SpecificationError};
+use data_encoding::{BitOrder, Encoding, SpecificationParts, base64_mime};
 use std::alloc::{AllocError, Global};
 use std::test::Fail;
 

@@ -13,7 +13,8 @@ use Rattle.data_encoding_meaning.specs.text.Grammar.{Positioned, bytes_in, group
 use Rattle.data_encoding_meaning.specs.decoding.Decoding.{HasDecodedTo, IsDecodedGroup, IsGathered, IsIgnoredFront, run_bytes}
 use Rattle.data_encoding_meaning.specs.decoding.Fault.{bytes_of_group, symbol_bytes}
 use Rattle.data_encoding_meaning.specs.decoding.Partial.{position_after}
-use Rattle.data_encoding_meaning.proofs.decoding.GatherLemmas.{more-here, none-here}
+use Rattle.data_encoding_meaning.proofs.decoding.GatherLemmas.{HasGathered, more-here, none-here}
+use Rattle.data_encoding_meaning.proofs.decoding.IgnoredFrontLemmas.{nothing-kept_in}
 use Rattle.data_encoding_meaning.proofs.decoding.ProgressLemmas.{IsPart, room-run, whole-before}
 use Rattle.data_encoding_meaning.proofs.digits.WidthLemmas.{group_symbols-pos}
 use Rattle.data_encoding_meaning.proofs.grammar.KeptLemmas.{kept-more, kept-split, kept_in-append, position_after-append}
@@ -577,6 +578,68 @@ packing-group room first end size enough =
     let both : first + (end - first) ≡ end = omega (arith, enough) in
     let few : size ≤ end - first = omega (arith, enough) in
     let count : first + size - first ≡ size = omega arith in
-    ap (λ n. take n (drop first room)) count ∙ sym (take-take size (end - first) (drop first room) few)
+    ap (λ n. take n (drop first room)) count
+    ∙ sym (take-take size (end - first) (drop first room) few)
     ∙ ap (take size) (sym (drop-take first (end - first) room)
     ∙ ap (λ n. drop first (take n room)) both)
+
+-- how many bytes of a part are not ignored, wherever it stands
+length-kept_in : (base : Base) (start : ℕ) (part : List ℕ)
+    → length (kept_in base start part) ≡ length (kept base part)
+length-kept_in base start part =
+    sym (length-map (kept_in base start part) _)
+    ∙ ap length (bytes-kept_in base start part ∙ sym (bytes-kept_in base 0 part))
+    ∙ length-map (kept base part) _
+
+-- a text up to a position has those before another one, and those between
+pub kept-count : (base : Base) (read stop : ℕ) (text : List ℕ) → read ≤ stop
+    → stop ≤ length text → length (kept base (take stop text))
+    ≡ length (kept base (take read text))
+    + length (kept base (take (stop - read) (drop read text)))
+kept-count base read stop text after inside =
+    let part = take (stop - read) (drop read text) in
+    ap length (kept-more base read text (omega arith) stop after inside)
+    ∙ length-append (kept base (take read text)) (kept_in base read part)
+    ∙ ap (λ n. length (kept base (take read text)) + n) (length-kept_in base read part)
+
+-- What ends before the last bytes of a front ends before these and those after the front.
+pub ends-further : {base : Base} {part : List ℕ} {end left last span : ℕ} → end ≤ length part
+    → span ≤ length (take end part) → EndsBefore base (take end part) left span → left ≤ last
+    → length (kept base (take end part)) + (last - left) ≡ length (kept base part)
+    → EndsBefore base part last span
+ends-further {base} {part} {end} {left} {last} {span} within few ends less same =
+    let inside : span ≤ end = omega (arith, few, length-take-le end part within) in
+    record {
+      before = omega (
+        arith,
+        rw (take-take span end part inside) at ends.before,
+        same,
+        less,
+      );
+      ends = λ some.
+          rw (get_or-take end part (span - 1) 0 (omega (arith, some, inside)))
+          at (ends.ends some);
+    }
+
+-- What was gathered before ignored bytes was gathered up to their end.
+pub gather-front : {base : Base} {part : List ℕ} {index count span : ℕ} {room : List ℕ} (skip : ℕ)
+    → HasGathered base part index count span room → index ≤ length part
+    → IsIgnoredFront base (drop index part) skip
+    → HasGathered base part (index + skip) count span room
+gather-front {base} {part} {index} skip so_far within front =
+    let next = take skip (drop index part) in
+    let width : index + skip - index ≡ skip = omega arith in
+    let inside : index + skip ≤ length part =
+    omega (arith, within, front.within, length-drop index part) in
+    let more = rw width at (kept-more base index part within (index + skip) (omega arith) inside) in
+    let same : kept base (take (index + skip) part) ≡ kept base (take index part) =
+    more
+    ∙ ap (λ l. kept base (take index part) ++ l) (nothing-kept_in base index next front.none)
+    ∙ append-nil (kept base (take index part)) in
+    record {
+      before = omega (arith, so_far.before);
+      same = so_far.same ∙ sym same;
+      bytes_are = rw same so_far.bytes_are;
+      count_is = rw same so_far.count_is;
+      ends = so_far.ends;
+    }

@@ -7,11 +7,12 @@ use Rattle.std.specs.Bool.{IsTrue}
 use Rattle.data_encoding_kernel.specs.Affine.{agrees}
 use Rattle.data_encoding.specs.Encoding.{EncodingTables, KeepsRules, base_of_tables}
 use Rattle.data_encoding_meaning.specs.specification.Entries.{HoldsEntries, meaning_of_entry}
-use Rattle.data_encoding_meaning.specs.specification.Fields.{Fields, Judgement, base_of, base_with, ignored_judgements, judgements, meanings_after, no_meanings, padding_judgements, symbol_judgements, translation_judgements, width_of, wrapping_judgements, wraps}
+use Rattle.data_encoding_meaning.specs.specification.Fields.{Fields, Judgement, base_of, base_with, ignored_judgements, judgements, meanings_of, padding_judgements, symbol_judgements, translation_judgements, width_of, wrapping_judgements, wraps}
+use Rattle.data_encoding_meaning.specs.specification.MeaningTable.{meanings_after, no_meanings}
 use Rattle.data_encoding_meaning.proofs.judgement.JudgementLemmas.{Judged, meanings_after-append}
 use Rattle.data_encoding.proofs.tables.TableRuleLemmas.{KeepsRules-ruled}
 use Rattle.data_encoding_meaning.proofs.lists.RepeatLemmas.{take-repeats}
-use Rattle.data_encoding_meaning.proofs.judgement.RuleLemmas.{IsRuled, IsRuledPadding, IsRuledWrapping, IsRuled-from, IsRuled-built, base_from, base_of-width}
+use Rattle.data_encoding_meaning.proofs.judgement.RuleLemmas.{IsRuled, IsRuledPadding, IsRuledWrapping, IsRuled-from, IsRuled-built, base_from, base_of-width, judged-by-table}
 use Rattle.data_encoding_meaning.proofs.digits.WidthLemmas.{times-pos}
 
 -- the judgements up to each field
@@ -32,13 +33,13 @@ module _ (width : ℕ) (fields : Fields) where
   e = translation_judgements fields.from fields.to
 
   abbrev all : Judged
-  all = meanings_after (Ok no_meanings) (judgements width fields)
+  all = meanings_of (judgements width fields)
 
   judged-parts : all
       ≡ meanings_after (meanings_after (meanings_after (meanings_after
       (meanings_after (Ok no_meanings) a) b) c) d) e
   judged-parts =
-      simp meanings_after-append
+      judged-by-table width fields ∙ simp meanings_after-append
 
   module _ {none : List Character} (is : none ≡ no_meanings) where
     pub after-symbols : (r : Judged) → meanings_after (Ok none) a ≡ r
@@ -105,9 +106,10 @@ nothing-kept column separator = by_test (wraps column separator) refl where
 -- the padding and the lines of fields that are not refused
 module _ (width : ℕ) (fields : Fields) (meanings : List Character)
     (sized : width_of (length fields.symbols) ≡ Some width) (some : 0 < width)
-    (judged : meanings_after (Ok no_meanings) (judgements width fields) ≡ Ok meanings) where
+    (judged : meanings_of (judgements width fields) ≡ Ok meanings) where
   ruled : IsRuled (base_from width fields meanings)
-  ruled = IsRuled-from width fields meanings sized some judged
+  ruled =
+      IsRuled-from width fields meanings sized some (sym (judged-by-table width fields) ∙ judged)
 
   pub padding-ascii : IfSome fields.padding (λ character. character < 128)
   padding-ascii = by fields.padding (ruled).padding where
@@ -132,7 +134,7 @@ pub record IsMadeOf (fields : Fields) (e : EncodingTables) (meanings : List Char
   pub width_is : width_of (length fields.symbols) ≡ Some e.width
   pub is_width : IsWidth e.width
   pub count : 2 ^ e.width ≡ length fields.symbols
-  pub judged : meanings_after (Ok no_meanings) (judgements e.width fields) ≡ Ok meanings
+  pub judged : meanings_of (judgements e.width fields) ≡ Ok meanings
   pub repeat : e.symbols ≡ concat (replicate (256 / 2 ^ e.width) fields.symbols)
   pub holds : HoldsEntries e.values
   pub values : map meaning_of_entry (take 128 e.values) ≡ meanings

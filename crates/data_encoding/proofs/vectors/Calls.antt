@@ -115,7 +115,8 @@ whole_answered : {A : Type 0} →
     → (bytes.items ≡ 79 ∷ []) × Means base (codes "4f") bytes.items)
     × (DecodesWhole {A = A} base (codes "4G") (Err (Error error))
     → (error.position < 2) × IsRefusal base (codes "4G") (Error error))
-    × (DecodesWhole {A = A} base (codes "4f") (Err (Error error)) → Means base (codes "4f") (79 ∷ [])
+    × (DecodesWhole {A = A} base (codes "4f") (Err (Error error))
+    → Means base (codes "4f") (79 ∷ [])
     → ⊥))
 whole_answered = λ bytes error. (
   λ is. (sym is.sound.1, is.means),

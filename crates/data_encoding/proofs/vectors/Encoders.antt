@@ -4,11 +4,11 @@ use Rattle.std.proofs.Common.{◌≡◌, ℕ, ◌<◌, List, [], ◌++◌, lengt
 use Rattle.data_encoding_meaning.specs.text.Base.{Base}
 use Rattle.data_encoding_meaning.specs.specification.Predefined.{base64_fields}
 use Rattle.data_encoding_meaning.specs.text.Text.{text_of}
-use Rattle.data_encoding.specs.declared.encode.encoder.Encoder.{Encoder}
-use Rattle.data_encoding.specs.declared.encode.encoder.Encodes
+use Rattle.data_encoding.specs.declared.encoder.Encoder.{Encoder}
+use Rattle.data_encoding.specs.declared.encoder.Encodes
 use Rattle.data_encoding_meaning.specs.text.EncodedPieces.{HasEncoded}
 use Rattle.data_encoding.specs.Encoder.{base_of_encoder, output_name, written, held, HasTaken, IsUnchanged, name_handed_back}
-use Rattle.data_encoding.specs.declared.encode.display.Display.{Display}
+use Rattle.data_encoding.specs.declared.write.Display.{Display}
 use Rattle.data_encoding.specs.Shown.{shown_data, shown_text}
 use Rattle.data_encoding_meaning.proofs.vectors.Examples.{bytes, Has}
 use Rattle.data_encoding_meaning.specs.text.Lengths.{alignment}

@@ -115,7 +115,7 @@ impl EncodingRef<'_> {
             }
             len = next_len(len, room.len());
         }
-        after_blocks(values, now, input)
+        after_blocks(&ignored, values, now, input)
     }
 
     // Decodes the groups of a block, up to one with a fault or the end of the text.
@@ -298,27 +298,60 @@ fn next_len(len: usize, room_len: usize) -> usize
 // How far a text is decoded after a block. If nothing of the block is left, what follows is ignored
 // up to where it was packed.
 #[inline(always)]
-fn after_blocks(values: &[u8; 256], now: Packing, input: &[u8]) -> Reached
+fn after_blocks(ignored: &IgnoredBytes, values: &[u8; 256], now: Packing, input: &[u8]) -> Reached
     requires within { now.read ≤ length input.now }
     requires ordered { now.first ≤ now.end }
-    ensures { (base : Base) → HoldsValues base values.now → (room output : List ℕ)
-        → IsPacking base input.now room now output
+    ensures { (base : Base) → HoldsValues base values.now → HoldsIgnored base ignored.now
+        → (room output : List ℕ) → IsPacking base input.now room now output
         → HasReached base input.now now.start result output }
 {
     let left = now.end - now.first;
-    let read = span_before(values, &input[..now.read], left);
-    let ignored = if left == 0 { now.read - read } else { 0 };
+    let read = span_before(ignored, values, &input[..now.read], left);
+    let skipped = if left == 0 { now.read - read } else { 0 };
     Reached {
         read,
         written: now.written,
-        ignored,
+        ignored: skipped,
     }
 }
 
 // Returns the length of a part without its last bytes that are not ignored, as many as these, and
 // without the ignored bytes before and after them.
 #[inline(always)]
-fn span_before(values: &[u8; 256], part: &[u8], last: usize) -> usize
+fn span_before(ignored: &IgnoredBytes, values: &[u8; 256], part: &[u8], last: usize) -> usize
+    ensures within { result ≤ length part.now }
+    ensures ends { (base : Base) → HoldsValues base values.now → HoldsIgnored base ignored.now
+        → last ≤ length (kept base part.now) → EndsBefore base part.now last result }
+{
+    let (end, left) = skip_sixteens(ignored, part, last);
+    span_before_some(values, &part[..end], left)
+}
+
+// Returns the length of a part without sixteens at its end that have no more bytes that are not
+// ignored than these, and how many of these are left.
+#[inline(always)]
+fn skip_sixteens(ignored: &IgnoredBytes, part: &[u8], last: usize) -> (usize, usize)
+    ensures within { result.0 ≤ length part.now }
+    ensures few { result.1 ≤ last }
+    ensures kept { (base : Base) → HoldsIgnored base ignored.now
+        → length (kept base (take result.0 part.now)) + (last - result.1)
+        ≡ length (kept base part.now) }
+{
+    let mut left = last;
+    for turn in 0..part.len() / 16 {
+        let end = part.len() - 16 * turn;
+        let count = ignored.count_kept(&part[end - 16..end]);
+        if count > left {
+            return (end, left);
+        }
+        left -= count;
+    }
+    (part.len() % 16, left)
+}
+
+// `span_before`, byte by byte.
+#[inline(always)]
+fn span_before_some(values: &[u8; 256], part: &[u8], last: usize) -> usize
     ensures within { result ≤ length part.now }
     ensures ends { (base : Base) → HoldsValues base values.now
         → last ≤ length (kept base part.now) → EndsBefore base part.now last result }

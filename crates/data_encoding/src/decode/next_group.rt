@@ -7,6 +7,7 @@ ghost use Rattle.data_encoding_meaning.specs.decoding.Fault.{position_of};
 ghost use Rattle.data_encoding_meaning.specs.text.Grammar.{kept};
 ghost use Rattle.data_encoding_kernel.specs.Tables.{HoldsValues};
 
+use crate::decode::steps::ignored_front;
 use crate::encoding::{EncodingRef, IGNORED};
 use data_encoding_kernel::group_size::GroupSize;
 
@@ -105,18 +106,14 @@ fn gather<G: GroupSize>(values: &[u8; 256], rest: &[u8], room: &mut [u8; 8]) -> 
         → IsGathered base G.SYMBOLS rest.now (take result.count room.new) result.span }
 {
     let most = G::SYMBOLS;
-    let mut count = 0;
     let mut span = 0;
-    for index in 0..rest.len() {
-        if count == most {
-            break;
+    for count in 0..most {
+        let at = span + ignored_front(values, &rest[span..]);
+        if at == rest.len() {
+            return Gathered { count, span };
         }
-        let byte = rest[index];
-        if values[byte as usize] != IGNORED {
-            room[count] = byte;
-            count += 1;
-            span = index + 1;
-        }
+        room[count] = rest[at];
+        span = at + 1;
     }
-    Gathered { count, span }
+    Gathered { count: most, span }
 }

@@ -1,20 +1,20 @@
 //! Decoding step by step: a run of whole groups, and the group that follows it.
 
-ghost use Rattle.std.specs.Prelude.{◌≡◌, ℕ, List, true, false, ◌-◌, ◌+◌, ◌*◌, ◌/◌, ◌%◌, ◌<◌, ◌≤◌, length, drop, Ok};
-ghost use Rattle.data_encoding_meaning.specs.text.Base.{Base, ignores_some};
+ghost use Rattle.std.specs.Prelude.{◌≡◌, ℕ, List, true, false, ◌-◌, ◌+◌, ◌*◌, ◌/◌, ◌%◌, ◌<◌, ◌≤◌, length, drop, slice_index, Ok};
+ghost use Rattle.data_encoding_meaning.specs.text.Base.{Base, ignores_some, is_ignored, meaning};
 ghost use Rattle.data_encoding_meaning.specs.decoding.Decoding.{HasDecodedTo, IsIgnoredFront};
 ghost use Rattle.data_encoding.specs.Steps.{HasEnded, HasStepped};
 ghost use Rattle.data_encoding_meaning.specs.text.Lengths.{decoded_len};
 ghost use Rattle.data_encoding_kernel.specs.Tables.{HoldsValues, Reads};
 
-use crate::decode::next_group::starts_whole;
 use crate::decode::{DECODE_LIMIT, Stop};
-use crate::encoding::{BitOrder, EncodingRef, IGNORED, PADDING};
+use crate::encoding::{BitOrder, EncodingRef, IGNORED, INVALID, PADDING};
 use crate::error::DecodeKind;
 use data_encoding_kernel::decode::{decode_by_turns, decode_run};
 use data_encoding_kernel::group_size::GroupSize;
 use data_encoding_kernel::lanes::look_up::LookUp;
 use data_encoding_kernel::order::ConstantOrder;
+use data_encoding_kernel::platform::has_lanes;
 use data_encoding_kernel::words::entry_of;
 
 // How a step ended.
@@ -37,6 +37,13 @@ pub(crate) struct Reached {
     pub(crate) written: usize,
     pub(crate) ignored: usize,
 }
+
+// Nothing is read.
+pub(crate) const START: Reached = Reached {
+    read: 0,
+    written: 0,
+    ignored: 0,
+};
 
 impl EncodingRef<'_> {
     /// Decodes step by step, up to the end of the text or its first fault, and returns whether it
@@ -112,7 +119,7 @@ impl EncodingRef<'_> {
             written,
             ignored: ignored_front(values, &input[read..]),
         };
-        let packs = self.fields.ignores && !*is_short;
+        let packs = has_lanes() && self.fields.ignores && !*is_short;
         *is_short = false;
         if is_padded_next::<G>(values, at, input) {
             return at;
@@ -120,10 +127,19 @@ impl EncodingRef<'_> {
         let at = self.decode_long_runs::<L, O, G>(
             values, look_up, packs, is_short, at, input, output,
         );
-        if *is_short || input.len() - at.read - at.ignored >= 16 * G::SYMBOLS {
+        if *is_short || has_lanes() && input.len() - at.read - at.ignored >= 16 * G::SYMBOLS {
             return at;
         }
-        self.decode_last_runs::<L, O, G>(values, look_up, packs, is_short, at, input, output)
+        let at = self.decode_runs_one_by_one::<L, O, G>(
+            values,
+            look_up,
+            input.len(),
+            at,
+            input,
+            output,
+        );
+        *is_short = packs && is_broken_next::<G>(values, at, input);
+        at
     }
 
     // Decodes runs by turns of eight groups, if the text has two turns or more. With `packs`, a run
@@ -150,7 +166,7 @@ impl EncodingRef<'_> {
         ensures front { IsIgnoredFront self.now (drop result.read input.now) result.ignored }
         ensures further { at.read ≤ result.read }
     {
-        if input.len() - at.read - at.ignored < 16 * G::SYMBOLS {
+        if !has_lanes() || input.len() - at.read - at.ignored < 16 * G::SYMBOLS {
             return at;
         }
         self.decode_runs_by_turns::<L, O, G>(values, look_up, packs, is_short, at, input, output)
@@ -182,7 +198,7 @@ impl EncodingRef<'_> {
         let mut at = at;
         let mut packs = packs;
         for _ in 0..input.len() {
-            if input.len() - at.read - at.ignored < 8 * G::SYMBOLS {
+            if input.len() - at.read - at.ignored < 16 * G::SYMBOLS {
                 break;
             }
             let most = input.len() - at.read - at.ignored;
@@ -283,14 +299,14 @@ impl EncodingRef<'_> {
         after_run::<G>(values, count - count % G::SYMBOLS, at, input)
     }
 
-    // Decodes the runs at the end of a text.
+    /// Decodes runs one by one, as many as this at most, as long as bytes are ignored after them.
+    /// What is ignored after the last one is not read.
     #[inline(always)]
-    fn decode_last_runs<L: LookUp, O: ConstantOrder, G: GroupSize>(
+    pub(crate) fn decode_runs_one_by_one<L: LookUp, O: ConstantOrder, G: GroupSize>(
         &self,
         values: &[u8; 256],
         look_up: &L,
-        packs: bool,
-        is_short: &mut bool,
+        most: usize,
         at: Reached,
         input: &[u8],
         output: &mut [u8],
@@ -307,18 +323,17 @@ impl EncodingRef<'_> {
         ensures further { at.read ≤ result.read }
     {
         let mut at = at;
-        for _ in 0..input.len() {
+        for _ in 0..most {
             let read = at.read;
             at = self.decode_run_after_ignored::<L, O, G>(values, look_up, at, input, output);
             if at.read == read {
                 break;
             }
             at.ignored = ignored_front(values, &input[at.read..]);
-            if at.ignored == 0 {
+            if at.ignored == 0 || at.read + at.ignored == input.len() {
                 break;
             }
         }
-        *is_short = packs && is_broken_next::<G>(values, at, input);
         at
     }
 
@@ -472,8 +487,8 @@ fn is_padded_next<G: GroupSize>(values: &[u8; 256], at: Reached, input: &[u8]) -
 }
 
 // Whether blocks may take less time than runs like this one, of so many symbols, after which the
-// text goes on: it is shorter than a turn, and so many bytes are left that the room of a block is
-// worth its time; or it ends within a group.
+// text goes on: it has fewer than six groups, and so many bytes are left that the room of a block
+// is worth its time; or it has fewer than sixteen, and ends within a group.
 #[inline(always)]
 fn is_short_run<G: GroupSize>(values: &[u8; 256], len: usize, at: Reached, input: &[u8]) -> bool
     requires limit { length input.now ≤ DECODE_LIMIT }
@@ -493,18 +508,35 @@ fn is_broken_next<G: GroupSize>(values: &[u8; 256], at: Reached, input: &[u8]) -
     requires within { at.read + at.ignored ≤ length input.now }
 {
     let rest = &input[at.read + at.ignored..];
-    rest.len() > LEAST_LEN && !starts_whole::<G>(values, rest)
+    rest.len() > LEAST_LEN && ignores_some(values, G::SYMBOLS, &rest[..LEAST_LEN])
+}
+
+// Whether one of the first bytes of a part is ignored. If a byte of the part has no meaning, there
+// is a fault soon, and no block is worth its time.
+#[inline(always)]
+fn ignores_some(values: &[u8; 256], first: usize, part: &[u8]) -> bool {
+    let mut is_found = false;
+    for index in 0..part.len() {
+        let entry = entry_of(values, part[index]);
+        if entry == INVALID {
+            return false;
+        }
+        is_found |= entry == IGNORED && index < first;
+    }
+    is_found
 }
 
 // With fewer bytes left no block is worth its time.
 const LEAST_LEN: usize = 16;
 
-// Returns how many bytes are ignored before the first that is not.
+/// Returns how many bytes are ignored before the first that is not.
 #[inline(always)]
-fn ignored_front(values: &[u8; 256], rest: &[u8]) -> usize
+pub(crate) fn ignored_front(values: &[u8; 256], rest: &[u8]) -> usize
     ensures within { result ≤ length rest.now }
     ensures front { (base : Base) → HoldsValues base values.now
         → IsIgnoredFront base rest.now result }
+    ensures next { (base : Base) → HoldsValues base values.now → result < length rest.now
+        → is_ignored (meaning base (slice_index rest.now result)) ≡ false }
 {
     for index in 0..rest.len() {
         if values[rest[index] as usize] != IGNORED {

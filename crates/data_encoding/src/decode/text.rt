@@ -6,7 +6,7 @@ ghost use Rattle.data_encoding_meaning.specs.decoding.Decoding.{HasDecodedTo};
 ghost use Rattle.data_encoding.specs.Steps.{HasEnded};
 ghost use Rattle.data_encoding_meaning.specs.text.Lengths.{decoded_len};
 
-use crate::decode::steps::{Reached, Step};
+use crate::decode::steps::{START, Step};
 use crate::decode::{DECODE_LIMIT, Stop};
 use crate::encoding::{BitOrder, EncodingRef};
 use data_encoding_kernel::call_by_width;
@@ -92,19 +92,13 @@ impl EncodingRef<'_> {
         ensures { HasEnded self.now input.now output.new stop.new result }
     {
         if self.fields.ignores {
-            stop.read = 0;
-            stop.written = 0;
-            return self.decode_rest::<L, O, G>(input, output, stop);
+            return self.decode_ignoring::<L, O, G>(input, output, stop);
         }
         let look_up = L::of(&self.fields.values);
         let at = self.decode_run_after_ignored::<L, O, G>(
             &self.fields.values.entries,
             &look_up,
-            Reached {
-                read: 0,
-                written: 0,
-                ignored: 0,
-            },
+            START,
             input,
             output,
         );
@@ -114,6 +108,39 @@ impl EncodingRef<'_> {
             Step::Ended => true,
             Step::Faulty => false,
         }
+    }
+
+    // If bytes are ignored, most short texts are few runs, with ignored bytes after each.
+    // Not inlined, so that other texts keep their registers.
+    #[inline(never)]
+    fn decode_ignoring<L: LookUp, O: ConstantOrder, G: GroupSize>(
+        &self,
+        input: &[u8],
+        output: &mut [u8],
+        stop: &mut Stop,
+    ) -> bool
+        requires width { self.now.width ≡ G.WIDTH }
+        requires order { self.now.order ≡ O.ORDER }
+        requires limit { length input.now ≤ DECODE_LIMIT }
+        requires exact { decoded_len self.now (length input.now) ≡ Ok (length output.old) }
+        ensures { HasEnded self.now input.now output.new stop.new result }
+    {
+        if input.len() >= 48 * G::BYTES {
+            stop.read = 0;
+            stop.written = 0;
+            return self.decode_rest::<L, O, G>(input, output, stop);
+        }
+        let values = &self.fields.values.entries;
+        let look_up = L::of(&self.fields.values);
+        let at = self.decode_runs_one_by_one::<L, O, G>(
+            values, &look_up, FEW_RUNS, START, input, output,
+        );
+        stop.read = at.read;
+        stop.written = at.written;
+        if at.read + at.ignored == input.len() {
+            return true;
+        }
+        self.decode_rest::<L, O, G>(input, output, stop)
     }
 
     // The remaining steps: further padded texts; or all, if bytes are ignored.
@@ -136,3 +163,6 @@ impl EncodingRef<'_> {
         self.decode_steps::<L, O, G>(&self.fields.values.entries, &look_up, input, output, stop)
     }
 }
+
+// The most runs that a short text is tried for. A UUID has five, a MAC address six.
+const FEW_RUNS: usize = 8;

@@ -8,6 +8,7 @@ ghost use Rattle.data_encoding_meaning.specs.text.Text.{padded_text, text_of};
 use crate::encode::ENCODE_LIMIT;
 use crate::encoding::EncodingRef;
 use data_encoding_kernel::group_size::GroupSize;
+use data_encoding_kernel::platform::has_lanes;
 
 // The greatest length of a block of lines, without their separators. A block has at least four
 // lines.
@@ -35,7 +36,10 @@ impl EncodingRef<'_> {
         let line_bytes = self.encode_align();
         if !input.is_empty() && input.len() <= line_bytes {
             self.encode_line::<G>(input, output);
-        } else if line_bytes / 8 >= G::BYTES && input.len() >= line_bytes + MOST_AHEAD {
+        } else if has_lanes()
+            && line_bytes / 8 >= G::BYTES
+            && input.len() >= line_bytes + MOST_AHEAD
+        {
             self.encode_long_lines::<G>(input, output);
         } else if input.len() <= FEW_LINES * line_bytes {
             self.encode_each_line::<G>(input, output);

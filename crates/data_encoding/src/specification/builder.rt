@@ -4,7 +4,7 @@
 ghost use Rattle.std.specs.Prelude.{◌≡◌, ◌/◌, ◌%◌, ◌^◌, ◌==◌, ◌||◌, ◌<◌, [], length, replicate, take, if◌then◌else◌, is_none, IfOk, IfErr, IfSome, IsTrue, Ok, Err, Some, None};
 ghost use Rattle.std.specs.List.{concat};
 ghost use Rattle.data_encoding_meaning.specs.text.Base.{IsWidth};
-ghost use Rattle.data_encoding_meaning.specs.specification.Fields.{Fields, base_of, base_by, judgements, meanings_after, no_meanings, width_of, wraps};
+ghost use Rattle.data_encoding_meaning.specs.specification.Fields.{Fields, base_of, base_by, judgements, meanings_of, width_of, wraps};
 ghost use Rattle.data_encoding.specs.PlainTables.{order_by, padding_by};
 ghost use Rattle.data_encoding.specs.Specification.{fields_of_parts};
 
@@ -109,11 +109,9 @@ fn judge(parts: &SpecificationParts<'_>, width: u8) -> Result<Meanings, Refusal>
     requires width { IsWidth width }
     requires count { 2 ^ width ≡ length parts.now.symbols.now }
     ensures meanings { IfOk result (λ meanings.
-        meanings_after (Ok no_meanings) (judgements width (fields_of_parts parts.now))
-        ≡ Ok meanings) }
+        meanings_of (judgements width (fields_of_parts parts.now)) ≡ Ok meanings) }
     ensures refused { IfErr result (λ refusal.
-        meanings_after (Ok no_meanings) (judgements width (fields_of_parts parts.now))
-        ≡ Err refusal) }
+        meanings_of (judgements width (fields_of_parts parts.now)) ≡ Err refusal) }
 {
     let mut meanings = Meanings::new();
     meanings.define_symbols(parts.symbols)?;
@@ -129,8 +127,7 @@ fn assembled(parts: &SpecificationParts<'_>, width: u8, meanings: Meanings) -> E
     requires sized { width_of (length parts.now.symbols.now) ≡ Some width }
     requires width { IsWidth width }
     requires count { 2 ^ width ≡ length parts.now.symbols.now }
-    requires judged { meanings_after (Ok no_meanings)
-        (judgements width (fields_of_parts parts.now)) ≡ Ok meanings }
+    requires judged { meanings_of (judgements width (fields_of_parts parts.now)) ≡ Ok meanings }
     ensures { base_of (fields_of_parts parts.now) ≡ Ok result }
 {
     let ignores = meanings.ignores_some();

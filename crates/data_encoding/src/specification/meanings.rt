@@ -5,7 +5,8 @@ ghost use Rattle.std.specs.List.{list_any};
 ghost use Rattle.data_encoding_meaning.specs.declared.encoding.Character.TheVariants.{Invalid};
 ghost use Rattle.data_encoding_meaning.specs.text.Base.{IsWidth, is_ignored};
 ghost use Rattle.data_encoding_meaning.specs.specification.Entries.{meaning_of_entry, is_entry_of, HoldsEntries};
-ghost use Rattle.data_encoding_meaning.specs.specification.Fields.{defined, ignored_judgements, meanings_after, no_meanings, padding_judgements, symbol_judgements, translated, translation_judgements, wrapping_judgements, wraps};
+ghost use Rattle.data_encoding_meaning.specs.specification.Fields.{ignored_judgements, padding_judgements, symbol_judgements, translation_judgements, wrapping_judgements, wraps};
+ghost use Rattle.data_encoding_meaning.specs.specification.MeaningTable.{defined, meanings_after, no_meanings, translated};
 
 use crate::encoding::{ASCII, IGNORED, INVALID, PADDING, group_symbols};
 pub use data_encoding_meaning::refusal::Refusal;

@@ -1,8 +1,9 @@
 -- Groups of symbols that are decoded together.
 use Rattle.std.proofs.Common.{◌≡◌, ℕ, zero, suc, ◌+◌, ◌*◌, ◌/◌, ◌%◌, ◌^◌, ◌<◌, ◌≤◌, List, [], ◌∷◌, ◌++◌, length, length-take-le, map, take, drop, slice_index, refl, sym, ap, ◌∙◌, subst, arith, flat_map}
-use Rattle.std.proofs.lemmas.List.{drop-map, drop-take, ext_get_or, get_or-drop, get_or-map, get_or-take, length-drop, length-map, nil_from_length, take-map, take-take, take_all}
+use Rattle.std.proofs.lemmas.List.{drop-map, ext_get_or, get_or-drop, get_or-map, get_or-take, length-drop, length-map, nil_from_length, take-map, take_all}
+use Rattle.std.proofs.lemmas.List.Elements.{All-from_get_or, recursion_from_All}
 use Rattle.std.proofs.lemmas.List.FromFn.{length-map-range_with_len}
-use Rattle.std.proofs.Math.Nat.{zero-mul, div-lt_iff_lt-mul, mod-eq_of_lt, mod-lt, mul-le-mul_right, one-le-pow}
+use Rattle.std.proofs.Math.Nat.{zero-mul, div-lt_iff_lt-mul, mul-le-mul_right}
 use Rattle.std.proofs.Math.Seq.{take-append-add}
 use Rattle.std.specs.List.{AllByRecursion, range_with_len}
 use Rattle.std.specs.Simd.{first_chunks}
@@ -17,6 +18,7 @@ use Rattle.data_encoding_meaning.specs.decoding.Fault.{symbol_bytes}
 use Rattle.data_encoding_kernel.specs.Tables.{Reads}
 use Rattle.data_encoding_kernel.specs.Words.{digit, word_of}
 use Rattle.data_encoding_kernel.proofs.digits.GatherStoreLemmas.{bytes_of_words, stored-ones}
+use Rattle.data_encoding_kernel.proofs.digits.FrontWordLemmas.{groups-front}
 use Rattle.data_encoding_kernel.proofs.digits.GatherWordLemmas.{length-words}
 use Rattle.data_encoding_kernel.proofs.digits.KernelLemmas.{symbol_bytes-word}
 use Rattle.data_encoding_kernel.proofs.decoding.SymbolRunLemmas.{run-front}
@@ -136,34 +138,6 @@ values-found {width} {count} is values input entries long small lanes found =
           (omega (arith, inside, length-map input (slice_index values))));
     }
 
--- the first groups of a list
-first-groups : (size count more : ℕ) (xs : List ℕ) → count ≤ more
-    → take count (first_chunks size more xs) ≡ first_chunks size count xs
-first-groups size zero more xs few = refl
-first-groups size (suc count) zero xs few = absurd (omega (arith, few))
-first-groups size (suc count) (suc more) xs few =
-    ap (λ l. take size xs ∷ l) (first-groups size count more (drop size xs) (omega (arith, few)))
-
--- are those of its front
-pub groups-front : (size count : ℕ) (xs : List ℕ)
-    → first_chunks size count (take (count * size) xs) ≡ first_chunks size count xs
-groups-front size zero xs = refl
-groups-front size (suc count) xs =
-    let more : suc count * size ≡ size + count * size = omega arith in
-    rw (
-      more,
-      take-take size (size + count * size) xs (omega arith),
-      drop-take size (count * size) xs,
-    )
-    (ap (λ l. take size xs ∷ l) (groups-front size count (drop size xs)))
-
--- the lowest bits of lanes
-all-low : (size : ℕ) (lanes : List ℕ)
-    → AllByRecursion (λ lane. lane < 2 ^ size) (map (λ lane. lane % 2 ^ size) lanes)
-all-low size [] = tt
-all-low size (lane ∷ lanes) =
-    (mod-lt lane (one-le-pow size 2 (omega arith)), all-low size lanes)
-
 -- what is found for groups: the words of those before the first byte that is no symbol
 module _ {width number : ℕ} (is : IsWidth width) (some : 0 < number) (values : List ℕ)
     (input entries : List ℕ) (found : ℕ) (long : length input ≡ 8 * number)
@@ -172,9 +146,6 @@ module _ {width number : ℕ} (is : IsWidth width) (some : 0 < number) (values :
     (are : AreEntries values (take (8 * number) input) entries) where
   abbrev groups : ℕ
   groups = found / number
-
-  abbrev low : List ℕ
-  low = map (λ lane. lane % 2 ^ width) entries
 
   whole-groups : groups * number ≤ found
   whole-groups = groups-within found number
@@ -190,59 +161,69 @@ module _ {width number : ℕ} (is : IsWidth width) (some : 0 < number) (values :
   found-symbols j h =
       rw (← entry-found j h) (below j h)
 
-  low-found : AreValues values width → ((j : ℕ) → slice_index input j < 256)
-      → take (groups * number) low ≡ take (groups * number) (map (slice_index values) input)
-  low-found own fits =
+  -- the entries of whole groups
+  entries-found : take (groups * number) entries
+      ≡ take (groups * number) (map (slice_index values) input)
+  entries-found =
       let size = groups * number in
-      let shown = λ (lane : ℕ). lane % 2 ^ width in
-      let first_len : length (take size low) ≡ size =
-      length-take-le size low (omega (arith, length-map entries shown, lanes, few, whole-groups)) in
+      let first_len : length (take size entries) ≡ size =
+      length-take-le size entries (omega (arith, lanes, few, whole-groups)) in
       let last_len : length (take size (map (slice_index values) input)) ≡ size =
       length-take-le size (map (slice_index values) input)
       (omega (arith, length-map input (slice_index values), long, few, whole-groups)) in
-      ext_get_or 0 (take size low) (take size (map (slice_index values) input))
+      ext_get_or 0 (take size entries) (take size (map (slice_index values) input))
       (first_len ∙ sym last_len)
       (λ k h.
       let inside : k < size = omega (arith, h, first_len) in
       let early : k < found = omega (arith, inside, whole-groups) in
-      get_or-take size low k 0 inside
-      ∙ get_or-map shown entries k 0 0 (omega (arith, early, few, lanes))
-      ∙ mod-eq_of_lt (rw (entry-found k early)
-      (own (slice_index input k) (fits k) (found-symbols k early)))
+      get_or-take size entries k 0 inside
       ∙ entry-found k early
       ∙ sym (get_or-map (slice_index values) input k 0 0 (omega (arith, early, few, long)))
       ∙ sym (get_or-take size (map (slice_index values) input) k 0 inside))
 
+  entries-small : AreValues values width → ((j : ℕ) → slice_index input j < 256)
+      → AllByRecursion (λ entry. entry < 2 ^ width) (take (groups * number) entries)
+  entries-small own fits =
+      let size = groups * number in
+      let first_len : length (take size entries) ≡ size =
+      length-take-le size entries (omega (arith, lanes, few, whole-groups)) in
+      recursion_from_All (λ entry. entry < 2 ^ width) (take size entries)
+      (All-from_get_or (λ entry. entry < 2 ^ width) (take size entries) 0
+      (λ k h.
+      let inside : k < size = omega (arith, h, first_len) in
+      let early : k < found = omega (arith, inside, whole-groups) in
+      rw (get_or-take size entries k 0 inside, entry-found k early)
+      (own (slice_index input k) (fits k) (found-symbols k early))))
+
   pub found-words : AreValues values width → ((j : ℕ) → slice_index input j < 256)
       → (order : BitOrder) (made : List ℕ)
-      → made ≡ map (word_of order width number) (first_chunks number 8 low)
+      → ((n : ℕ) → n ≤ 8
+      → AllByRecursion (λ entry. entry < 2 ^ width) (take (n * number) entries)
+      → take n made ≡ map (word_of order width number) (first_chunks number n entries))
       → take groups made ≡ map (word_of order width number)
       (first_chunks number groups (map (slice_index values) input))
-  found-words own fits order made is_made =
+  found-words own fits order made are_made =
       let most : groups ≤ 8 =
       omega (
         arith,
         (div-lt_iff_lt-mul {k = number} {x = found} {y = 9} some).1
             (omega (arith, few, some)),
       ) in
-      rw (is_made, take-map, first-groups number groups 8 low most)
-      (ap (map (word_of order width number))
-      (sym (groups-front number groups low)
-      ∙ ap (first_chunks number groups) (low-found own fits)
-      ∙ groups-front number groups (map (slice_index values) input)))
+      are_made groups most (entries-small own fits)
+      ∙ ap (map (word_of order width number))
+      (sym (groups-front number groups entries)
+      ∙ ap (first_chunks number groups) entries-found
+      ∙ groups-front number groups (map (slice_index values) input))
 
 -- the same for a look-up, with the sizes under other names
 pub words-found : {width number read count : ℕ} → IsWidth width → 0 < number → read ≡ width
     → number ≡ count → (holds : List ℕ → Type 0) (order : BitOrder)
-    (input entries low made : List ℕ) (found : ℕ) → length input ≡ 8 * number
+    (input entries made : List ℕ) (found : ℕ) → length input ≡ 8 * number
     → ((j : ℕ) → slice_index input j < 256) → length entries ≡ 8 * count → found ≤ 8 * count
     → ((j : ℕ) → j < found → slice_index entries j < 128)
     → ((values : List ℕ) → holds values → AreEntries values (take (8 * count) input) entries)
-    → low ≡ map (λ lane. lane % 2 ^ read) entries
-    → (AllByRecursion (λ entry. entry < 2 ^ read) low
-    → made ≡ map (word_of order read count) (first_chunks count 8 low))
-    → (AllByRecursion (λ entry. entry < 2 ^ read) low
-    → AllByRecursion (λ word. word < 2 ^ (read * count)) made)
+    → ((n : ℕ) → n ≤ 8 → AllByRecursion (λ entry. entry < 2 ^ read) (take (n * count) entries)
+    → take n made ≡ map (word_of order read count) (first_chunks count n entries))
     → record {
       few : found ≤ 8 * number;
       words : (values : List ℕ) → holds values → AreValues values width
@@ -250,22 +231,17 @@ pub words-found : {width number read count : ℕ} → IsWidth width → 0 < numb
           (first_chunks number (found / number) (map (slice_index values) input));
       symbols : (values : List ℕ) → holds values → (j : ℕ) → j < found
           → slice_index values (slice_index input j) < 128;
-      fit : AllByRecursion (λ word. word < 2 ^ (width * number)) made;
     }
-words-found {width} {number} is some same many holds order input entries low made found long fits =
-    rw (same, ← many) (λ lanes few below look low_is are fit.
-    let small = subst (AllByRecursion (λ entry. entry < 2 ^ width)) (sym low_is)
-    (all-low width entries) in
+words-found {width} {number} is some same many holds order input entries made found long fits =
+    rw (same, ← many) (λ lanes few below look are.
     record {
       few = few;
       words = λ values held own.
           found-words is some values input entries found long lanes few below (look values held)
-          own fits order made (are small
-          ∙ ap (λ l. map (word_of order width number) (first_chunks number 8 l)) low_is);
+          own fits order made are;
       symbols = λ values held.
           found-symbols is some values input entries found long lanes few below
           (look values held);
-      fit = fit small;
     })
 
 -- the bytes of the first words
@@ -318,7 +294,8 @@ found-run base values width bytes symbols order group reads input old new words 
     (λ j h. rw (get_or-take read input j 0 (omega (arith, h, part_len)))
     (low j (omega (arith, h, part_len, within))))
     (ap (take (count * bytes)) stored
-    ∙ bytes-front shown bytes count words (λ word. length-map-range_with_len (digit order 8 bytes word) 0 bytes)
+    ∙ bytes-front shown bytes count words
+    (λ word. length-map-range_with_len (digit order 8 bytes word) 0 bytes)
     ∙ ap (flat_map shown) (words_are ∙ ap (map (word_of order width symbols)) chunks)))
 
 -- whole groups of sixteen symbols

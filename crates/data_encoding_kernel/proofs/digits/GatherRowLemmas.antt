@@ -50,7 +50,8 @@ module _ (limit count : ℕ) (lanes : List ℕ) (long : length lanes ≡ count) 
       ap (λ l. mask_l l % 18446744073709551616)
       (tops_compared w8 leb (replicate count limit) lanes
       ∙ zip2_splat_left leb limit count lanes long)
-      ∙ mask_l-mod (map (leb limit) lanes) 64 (omega (arith, length-map lanes (leb limit), long, few))
+      ∙ mask_l-mod (map (leb limit) lanes) 64
+      (omega (arith, length-map lanes (leb limit), long, few))
 
   pub none-above : mask_of limit count lanes ≡ 0 → AllByRecursion (λ lane. lane < limit) lanes
   none-above none = below-by_mask limit lanes (sym mask-is ∙ none)

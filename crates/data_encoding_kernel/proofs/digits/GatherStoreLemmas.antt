@@ -1,6 +1,7 @@
 -- The bytes of words in lanes.
 use Rattle.std.proofs.Common.{◌≡◌, ℕ, ◌+◌, ◌-◌, ◌*◌, ◌/◌, ◌%◌, ◌^◌, ◌<◌, ◌≤◌, List, [], ◌∷◌, ◌++◌, length, length-append, length-take-le, take, drop, map, refl, sym, ap, ◌∙◌, arith}
-use Rattle.std.proofs.lemmas.List.{append-nil, length-drop, map-id, nil_from_length, take_at}
+use Rattle.std.proofs.lemmas.List.{append-nil, length-drop, length-map, map-id, nil_from_length, take_at}
+use Rattle.std.proofs.Math.Nat.{mod-lt}
 use Rattle.std.proofs.lemmas.Simd.{put_chunk_is, put_chunk_whole}
 use mir.Syntax.{Width}
 use mir.Val.{bits, Fits}
@@ -20,6 +21,12 @@ pub narrow-enough : (w : Width) (few : ℕ) → few ≤ 2 ^ bits w → (words : 
 narrow-enough w few h [] all = tt
 narrow-enough w few h (word ∷ words) all =
     (record { fits = omega (arith, h, all.0) }, narrow-enough w few h words all.1)
+
+-- lanes hold no more than their bits
+pub lanes-below : (w : Width) (words : List ℕ) → Each1 (Fits w) words
+    → AllByRecursion (λ word. word < 2 ^ bits w) words
+lanes-below w [] all = tt
+lanes-below w (word ∷ words) all = (all.0.fits, lanes-below w words all.1)
 
 -- two selections of the bytes of lanes, by their positions
 abbrev pub picked : List ℕ → List ℕ → List ℕ → List ℕ
@@ -97,15 +104,15 @@ eight-bytes : (word : ℕ) → digits_l 256 8 word ≡ digits_of LeastSignifican
 eight-bytes word = search arith depth 10
 
 pub threes-picked : (order : BitOrder) (words : List ℕ) → length words ≡ 8
-    → AllByRecursion (λ word. word < 2 ^ 24) words
+    → AllByRecursion (λ word. word < 2 ^ 32) words
     → picked-words order 3 4 16 8 (digits_l 256 32 (number_l 4294967296 words))
     ≡ bytes_of_words order 3 words
 threes-picked MostSignificantFirst =
-    words-picked MostSignificantFirst 3 4 16 8 4294967296 (2 ^ 24) refl (omega arith)
+    words-picked MostSignificantFirst 3 4 16 8 4294967296 (2 ^ 32) refl (omega arith)
     four-bytes (λ word. refl)
     (by_eight (Picks MostSignificantFirst 3 4 16 8) (λ a b c d e f g h. refl))
 threes-picked LeastSignificantFirst =
-    words-picked LeastSignificantFirst 3 4 16 8 4294967296 (2 ^ 24) refl (omega arith)
+    words-picked LeastSignificantFirst 3 4 16 8 4294967296 (2 ^ 32) refl (omega arith)
     four-bytes (λ word. refl)
     (by_eight (Picks LeastSignificantFirst 3 4 16 8) (λ a b c d e f g h. refl))
 
@@ -136,15 +143,15 @@ two-threes-picked LeastSignificantFirst =
     (by_two (Picks LeastSignificantFirst 3 8 4 2) (λ a b. refl))
 
 pub fives-picked : (order : BitOrder) (words : List ℕ) → length words ≡ 8
-    → AllByRecursion (λ word. word < 2 ^ 40) words
+    → AllByRecursion (λ word. word < 2 ^ 64) words
     → picked-words order 5 8 32 8 (digits_l 256 64 (number_l 18446744073709551616 words))
     ≡ bytes_of_words order 5 words
 fives-picked MostSignificantFirst =
-    words-picked MostSignificantFirst 5 8 32 8 18446744073709551616 (2 ^ 40) refl (omega arith)
+    words-picked MostSignificantFirst 5 8 32 8 18446744073709551616 (2 ^ 64) refl (omega arith)
     eight-bytes (λ word. refl)
     (by_eight (Picks MostSignificantFirst 5 8 32 8) (λ a b c d e f g h. refl))
 fives-picked LeastSignificantFirst =
-    words-picked LeastSignificantFirst 5 8 32 8 18446744073709551616 (2 ^ 40) refl (omega arith)
+    words-picked LeastSignificantFirst 5 8 32 8 18446744073709551616 (2 ^ 64) refl (omega arith)
     eight-bytes (λ word. refl)
     (by_eight (Picks LeastSignificantFirst 5 8 32 8) (λ a b c d e f g h. refl))
 
@@ -181,3 +188,58 @@ stored-ones order words output exact h =
     ap (put_chunk 0 output) (map-id words)
     ∙ put_chunk_whole output words exact
     ∙ one-bytes order words h
+
+-- the lowest bits of words
+pub low-below : (few : ℕ) → 0 < few → (words : List ℕ)
+    → AllByRecursion (λ word. word < few) (map (λ word. word % few) words)
+low-below few some [] = tt
+low-below few some (word ∷ words) = (mod-lt word some, low-below few some words)
+
+-- have their lowest bytes
+low-bytes : (order : BitOrder) (count few : ℕ)
+    → ((word : ℕ) → map (digit order 8 count (word % few)) (range_with_len 0 count)
+    ≡ map (digit order 8 count word) (range_with_len 0 count))
+    → (words : List ℕ)
+    → bytes_of_words order count (map (λ word. word % few) words) ≡ bytes_of_words order count words
+low-bytes order count few same [] = refl
+low-bytes order count few same (word ∷ words) =
+    λ i. same word i ++ low-bytes order count few same words i
+
+one-low : (order : BitOrder) (word : ℕ)
+    → map (digit order 8 1 (word % 256)) (range_with_len 0 1)
+    ≡ map (digit order 8 1 word) (range_with_len 0 1)
+one-low MostSignificantFirst word =
+    let is : word % 256 / 1 % 256 ≡ word / 1 % 256 = omega arith in ap (λ d. d ∷ []) is
+one-low LeastSignificantFirst word =
+    let is : word % 256 / 1 % 256 ≡ word / 1 % 256 = omega arith in ap (λ d. d ∷ []) is
+
+three-low : (order : BitOrder) (word : ℕ)
+    → map (digit order 8 3 (word % 2 ^ 32)) (range_with_len 0 3)
+    ≡ map (digit order 8 3 word) (range_with_len 0 3)
+three-low order word = by_order order where
+  first : word % 4294967296 / 1 % 256 ≡ word / 1 % 256
+  first = omega arith
+
+  second : word % 4294967296 / 256 % 256 ≡ word / 256 % 256
+  second = omega arith
+
+  third : word % 4294967296 / 65536 % 256 ≡ word / 65536 % 256
+  third = omega arith
+
+  by_order : (one : BitOrder) → map (digit one 8 3 (word % 2 ^ 32)) (range_with_len 0 3)
+      ≡ map (digit one 8 3 word) (range_with_len 0 3)
+  by_order MostSignificantFirst = λ i. third i ∷ second i ∷ first i ∷ []
+  by_order LeastSignificantFirst = λ i. first i ∷ second i ∷ third i ∷ []
+
+pub low-threes : (order : BitOrder) (words : List ℕ)
+    → bytes_of_words order 3 (map (λ word. word % 2 ^ 32) words) ≡ bytes_of_words order 3 words
+low-threes order words = low-bytes order 3 (2 ^ 32) (three-low order) words
+
+pub stored-low : (order : BitOrder) (words output : List ℕ) → length output ≡ length words
+    → put_chunk 0 output (map (λ x. x) (map (λ word. word % 256) words))
+    ≡ bytes_of_words order 1 words
+stored-low order words output exact =
+    let low = map (λ word. word % 256) words in
+    stored-ones order low output (exact ∙ sym (length-map words (λ word. word % 256)))
+    (low-below 256 (omega arith) words)
+    ∙ low-bytes order 1 256 (one-low order) words

@@ -86,7 +86,8 @@ few-flags values start count k few =
 pub row-before : (values rows : List ℕ) (count : ℕ) → count < 8
     → rows ≡ map (λ k. mask_l ((slice_index values (16 * (7 - count) + k) == 129)
     ∷ row_flags values (8 - count) count k)) (range_with_len 0 16)
-    → rows ≡ map (λ k. mask_l (row_flags values (8 - (count + 1)) (count + 1) k)) (range_with_len 0 16)
+    → rows ≡ map (λ k. mask_l (row_flags values (8 - (count + 1)) (count + 1) k))
+    (range_with_len 0 16)
 row-before values rows count few is =
     let next : 8 - count ≡ 7 - count + 1 = omega (arith, few) in
     let first : 7 - count ≡ 8 - (count + 1) = omega (arith, few) in
@@ -143,7 +144,8 @@ high-is base ignored few byte high fits =
     get_or_past base.meanings byte Invalid (omega (arith, few, high)) in
     ap is_ignored invalid ∙ sym (ap (λ n. not (n == 0)) none)
 
-pub holds-ignored : (base : Base) (values : List ℕ) (ignored : IgnoredBytes) → HoldsValues base values
+pub holds-ignored : (base : Base) (values : List ℕ) (ignored : IgnoredBytes)
+    → HoldsValues base values
     → length base.meanings ≤ 128
     → ignored.rows ≡ map (λ k. mask_l (row_flags values 0 8 k)) (range_with_len 0 16)
     → HoldsIgnored base ignored

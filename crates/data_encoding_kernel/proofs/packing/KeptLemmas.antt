@@ -7,6 +7,7 @@ use Rattle.std.proofs.lemmas.List.Elements.{filter-append}
 use Rattle.std.proofs.lemmas.List.Filters.{length-filter_both}
 use Rattle.std.proofs.lemmas.Simd.{mask_l-lt}
 use borrow.Rule.Slice.PartMut.{put_mid}
+use Rattle.std.specs.Int.RustNames.{count_ones}
 use Rattle.std.specs.List.{filter}
 use Rattle.std.specs.Prelude.{◌==◌}
 use Rattle.std.specs.Simd.Lanes.{Each1, mask_l}
@@ -16,7 +17,7 @@ use Rattle.data_encoding_meaning.proofs.grammar.SameBytesLemmas.{bytes-kept_in}
 use Rattle.data_encoding_meaning.proofs.lists.PartLemmas.{part-is}
 use Rattle.data_encoding_kernel.specs.declared.ignore.IgnoredBytes.{IgnoredBytes}
 use Rattle.data_encoding_kernel.specs.Ignore.{HoldsIgnored, IsPacked, ignored_bit, picked}
-use Rattle.data_encoding_kernel.proofs.packing.PickedLemmas.{picked-later, picked-passes}
+use Rattle.data_encoding_kernel.proofs.packing.PickedLemmas.{picked-count, picked-later, picked-passes}
 
 -- the flags from one on
 abbrev pub from_flag : ℕ → List Bool → List Bool
@@ -91,6 +92,19 @@ same-kept base ignored held (byte ∷ bytes) fits =
     twice-not (ignored_bit ignored byte == 0) ∙ ap not (sym (held.at_byte byte fits.0)) in
     λ i. cond (here i) (byte ∷ same-kept base ignored held bytes fits.1 i)
     (same-kept base ignored held bytes fits.1 i)
+
+-- how many are kept
+pub count-kept : (base : Base) (ignored : IgnoredBytes) → HoldsIgnored base ignored
+    → (part : List ℕ) → Each1 (λ byte. byte < 256) part → (count : ℕ)
+    → count ≡ count_ones (mask_l (map (λ byte. ignored_bit ignored byte == 0) part))
+    → count ≡ length (kept base part)
+count-kept base ignored held part fits count is =
+    let flag = λ (byte : ℕ). ignored_bit ignored byte == 0 in
+    is
+    ∙ picked-count (map flag part) part (length-map part flag)
+    ∙ ap length (picked-passes flag part ∙ same-kept base ignored held part fits
+    ∙ sym (bytes-kept_in base 0 part))
+    ∙ length-map (kept base part) _
 
 each-dropped : (first : ℕ) (bytes : List ℕ) → Each1 (λ byte. byte < 256) bytes
     → Each1 (λ byte. byte < 256) (drop first bytes)

@@ -118,22 +118,32 @@ module _ (flags : List Bool) (sixteen : length flags ≡ 16) where
       → IsPacked (take 8 flags) (take 8 bytes) count first
       → IsPacked (drop 8 flags) (drop 8 bytes) more second
       → IsPacked flags bytes (count + more) (take count (first ++ rest) ++ (second ++ post))
-  packed-sixteen bytes first rest second post count more long first_len second_len few few_more a b =
+  packed-sixteen bytes first rest second post count more long first_len second_len few few_more a
+      b =
       let both : picked flags bytes ≡ picked (take 8 flags) (take 8 bytes)
       ++ picked (drop 8 flags) (drop 8 bytes) =
       (λ i. picked (halves i) (sym (take-append-drop 8 bytes) i))
       ∙ picked-append (take 8 flags) (drop 8 flags) (take 8 bytes) (drop 8 bytes)
       (omega (arith, first-eight, length-take-le 8 bytes (omega (arith, long)))) in
       let front = take count first in
-      let front_len : length front ≡ count = length-take-le count first (omega (arith, few, first_len)) in
+      let front_len : length front ≡ count =
+      length-take-le count first (omega (arith, few, first_len)) in
       let here : take count (first ++ rest) ≡ front =
       take-append-le count first rest (omega (arith, few, first_len)) in
       record {
-        number = omega (arith, a.number, b.number, ap length both, length-append (picked (take 8 flags) (take 8 bytes)) (picked (drop 8 flags) (drop 8 bytes)));
+        number = omega (
+          arith,
+          a.number,
+          b.number,
+          ap length both,
+          length-append (picked (take 8 flags) (take 8 bytes))
+              (picked (drop 8 flags) (drop 8 bytes)),
+        );
         are = ap (λ l. take (count + more) (l ++ (second ++ post))) here
             ∙ ap (λ n. take (n + more) (front ++ (second ++ post))) (sym front_len)
             ∙ take-append-add front (second ++ post) more
-            ∙ ap (λ l. front ++ l) (take-append-le more second post (omega (arith, few_more, second_len)))
+            ∙ ap (λ l. front ++ l)
+            (take-append-le more second post (omega (arith, few_more, second_len)))
             ∙ (λ i. a.are i ++ b.are i) ∙ sym both;
       }
 
@@ -165,6 +175,8 @@ pub last-copied : (part zeros copied : List ℕ) (rest : ℕ) → length part < 
 last-copied part zeros copied rest short sixteen same within =
     let start = 16 - length part in
     ap (λ n. drop (16 - rest) (put_mid start (n - start) zeros copied)) (sym sixteen)
-    ∙ ap (λ n. drop n (put_mid start (length zeros - start) zeros copied)) (omega (arith, short, within))
+    ∙ ap (λ n. drop n (put_mid start (length zeros - start) zeros copied))
+    (omega (arith, short, within))
     ∙ sym (drop-drop (length part - rest) start (put_mid start (length zeros - start) zeros copied))
-    ∙ ap (drop (length part - rest)) (drop-put_mid_at start zeros copied (omega (arith, sixteen)) ∙ same)
+    ∙ ap (drop (length part - rest))
+    (drop-put_mid_at start zeros copied (omega (arith, sixteen)) ∙ same)

@@ -37,7 +37,8 @@ pub picked-passes : (test : ℕ → Bool) (xs : List ℕ) → picked (map test x
 picked-passes test [] = refl
 picked-passes test (x ∷ xs) = picked-first (test x) x (map test xs) xs (picked-passes test xs)
   where
-    picked-first : (flag : Bool) (x : ℕ) (flags : List Bool) (xs : List ℕ) {ys : List ℕ} → picked flags xs ≡ ys
+    picked-first : (flag : Bool) (x : ℕ) (flags : List Bool) (xs : List ℕ) {ys : List ℕ}
+        → picked flags xs ≡ ys
         → picked (flag ∷ flags) (x ∷ xs) ≡ cond flag (x ∷ ys) ys
     picked-first true x flags xs e = ap (λ l. x ∷ l) e
     picked-first false x flags xs e = e
@@ -55,7 +56,8 @@ picked-count (true ∷ flags) (x ∷ xs) e =
 
 -- nothing is picked of the first
 pub picked-later : (first : ℕ) (flags : List Bool) (xs : List ℕ) → length flags ≡ length xs
-    → picked (replicate first false ++ drop first flags) xs ≡ picked (drop first flags) (drop first xs)
+    → picked (replicate first false ++ drop first flags) xs
+    ≡ picked (drop first flags) (drop first xs)
 picked-later zero flags xs e = refl
 picked-later (suc first) [] [] e = refl
 picked-later (suc first) [] (x ∷ xs) e = absurd (omega (arith, e))

@@ -50,14 +50,14 @@ pub fn halves_64<const N: usize>(order: BitOrder, size: usize, lanes: Simd<u64, 
     (low << Simd::<u64, N>::splat(low_weight)) + (high << Simd::<u64, N>::splat(high_weight))
 }
 
-// The words of eight groups of two, four or eight values, by halves.
+// The words of eight groups of two, four or eight values, by halves: of those groups at the front
+// that have values alone.
 #[inline(always)]
 fn words_of_two(order: BitOrder, width: usize, values: u8x16) -> u64x8
     requires { width ≤ 8 }
-    ensures words { AllByRecursion (λ value. value < 2 ^ width) values
-        → result ≡ map (word_of order width 2) (first_chunks 2 8 values) }
-    ensures fit { AllByRecursion (λ value. value < 2 ^ width) values
-        → AllByRecursion (λ word. word < 2 ^ (width * 2)) result }
+    ensures { (n : ℕ) → n ≤ 8
+        → AllByRecursion (λ value. value < 2 ^ width) (take (n * 2) values)
+        → take n result ≡ map (word_of order width 2) (first_chunks 2 n values) }
 {
     halves_16(order, width, u16x8::from_le_bytes(values)).cast::<u64>()
 }
@@ -65,10 +65,9 @@ fn words_of_two(order: BitOrder, width: usize, values: u8x16) -> u64x8
 #[inline(always)]
 fn words_of_four(order: BitOrder, width: usize, values: u8x32) -> u64x8
     requires { width ≤ 8 }
-    ensures words { AllByRecursion (λ value. value < 2 ^ width) values
-        → result ≡ map (word_of order width 4) (first_chunks 4 8 values) }
-    ensures fit { AllByRecursion (λ value. value < 2 ^ width) values
-        → AllByRecursion (λ word. word < 2 ^ (width * 4)) result }
+    ensures { (n : ℕ) → n ≤ 8
+        → AllByRecursion (λ value. value < 2 ^ width) (take (n * 4) values)
+        → take n result ≡ map (word_of order width 4) (first_chunks 4 n values) }
 {
     let pairs = halves_16(order, width, u16x16::from_le_bytes(values));
     let fours = u32x8::from_le_bytes(pairs.to_le_bytes());
@@ -78,10 +77,9 @@ fn words_of_four(order: BitOrder, width: usize, values: u8x32) -> u64x8
 #[inline(always)]
 fn words_of_eight(order: BitOrder, width: usize, values: u8x64) -> u64x8
     requires { width ≤ 8 }
-    ensures words { AllByRecursion (λ value. value < 2 ^ width) values
-        → result ≡ map (word_of order width 8) (first_chunks 8 8 values) }
-    ensures fit { AllByRecursion (λ value. value < 2 ^ width) values
-        → AllByRecursion (λ word. word < 2 ^ (width * 8)) result }
+    ensures { (n : ℕ) → n ≤ 8
+        → AllByRecursion (λ value. value < 2 ^ width) (take (n * 8) values)
+        → take n result ≡ map (word_of order width 8) (first_chunks 8 n values) }
 {
     let pairs = halves_16(order, width, u16x32::from_le_bytes(values));
     let fours = halves_32(order, 2 * width, u32x16::from_le_bytes(pairs.to_le_bytes()));
@@ -113,15 +111,6 @@ fn count_below<const N: usize>(limit: u8, lanes: Simd<u8, N>) -> usize
     others.to_bitmask().trailing_zeros() as usize
 }
 
-// The lowest bits of each lane.
-#[inline(always)]
-fn low_bits<const N: usize>(width: usize, lanes: Simd<u8, N>) -> Simd<u8, N>
-    requires { width < 8 }
-    ensures { result ≡ map (λ lane. lane % 2 ^ width) lanes.entry }
-{
-    lanes & Simd::<u8, N>::splat((1 << width) - 1)
-}
-
 // The words of eight groups, and how many bytes come before the first whose entry is no value. The
 // words of the groups before it are those of their symbols. An entry below 128 is a value, so that
 // this test alone is enough.
@@ -138,37 +127,50 @@ fn words_of_groups<L: LookUp, G: GroupSize>(
         (first_chunks G.SYMBOLS (result.1 / G.SYMBOLS) (map (slice_index values) input.now)) }
     ensures symbols { (values : List ℕ) → L.holds values look_up.now
         → (k : ℕ) → k < result.1 → slice_index values (slice_index input.now k) < 128 }
-    ensures fit { AllByRecursion (λ word. word < 2 ^ (G.WIDTH * G.SYMBOLS)) result.0 }
 {
     let width = G::WIDTH;
     match G::SYMBOLS {
         2 => {
             let entries = look_up.look_up_16(u8x16::from_slice(input));
-            let low = low_bits(width, entries);
-            (words_of_two(order, width, low), count_below(128, entries))
+            (
+                words_of_two(order, width, entries),
+                count_below(128, entries),
+            )
         }
         4 => {
             let entries = look_up.look_up_32(u8x32::from_slice(input));
-            let low = low_bits(width, entries);
-            (words_of_four(order, width, low), count_below(128, entries))
+            (
+                words_of_four(order, width, entries),
+                count_below(128, entries),
+            )
         }
         _ => {
             let entries = look_up.look_up_64(u8x64::from_slice(input));
-            let low = low_bits(width, entries);
-            (words_of_eight(order, width, low), count_below(128, entries))
+            (
+                words_of_eight(order, width, entries),
+                count_below(128, entries),
+            )
         }
     }
 }
 
-// Writes the bytes of eight words of three bytes each.
+// The lowest bits of each word.
+#[inline(always)]
+fn low_bits(count: usize, words: u64x8) -> u64x8
+    requires { count < 64 }
+    ensures { result ≡ map (λ word. word % 2 ^ count) words }
+{
+    words & u64x8::splat((1 << count) - 1)
+}
+
+// Writes the lowest three bytes of each of eight words.
 #[inline(always)]
 fn store_three(order: BitOrder, words: u64x8, output: &mut [u8])
-    requires words { AllByRecursion (λ word. word < 2 ^ 24) words }
     requires exact { length output.old ≡ 24 }
     ensures { output.new
         ≡ flat_map (λ word. map (digit order 8 3 word) (range_with_len 0 3)) words }
 {
-    let bytes = words.cast::<u32>().to_le_bytes();
+    let bytes = low_bits(32, words).cast::<u32>().to_le_bytes();
     match order {
         BitOrder::MostSignificantFirst => {
             bytes
@@ -189,10 +191,9 @@ fn store_three(order: BitOrder, words: u64x8, output: &mut [u8])
     }
 }
 
-// Writes the bytes of eight words of five bytes each.
+// Writes the lowest five bytes of each of eight words.
 #[inline(always)]
 fn store_five(order: BitOrder, words: u64x8, output: &mut [u8])
-    requires words { AllByRecursion (λ word. word < 2 ^ 40) words }
     requires exact { length output.old ≡ 40 }
     ensures { output.new
         ≡ flat_map (λ word. map (digit order 8 5 word) (range_with_len 0 5)) words }
@@ -224,16 +225,15 @@ fn store_five(order: BitOrder, words: u64x8, output: &mut [u8])
     }
 }
 
-// Writes the bytes of eight words.
+// Writes the lowest bytes of each of eight words, as many as a group has.
 #[inline(always)]
 fn store<G: GroupSize>(order: BitOrder, words: u64x8, output: &mut [u8])
-    requires words { AllByRecursion (λ word. word < 2 ^ (8 * G.BYTES)) words }
     requires exact { length output.old ≡ 8 * G.BYTES }
     ensures { output.new
         ≡ flat_map (λ word. map (digit order 8 G.BYTES word) (range_with_len 0 G.BYTES)) words }
 {
     match G::BYTES {
-        1 => words.cast::<u8>().copy_to_slice(output),
+        1 => low_bits(8, words).cast::<u8>().copy_to_slice(output),
         3 => store_three(order, words, output),
         _ => store_five(order, words, output),
     }

@@ -1,4 +1,4 @@
-//! The digits of eight groups of bytes, or of those of sixteen symbols, with a lane for each.
+//! The digits of eight groups of bytes, or of those of sixteen symbols, in lanes.
 
 ghost use Rattle.std.specs.Prelude.{◌≡◌, ℕ, ◌+◌, ◌*◌, ◌^◌, ◌<◌, ◌≤◌, List, ◌++◌, length, map, take, flat_map};
 ghost use Rattle.std.specs.List.{AllByRecursion};

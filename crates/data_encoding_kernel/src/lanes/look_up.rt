@@ -9,8 +9,8 @@ use crate::lanes::rows::{Rows, entries_16, entries_32, entries_64, rows_of};
 use crate::value_table::ValueTable;
 use std::simd::prelude::*;
 
-/// A way to find the entries of a table for bytes. Each entry found that is below 128 is that of the
-/// table.
+/// A way to find the entries of a table for bytes. Each entry found that is below 128 is that of
+/// the table.
 pub trait LookUp: Copy {
     ghost holds: { List ℕ → Self → Type 0 };
 

@@ -15,11 +15,11 @@ use Rattle.data_encoding_meaning.proofs.grammar.PositionLemmas.{length-meanings}
 use Rattle.data_encoding_meaning.proofs.grammar.GroupLemmas.{GroupMeans-sound}
 
 -- a meaning with ignored ones invalid
-abbrev strict : Character → Character
+abbrev pub strict : Character → Character
 strict m = cond (is_ignored m) Invalid m
 
 -- the strict meaning is what the meaning is, and is never ignored
-strict_as : (m : Character)
+pub strict_as : (m : Character)
     → (is_symbol (strict m) ≡ is_symbol m) × (value_of (strict m) ≡ value_of m)
     × (is_padding (strict m) ≡ is_padding m) × (is_ignored (strict m) ≡ false)
 strict_as m = (grind arith, grind arith, grind arith, grind arith)
@@ -35,7 +35,8 @@ symbols-strict : (ms : List Character)
 symbols-strict [] = refl
 symbols-strict (m ∷ ms) = rw ((strict_as m).0, symbols-strict ms)
 
-values-strict : (ms : List Character) → filter_map value_of (map strict ms) ≡ filter_map value_of ms
+pub values-strict : (ms : List Character)
+    → filter_map value_of (map strict ms) ≡ filter_map value_of ms
 values-strict [] = refl
 values-strict (m ∷ ms) = λ i. cons_option ((strict_as m).1 i) (values-strict ms i)
 
@@ -55,13 +56,18 @@ module _ (base : Base) where
   characters-strict ms =
       rw (paddings-strict ms) (simp (take-map, symbols-strict, values-strict, length-map))
 
+  -- what bytes mean
+  pub meanings-strict : (bytes : List ℕ)
+      → map (meaning (ignoring_nothing base)) bytes ≡ map strict (map (meaning base) bytes)
+  meanings-strict bytes =
+      ap (λ means. map means bytes) (λ i byte. get_or-map strict base.meanings byte Invalid i)
+      ∙ sym (map-twice strict (meaning base) bytes)
+
   -- a group has the same fault
   pub group_fault-strict : (bytes : List ℕ)
       → group_fault (ignoring_nothing base) bytes ≡ group_fault base bytes
   group_fault-strict bytes =
-      ap (character_fault base)
-      (ap (λ means. map means bytes) (λ i byte. get_or-map strict base.meanings byte Invalid i)
-      ∙ sym (map-twice strict (meaning base) bytes))
+      ap (character_fault base) (meanings-strict bytes)
       ∙ characters-strict (map (meaning base) bytes)
 
 -- none of them is ignored

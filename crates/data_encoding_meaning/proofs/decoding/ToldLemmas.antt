@@ -99,6 +99,14 @@ from-map f test start [] = refl
 from-map f test start (x ∷ xs) =
     ap (cond (test (f x)) (Some start)) (from-map f test (start + 1) xs)
 
+-- the first byte that is no symbol, by what the bytes mean
+pub first_other-meanings : (base : Base) (text : List ℕ)
+    → position (λ m. not (is_symbol m)) (map (meaning base) text) ≡ first_other base text
+first_other-meanings base text =
+    position_from-zero (λ m. not (is_symbol m)) (map (meaning base) text)
+    ∙ from-map (meaning base) (λ m. not (is_symbol m)) 0 text
+    ∙ sym (position_from-zero (is_other base) text)
+
 -- a position after a prefix
 drop-past : {X : Type 0} (front back : List X) (len count : ℕ) → length front ≡ len
     → drop (len + count) (front ++ back) ≡ drop count back

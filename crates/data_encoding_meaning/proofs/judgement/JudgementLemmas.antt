@@ -9,7 +9,8 @@ use Rattle.data_encoding_meaning.specs.declared.encoding.Character.{Character}
 use Rattle.data_encoding_meaning.specs.declared.encoding.Character.TheVariants.{Symbol, Invalid}
 use Rattle.data_encoding_meaning.specs.declared.refusal.Refusal.{Refusal}
 use Rattle.data_encoding_meaning.specs.declared.refusal.Refusal.TheVariants.{NotAscii, Undefined}
-use Rattle.data_encoding_meaning.specs.specification.Fields.{Judgement, defined, translated, judged, meanings_after, is_same, symbol_judgements, Require, Define, Translate}
+use Rattle.data_encoding_meaning.specs.specification.Fields.{Judgement, is_same, symbol_judgements, Require, Define, Translate}
+use Rattle.data_encoding_meaning.specs.specification.MeaningTable.{defined, translated, judged, meanings_after}
 use Rattle.data_encoding_meaning.proofs.tables.EntryLemmas.{defined_by, same-is_same}
 use Rattle.data_encoding_meaning.proofs.lists.EachLemmas.{list_all-set, passes_at}
 

@@ -8,12 +8,13 @@ use Rattle.data_encoding_meaning.specs.declared.encoding.Character.{Character}
 use Rattle.data_encoding_meaning.specs.declared.encoding.Character.TheVariants.{Symbol, Padding, Ignored, Invalid}
 use Rattle.data_encoding_meaning.specs.declared.refusal.Refusal.TheVariants.{NotAscii, Undefined}
 use Rattle.data_encoding_meaning.specs.text.Base.{Base, Wrapping, group_symbols, is_ignored, meaning, symbol}
-use Rattle.data_encoding_meaning.specs.specification.Fields.{Judgement, base_of, base_with, defined, ignored_judgements, is_same, judged, judgements, meanings_after, no_meanings, padding_judgements, pair_judgements, symbol_judgements, translated, translation_judgements, width_of, wrapping_judgements, wraps, Require, Define, Translate, IsSpecified}
+use Rattle.data_encoding_meaning.specs.specification.Fields.{Judgement, base_of, base_with, ignored_judgements, is_same, judgements, padding_judgements, pair_judgements, symbol_judgements, translation_judgements, width_of, wrapping_judgements, wraps, Require, Define, Translate, IsSpecified}
+use Rattle.data_encoding_meaning.specs.specification.MeaningTable.{defined, judged, meanings_after, no_meanings, translated}
 use Rattle.data_encoding_meaning.specs.specification.Layout.{column_of, fields_of, is_translated, own_character, separator_of, translated_bytes}
 use Rattle.data_encoding_meaning.proofs.tables.EntryLemmas.{apart_test, defined_by, false_or, ignored-is, is_same-self, same-is_same}
 use Rattle.data_encoding_meaning.proofs.judgement.JudgementLemmas.{AreKept, AreKept-join, AreSteps, IsHeld, Judged, after-ok, judged-ok, meanings_after-append, meanings_after-ok, symbols-held}
 use Rattle.data_encoding_meaning.proofs.lists.EachLemmas.{all_parts, all_in_range, at_in_range, passes_at}
-use Rattle.data_encoding_meaning.proofs.judgement.RuleLemmas.{IsRuled, IsRuledPadding, IsRuledWrapping, base_of-width, first_judgements, from_parts, ignored-held, is_no_padding, is_within, IsRuled-built, parts_of, width_of-power}
+use Rattle.data_encoding_meaning.proofs.judgement.RuleLemmas.{IsRuled, IsRuledPadding, IsRuledWrapping, base_of-width, first_judgements, from_parts, ignored-held, is_no_padding, is_within, IsRuled-built, judged-by-table, parts_of, width_of-power}
 
 -- A judgement agrees with the meanings in the end, if what is translated to is known before.
 abbrev Agrees : List Character → List Character → Judgement → Type 0
@@ -403,7 +404,8 @@ module _ (base : Base) (ruled : IsRuled base) where
       let wrapped = wrapping-again base.wrapping ruled.wrapping in
       base_of-width (fields_of base) base.width
       (ap width_of ruled.count ∙ width_of-power base.width ruled.is_width) ruled.is_width.some
-      ∙ ap (base_with base.width (fields_of base)) (judged-all ∙ ap (λ l. Ok l) last-is)
+      ∙ ap (base_with base.width (fields_of base))
+      (judged-by-table base.width (fields_of base) ∙ judged-all ∙ ap (λ l. Ok l) last-is)
       ∙ (λ i. Ok (record {
         width = base.width;
         order = base.order;

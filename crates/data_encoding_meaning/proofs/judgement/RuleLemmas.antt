@@ -9,8 +9,10 @@ use Rattle.data_encoding_meaning.specs.declared.encoding.Character.TheVariants.{
 use Rattle.data_encoding_meaning.specs.declared.refusal.Refusal.{Refusal}
 use Rattle.data_encoding_meaning.specs.declared.refusal.Refusal.TheVariants.{WrapLength, WrapWidth}
 use Rattle.data_encoding_meaning.specs.text.Base.{Base, Wrapping, meaning, group_symbols, IsWidth}
-use Rattle.data_encoding_meaning.specs.specification.Fields.{Fields, Judgement, base_of, base_by, base_with, ignored_judgements, judgements, meanings_after, no_meanings, padding_judgements, symbol_judgements, translation_judgements, width_of, wrapping_judgements, wraps, Require, Translate}
+use Rattle.data_encoding_meaning.specs.specification.Fields.{Fields, Judgement, base_of, base_by, base_with, ignored_judgements, judgements, meanings_of, padding_judgements, symbol_judgements, translation_judgements, width_of, wrapping_judgements, wraps, Require, Translate}
+use Rattle.data_encoding_meaning.specs.specification.MeaningTable.{meanings_after, no_meanings}
 use Rattle.data_encoding_meaning.proofs.judgement.JudgementLemmas.{AreSteps, Brings, IsHeld, meanings_after-ok, meanings_after-pass, symbols-bring, symbols-held}
+use Rattle.data_encoding_meaning.proofs.judgement.MeaningTableLemmas.{is_some_meaning, meanings-by-table}
 use Rattle.data_encoding_meaning.proofs.lists.EachLemmas.{all_parts, all_joined}
 use Rattle.data_encoding_meaning.proofs.digits.WidthLemmas.{by_width}
 
@@ -80,13 +82,6 @@ width_of-some count width h some =
 pub width_of-power : (width : ℕ) → IsWidth width → width_of (2 ^ width) ≡ Some width
 width_of-power = by_width (λ w. width_of (2 ^ w) ≡ Some w) refl refl refl refl refl refl
 
-pub base_of-width : (fields : Fields) (width : ℕ) → width_of (length fields.symbols) ≡ Some width
-    → 0 < width
-    → base_of fields
-    ≡ base_with width fields (meanings_after (Ok no_meanings) (judgements width fields))
-base_of-width fields zero h some = absurd (omega (arith, some))
-base_of-width fields (suc n) h some = ap (λ o. base_by o fields) h
-
 -- the base of these fields, if the bytes mean this
 abbrev pub base_from : ℕ → Fields → List Character → Base
 base_from width fields meanings = record {
@@ -101,37 +96,6 @@ base_from width fields meanings = record {
       cond (wraps fields.column fields.separator)
       (Some (record { column = fields.column; separator = fields.separator })) None;
 }
-
--- What a base is built from.
-record HasBuilt (fields : Fields) (base : Base) : Type 0 where
-  pub width : ℕ
-  pub meanings : List Character
-  pub width_is : width_of (length fields.symbols) ≡ Some width
-  pub some : 0 < width
-  pub judged : meanings_after (Ok no_meanings) (judgements width fields) ≡ Ok meanings
-  pub is_base : base ≡ base_from width fields meanings
-
-with-ok : (width : ℕ) (fields : Fields) (r : Result (List Character) Refusal) (base : Base)
-    → base_with width fields r ≡ Ok base
-    → (meanings : List Character) × (r ≡ Ok meanings) × (base ≡ base_from width fields meanings)
-with-ok width fields (Ok meanings) base h =
-    let same : base_from width fields meanings ≡ base = cc in (meanings, refl, sym same)
-with-ok width fields (Err refusal) base h = cc
-
-by-ok : (o : Option ℕ) (fields : Fields) (base : Base) → width_of (length fields.symbols) ≡ o
-    → base_by o fields ≡ Ok base → HasBuilt fields base
-by-ok (Some (suc n)) fields base w h =
-    let is = with-ok (suc n) fields
-    (meanings_after (Ok no_meanings) (judgements (suc n) fields)) base h in
-    record {
-      width = suc n;
-      meanings = is.0;
-      width_is = w;
-      some = omega arith;
-      judged = is.1;
-      is_base = is.2;
-    }
-by-ok _ fields base w h = cc
 
 -- the judgements before the translations
 abbrev pub first_judgements : ℕ → Fields → List Judgement
@@ -215,6 +179,56 @@ padding-within : (width limit : ℕ) (padding : Option ℕ)
     → AllByRecursion (Brings (is_within limit)) (padding_judgements width padding)
 padding-within width limit None = tt
 padding-within width limit (Some character) = (tt, (tt, (refl, tt)))
+
+padding-some : (width : ℕ) (padding : Option ℕ)
+    → AllByRecursion (Brings is_some_meaning) (padding_judgements width padding)
+padding-some width None = tt
+padding-some width (Some character) = (tt, (tt, (refl, tt)))
+
+-- the pairs of a specification say what the table says
+pub judged-by-table : (width : ℕ) (fields : Fields)
+    → meanings_of (judgements width fields)
+    ≡ meanings_after (Ok no_meanings) (judgements width fields)
+judged-by-table width fields =
+    meanings-by-table (judgements width fields)
+    (judgements-bring is_some_meaning width fields (λ v h. refl) refl
+    (padding-some width fields.padding))
+
+pub base_of-width : (fields : Fields) (width : ℕ) → width_of (length fields.symbols) ≡ Some width
+    → 0 < width
+    → base_of fields ≡ base_with width fields (meanings_of (judgements width fields))
+base_of-width fields zero h some = absurd (omega (arith, some))
+base_of-width fields (suc n) h some = ap (λ o. base_by o fields) h
+
+-- What a base is built from.
+record HasBuilt (fields : Fields) (base : Base) : Type 0 where
+  pub width : ℕ
+  pub meanings : List Character
+  pub width_is : width_of (length fields.symbols) ≡ Some width
+  pub some : 0 < width
+  pub judged : meanings_after (Ok no_meanings) (judgements width fields) ≡ Ok meanings
+  pub is_base : base ≡ base_from width fields meanings
+
+with-ok : (width : ℕ) (fields : Fields) (r : Result (List Character) Refusal) (base : Base)
+    → base_with width fields r ≡ Ok base
+    → (meanings : List Character) × (r ≡ Ok meanings) × (base ≡ base_from width fields meanings)
+with-ok width fields (Ok meanings) base h =
+    let same : base_from width fields meanings ≡ base = cc in (meanings, refl, sym same)
+with-ok width fields (Err refusal) base h = cc
+
+by-ok : (o : Option ℕ) (fields : Fields) (base : Base) → width_of (length fields.symbols) ≡ o
+    → base_by o fields ≡ Ok base → HasBuilt fields base
+by-ok (Some (suc n)) fields base w h =
+    let is = with-ok (suc n) fields (meanings_of (judgements (suc n) fields)) base h in
+    record {
+      width = suc n;
+      meanings = is.0;
+      width_is = w;
+      some = omega arith;
+      judged = sym (judged-by-table (suc n) fields) ∙ is.1;
+      is_base = is.2;
+    }
+by-ok _ fields base w h = cc
 
 pub ignored-held : (meanings : List Character) (bytes : List ℕ)
     → AllByRecursion (IsHeld meanings) (ignored_judgements bytes)

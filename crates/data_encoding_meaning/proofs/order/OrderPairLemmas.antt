@@ -84,28 +84,45 @@ shifted-in_order above value =
     let next : value < value + 1 = omega arith in
     mul-lt-mul_of_pos_right next (pow_pos above)
 
--- the text of bytes that are padded with this character, the most significant bit first
-abbrev padded_by : Base → ℕ → ℕ → List ℕ → List ℕ
-padded_by base character width bytes =
+-- the text of bytes that are padded with this character
+abbrev padded_by : BitOrder → Base → ℕ → ℕ → List ℕ → List ℕ
+padded_by order base character width bytes =
     with_padding (Some character) (group_symbols width)
-    (text_by base width MostSignificantFirst (bits_of_bytes MostSignificantFirst bytes))
+    (text_by base width order (bits_of_bytes order bytes))
 
 -- the padding of one byte against a symbol of the second
-padding-not_before : (base : Base) (character : ℕ) → symbol base 0 < character
+padding-not_before : (order : BitOrder) (base : Base) (character : ℕ) → symbol base 0 < character
     → (width : ℕ) → IsWidth width → (8 % width ≡ 0 → ⊥)
-    → IsBefore (padded_by base character width (0 ∷ []))
-    (padded_by base character width (0 ∷ 0 ∷ [])) → ⊥
-padding-not_before base character later =
-    partly (λ w. IsBefore (padded_by base character w (0 ∷ []))
-    (padded_by base character w (0 ∷ 0 ∷ [])) → ⊥)
-    (not-descending (s ∷ s ∷ s ∷ []) c s (c ∷ c ∷ c ∷ c ∷ []) (s ∷ s ∷ c ∷ c ∷ []) later)
-    (not-descending (s ∷ s ∷ []) c s (c ∷ c ∷ c ∷ c ∷ c ∷ []) (s ∷ c ∷ c ∷ c ∷ c ∷ []) later)
-    (not-descending (s ∷ s ∷ []) c s (c ∷ []) (c ∷ []) later) where
-      c : ℕ
-      c = character
+    → IsBefore (padded_by order base character width (0 ∷ []))
+    (padded_by order base character width (0 ∷ 0 ∷ [])) → ⊥
+padding-not_before order base character later = by_order order where
+  c : ℕ
+  c = character
 
-      s : ℕ
-      s = symbol base 0
+  s : ℕ
+  s = symbol base 0
+
+  eight : IsBefore (s ∷ s ∷ s ∷ c ∷ c ∷ c ∷ c ∷ c ∷ [])
+      (s ∷ s ∷ s ∷ s ∷ s ∷ s ∷ c ∷ c ∷ []) → ⊥
+  eight = not-descending (s ∷ s ∷ s ∷ []) c s (c ∷ c ∷ c ∷ c ∷ []) (s ∷ s ∷ c ∷ c ∷ []) later
+
+  five : IsBefore (s ∷ s ∷ c ∷ c ∷ c ∷ c ∷ c ∷ c ∷ [])
+      (s ∷ s ∷ s ∷ s ∷ c ∷ c ∷ c ∷ c ∷ []) → ⊥
+  five =
+      not-descending (s ∷ s ∷ []) c s (c ∷ c ∷ c ∷ c ∷ c ∷ []) (s ∷ c ∷ c ∷ c ∷ c ∷ []) later
+
+  four : IsBefore (s ∷ s ∷ c ∷ c ∷ []) (s ∷ s ∷ s ∷ c ∷ []) → ⊥
+  four = not-descending (s ∷ s ∷ []) c s (c ∷ []) (c ∷ []) later
+
+  by_order : (one : BitOrder) → (width : ℕ) → IsWidth width → (8 % width ≡ 0 → ⊥)
+      → IsBefore (padded_by one base character width (0 ∷ []))
+      (padded_by one base character width (0 ∷ 0 ∷ [])) → ⊥
+  by_order MostSignificantFirst =
+      partly (λ w. IsBefore (padded_by MostSignificantFirst base character w (0 ∷ []))
+      (padded_by MostSignificantFirst base character w (0 ∷ 0 ∷ [])) → ⊥) eight five four
+  by_order LeastSignificantFirst =
+      partly (λ w. IsBefore (padded_by LeastSignificantFirst base character w (0 ∷ []))
+      (padded_by LeastSignificantFirst base character w (0 ∷ 0 ∷ [])) → ⊥) eight five four
 
 module _ (base : Base) (ruled : IsRuled base) (unwrapped : base.wrapping ≡ None) where
   -- the text of one byte starts with the symbol of its first bits
@@ -186,13 +203,12 @@ module _ (base : Base) (ruled : IsRuled base) (unwrapped : base.wrapping ≡ Non
       (first value (omega (arith, within))) (first (value + 1) within) in_order
       (shifted-below base.width above (value + 1) whole within) descends
 
-  breaks-padding : base.order ≡ MostSignificantFirst → (character : ℕ)
-      → base.padding ≡ Some character → symbol base 0 < character
+  breaks-padding : (character : ℕ) → base.padding ≡ Some character → symbol base 0 < character
       → BreaksOrder base (0 ∷ []) (0 ∷ 0 ∷ [])
-  breaks-padding is character padded later =
+  breaks-padding character padded later =
       let written : (bytes : List ℕ)
-      → text_of base bytes ≡ padded_by base character base.width bytes =
-      λ bytes. rw (unwrapped, padded, is) in
+      → text_of base bytes ≡ padded_by base.order base character base.width bytes =
+      λ bytes. rw (unwrapped, padded) in
       let rule = (subst (λ o. IsRuledPadding base o) padded ruled.padding).2 in
       record {
         are_bytes = one_byte 0 (omega arith);
@@ -200,7 +216,7 @@ module _ (base : Base) (ruled : IsRuled base) (unwrapped : base.wrapping ≡ Non
             All-from_recursion (λ b. b < 256) (0 ∷ 0 ∷ []) (omega arith, (omega arith, tt));
         in_order = inr (refl, tt);
         not_in_order =
-            λ before. padding-not_before base character later base.width ruled.is_width
+            λ before. padding-not_before base.order base character later base.width ruled.is_width
             (test_apart (8 % base.width) 0 rule)
             (rw (written (0 ∷ []), written (0 ∷ 0 ∷ [])) at before);
       }
@@ -252,7 +268,7 @@ module _ (base : Base) (ruled : IsRuled base) (unwrapped : base.wrapping ≡ Non
     padding-below character padded =
         let never : symbol base 0 < character → ⊥ =
         λ later.
-        not-broken _ _ (breaks-padding (most-first base.order refl) character padded later) in
+        not-broken _ _ (breaks-padding character padded later) in
         let differ : symbol base 0 ≡ character → ⊥ =
         λ same.
         let zero_is = (ruled.own 0 (omega (arith, pow_pos base.width, ruled.count))).1 in

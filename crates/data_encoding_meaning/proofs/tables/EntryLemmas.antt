@@ -11,7 +11,8 @@ use Rattle.data_encoding_meaning.specs.declared.refusal.Refusal.{Refusal}
 use Rattle.data_encoding_meaning.specs.declared.refusal.Refusal.TheVariants.{NotAscii, Duplicate}
 use Rattle.data_encoding_meaning.specs.text.Base.{is_ignored}
 use Rattle.data_encoding_meaning.specs.specification.Entries.{meaning_of_entry, is_entry_of, HoldsEntries}
-use Rattle.data_encoding_meaning.specs.specification.Fields.{defined, is_same}
+use Rattle.data_encoding_meaning.specs.specification.Fields.{is_same}
+use Rattle.data_encoding_meaning.specs.specification.MeaningTable.{defined}
 use Rattle.data_encoding_meaning.specs.specification.Layout.{code_of}
 use Rattle.std.proofs.Math.Seq.{take-set-lt}
 use Rattle.data_encoding_meaning.proofs.lists.EachLemmas.{passes_at, list_all-set}

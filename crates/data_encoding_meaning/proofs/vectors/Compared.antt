@@ -62,5 +62,5 @@ orders_broken = (
       (λ other. pair_told (built base32_dnscurve_fields) (1 ∷ []) (32 ∷ []) other keeps)
       (broken.least_significant_first refl),
   λ broken. broken.descending refl 51 (lit< tt) (lit< tt),
-  λ broken. broken.padding_later refl 61 refl (lit< tt),
+  λ broken. broken.padding_later 61 refl (lit< tt),
 )

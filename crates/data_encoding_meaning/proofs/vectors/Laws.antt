@@ -25,7 +25,7 @@ use Rattle.data_encoding_meaning.specs.laws.Told.{FaultTold, SymbolTold, Trailin
 use Rattle.data_encoding_meaning.specs.laws.Verdicts.{Injective}
 use Rattle.data_encoding_meaning.proofs.vectors.Examples.{built, single_fields, unchecked}
 
-abbrev at : DecodeKind → ℕ → DecodeError
+abbrev pub at : DecodeKind → ℕ → DecodeError
 at kind position = record { position = position; kind = kind }
 
 -- what is built from some fields

@@ -10,7 +10,8 @@ use Rattle.data_encoding_meaning.specs.declared.error.DecodeFault.TheVariants.{E
 use Rattle.data_encoding_meaning.specs.declared.error.DecodeKind.{DecodeKind}
 use Rattle.data_encoding_meaning.specs.declared.error.DecodeKind.TheVariants.{Length, Symbol, Trailing, Padding}
 use Rattle.data_encoding_meaning.specs.text.Base.{Base}
-use Rattle.data_encoding_meaning.specs.specification.Fields.{base_of, Require, Define, Translate, is_same, defined, translated, judged, no_meanings, meanings_after, width_of, symbol_judgements, padding_judgements, ignored_judgements, wraps, wrapping_judgements, pair_judgements, translation_judgements, judgements, base_with, base_by, IsSpecified, Judgement}
+use Rattle.data_encoding_meaning.specs.specification.Fields.{base_of, Require, Define, Translate, is_same, width_of, symbol_judgements, padding_judgements, ignored_judgements, wraps, wrapping_judgements, pair_judgements, translation_judgements, judgements, base_with, base_by, IsSpecified, Judgement, given, pairs_of, pairs_after, is_contradicted, pair_refusal, translation_refusal, judgement_refusal, first_refusal, meanings_by, meanings_unless, meanings_of}
+use Rattle.data_encoding_meaning.specs.specification.MeaningTable.{defined, translated, judged, no_meanings, meanings_after}
 use Rattle.data_encoding_meaning.specs.specification.Layout.{layout, fields_of, code_of, order_flag, wrapping_bytes, own_character, own_byte, is_translated, translated_bytes, ignored_bytes, column_of, separator_of}
 use Rattle.data_encoding_meaning.specs.specification.Predefined.{unpadded_fields, padded_fields, translated_fields, hexlower_fields, hexlower_permissive_fields, hexupper_fields, hexupper_permissive_fields, base32_fields, base32_nopad_fields, base32_nopad_nocase_fields, base32_nopad_visual_fields, base32hex_fields, base32hex_nopad_fields, base32_dnssec_fields, base32_dnscurve_fields, base64_fields, base64_nopad_fields, base64_mime_fields, base64_mime_permissive_fields, base64url_fields, base64url_nopad_fields, symbols_alone, mime_fields}
 use Rattle.data_encoding_meaning.specs.decoding.Printed.{printed_fault, printed_refusal, printed_kind, printed_error}
@@ -171,6 +172,76 @@ fields_made :
     × (mime_fields base64_fields ≡ wrapped base64_fields 76 (13 ∷ 10 ∷ []))
 fields_made = (refl, refl)
 
+-- the pairs of a specification: of a translated byte the meaning of what it is translated to
+pairs_in_order :
+    (pairs_after []
+    (judgements 1 (translated_fields (wrapped (padded_fields (unpadded_fields (codes "01"))) 8
+    (codes " ")) (codes "oO-") (codes "0o ")))
+    ≡ (48, SymbolCharacter 0) ∷ (49, SymbolCharacter 1) ∷ (61, PaddingCharacter) ∷ (32, Ignored)
+    ∷ (111, SymbolCharacter 0) ∷ (79, SymbolCharacter 0) ∷ (45, Ignored) ∷ [])
+    × (pairs_of [] (Require true FromTo) ≡ [])
+    × (pairs_of ((48, Ignored) ∷ []) (Translate 49 48) ≡ (49, Ignored) ∷ [])
+    × (pairs_of [] (Translate 49 48) ≡ (49, Invalid) ∷ [])
+pairs_in_order = (refl, refl, refl, refl)
+
+abbrev two_pairs : List (ℕ × Character)
+two_pairs = (48, SymbolCharacter 0) ∷ (32, Ignored) ∷ []
+
+-- the first pair of a byte says what it means
+first_pairs :
+    (given two_pairs 32 ≡ Ignored) × (given two_pairs 33 ≡ Invalid)
+    × (given (two_pairs ++ (32, PaddingCharacter) ∷ []) 32 ≡ Ignored)
+    × (take 2 (drop 31 (meanings_by two_pairs)) ≡ Invalid ∷ Ignored ∷ [])
+    × (length (meanings_by two_pairs) ≡ 128)
+    × (meanings_unless None [] ≡ Ok (replicate 128 Invalid))
+    × (meanings_unless (Some FromTo) two_pairs ≡ Err FromTo)
+first_pairs = (refl, refl, refl, refl, refl, refl, refl)
+
+-- a pair is refused if an earlier pair gives its byte another meaning
+pairs_refused :
+    (is_contradicted two_pairs 48 Ignored ≡ true)
+    × (is_contradicted two_pairs 32 Ignored ≡ false)
+    × (is_contradicted two_pairs 33 Ignored ≡ false)
+    × (pair_refusal two_pairs 48 (SymbolCharacter 1) ≡ Some (Duplicate 48))
+    × (pair_refusal two_pairs 48 (SymbolCharacter 0) ≡ None)
+    × (pair_refusal two_pairs 33 Ignored ≡ None)
+    × (pair_refusal two_pairs 128 Ignored ≡ Some NotAscii)
+pairs_refused = (refl, refl, refl, refl, refl, refl, refl)
+
+-- an earlier pair has to give a meaning to what a byte is translated to
+translations_refused :
+    (translation_refusal two_pairs 42 33 ≡ Some (Undefined 33))
+    × (translation_refusal two_pairs 42 200 ≡ Some NotAscii)
+    × (translation_refusal two_pairs 200 48 ≡ Some NotAscii)
+    × (translation_refusal two_pairs 32 48 ≡ Some (Duplicate 32))
+    × (translation_refusal two_pairs 32 32 ≡ None)
+    × (judgement_refusal two_pairs (Translate 42 33) ≡ Some (Undefined 33))
+    × (judgement_refusal two_pairs (Define 32 PaddingCharacter) ≡ Some (Duplicate 32))
+    × (judgement_refusal two_pairs (Require false FromTo) ≡ Some FromTo)
+    × (judgement_refusal two_pairs (Require true FromTo) ≡ None)
+translations_refused = (refl, refl, refl, refl, refl, refl, refl, refl, refl)
+
+-- `*` as `%` and `%` as `0`: only with `%` first; `*` as `0` twice; `*` as `0` and as a space
+judged_by_earlier_pairs : Hold (first_refusal two_pairs) (
+    (Translate 42 37 ∷ Translate 37 48 ∷ [], Some (Undefined 37))
+    ∷ (Translate 37 48 ∷ Translate 42 37 ∷ [], None)
+    ∷ (Translate 42 48 ∷ Translate 42 48 ∷ [], None)
+    ∷ (Translate 42 48 ∷ Translate 42 32 ∷ [], Some (Duplicate 42))
+    ∷ (Translate 42 48 ∷ Define 42 Ignored ∷ Require false FromTo ∷ [], Some (Duplicate 42))
+    ∷ (Require false FromTo ∷ Define 48 Ignored ∷ [], Some FromTo)
+    ∷ []
+    )
+judged_by_earlier_pairs = refl
+
+-- what bytes mean in the end, or the first refusal
+meanings_told :
+    (meanings_of zero_and_one
+    ≡ Ok (replicate 48 Invalid ++ SymbolCharacter 0 ∷ SymbolCharacter 1 ∷ replicate 78 Invalid))
+    × (meanings_of (zero_and_one ++ Define 48 Ignored ∷ Define 49 Ignored ∷ [])
+    ≡ Err (Duplicate 48))
+meanings_told = (refl, refl)
+
+-- the table says the same, judgement by judgement
 abbrev two_meanings : List Character
 two_meanings = SymbolCharacter 0 ∷ Ignored ∷ Invalid ∷ []
 

@@ -42,6 +42,5 @@ pub record IsBroken (base : Base) : Type 0 where
       → symbol base (value + 1) < symbol base value
       → BreaksOrder base (value * 2 ^ (8 - base.width) ∷ [])
       ((value + 1) * 2 ^ (8 - base.width) ∷ [])
-  pub padding_later : base.order ≡ MostSignificantFirst
-      → (character : ℕ) → base.padding ≡ Some character → symbol base 0 < character
+  pub padding_later : (character : ℕ) → base.padding ≡ Some character → symbol base 0 < character
       → BreaksOrder base (0 ∷ []) (0 ∷ 0 ∷ [])

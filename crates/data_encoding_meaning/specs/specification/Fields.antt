@@ -1,12 +1,13 @@
 -- The base that is built from the fields of a specification, or the reason why they are refused.
-use Rattle.std.specs.Prelude.{◌≡◌, ℕ, zero, suc, ◌%◌, ◌==◌, nat_lt, nat_le, Bool, true, false, not, ◌&&◌, ◌||◌, if◌then◌else◌, List, [], ◌∷◌, ◌++◌, map, length, replicate, Option, Some, None, is_none, slice_index_or, slice_set, zip, position, Result, Ok, Err}
-use Rattle.std.specs.List.{enumerate_from}
+use Rattle.std.specs.Prelude.{◌≡◌, ℕ, zero, suc, ◌%◌, ◌==◌, nat_lt, nat_le, Bool, true, false, not, ◌&&◌, ◌||◌, if◌then◌else◌, List, [], ◌∷◌, ◌++◌, map, length, Option, Some, None, is_none, zip, position, Result, Ok, Err}
+use Rattle.std.specs.List.{enumerate_from, range_with_len}
+use Rattle.std.specs.Option.{option_or}
 use Rattle.data_encoding_meaning.specs.declared.encoding.BitOrder.{BitOrder}
 use Rattle.data_encoding_meaning.specs.declared.encoding.Character.{Character}
 use Rattle.data_encoding_meaning.specs.declared.encoding.Character.TheVariants.{Symbol, Padding, Ignored, Invalid}
 use Rattle.data_encoding_meaning.specs.declared.refusal.Refusal.{Refusal}
 use Rattle.data_encoding_meaning.specs.declared.refusal.Refusal.TheVariants.{BadSize, NotAscii, Duplicate, ExtraPadding, WrapLength, WrapWidth, FromTo, Undefined}
-use Rattle.data_encoding_meaning.specs.text.Base.{Base, group_symbols}
+use Rattle.data_encoding_meaning.specs.text.Base.{Base, group_symbols, is_invalid}
 
 -- what a specification has, with its texts as bytes
 pub record Fields : Type 0 where
@@ -36,39 +37,70 @@ is_same Ignored Ignored = true
 is_same Invalid Invalid = true
 is_same _ _ = false
 
--- the meanings with one more, if the byte is ASCII and has no other meaning
-abbrev pub defined : List Character → ℕ → Character → Result (List Character) Refusal
-defined meanings byte m =
-    if nat_le 128 byte then Err NotAscii
-    else if is_same (slice_index_or meanings byte Invalid) m then Ok meanings
-    else if is_same (slice_index_or meanings byte Invalid) Invalid
-    then Ok (slice_set meanings byte m)
-    else Err (Duplicate byte)
+-- the meaning that the first pair of a byte gives it, or invalid if it has none
+abbrev pub given : List (ℕ × Character) → ℕ → Character
+given [] byte = Invalid
+given (pair ∷ pairs) byte = if pair.0 == byte then pair.1 else given pairs byte
 
--- the meanings with one byte translated to another, if that is ASCII and has a meaning
-abbrev pub translated : List Character → ℕ → ℕ → Result (List Character) Refusal
-translated meanings from to =
-    if nat_le 128 to then Err NotAscii
-    else if is_same (slice_index_or meanings to Invalid) Invalid then Err (Undefined to)
-    else defined meanings from (slice_index_or meanings to Invalid)
+-- the pair of a judgement, if it has one: a translated byte has the meaning that an earlier pair
+-- gives to what it is translated to
+abbrev pub pairs_of : List (ℕ × Character) → Judgement → List (ℕ × Character)
+pairs_of earlier (Require holds refusal) = []
+pairs_of earlier (Define byte m) = (byte, m) ∷ []
+pairs_of earlier (Translate from to) = (from, given earlier to) ∷ []
 
--- the meanings after one judgement, or its refusal
-abbrev pub judged : List Character → Judgement → Result (List Character) Refusal
-judged meanings (Require holds refusal) = if holds then Ok meanings else Err refusal
-judged meanings (Define byte m) = defined meanings byte m
-judged meanings (Translate from to) = translated meanings from to
+-- the pairs of all judgements in their order, after the earlier ones
+abbrev pub pairs_after : List (ℕ × Character) → List Judgement → List (ℕ × Character)
+pairs_after earlier [] = earlier
+pairs_after earlier (judgement ∷ others) =
+    pairs_after (earlier ++ pairs_of earlier judgement) others
 
--- the meanings before any judgement
-abbrev pub no_meanings : List Character
-no_meanings = replicate 128 Invalid
+-- whether an earlier pair gives the byte another meaning
+abbrev pub is_contradicted : List (ℕ × Character) → ℕ → Character → Bool
+is_contradicted earlier byte m =
+    not (is_invalid (given earlier byte)) && not (is_same (given earlier byte) m)
 
--- the meanings after all judgements, or the first refusal
-abbrev pub meanings_after : Result (List Character) Refusal → List Judgement
+-- why a pair is refused: its byte is not ASCII, or an earlier pair contradicts it
+abbrev pub pair_refusal : List (ℕ × Character) → ℕ → Character → Option Refusal
+pair_refusal earlier byte m =
+    if nat_le 128 byte then Some NotAscii
+    else if is_contradicted earlier byte m then Some (Duplicate byte)
+    else None
+
+-- why a translation is refused: what the byte is translated to is not ASCII, no earlier pair gives
+-- it a meaning, or the pair is refused
+abbrev pub translation_refusal : List (ℕ × Character) → ℕ → ℕ → Option Refusal
+translation_refusal earlier from to =
+    if nat_le 128 to then Some NotAscii
+    else if is_invalid (given earlier to) then Some (Undefined to)
+    else pair_refusal earlier from (given earlier to)
+
+-- why a judgement fails
+abbrev pub judgement_refusal : List (ℕ × Character) → Judgement → Option Refusal
+judgement_refusal earlier (Require holds refusal) = if holds then None else Some refusal
+judgement_refusal earlier (Define byte m) = pair_refusal earlier byte m
+judgement_refusal earlier (Translate from to) = translation_refusal earlier from to
+
+-- the refusal of the first judgement that fails
+abbrev pub first_refusal : List (ℕ × Character) → List Judgement → Option Refusal
+first_refusal earlier [] = None
+first_refusal earlier (judgement ∷ others) =
+    option_or (judgement_refusal earlier judgement)
+    (first_refusal (earlier ++ pairs_of earlier judgement) others)
+
+-- what each byte below 128 means by these pairs
+abbrev pub meanings_by : List (ℕ × Character) → List Character
+meanings_by pairs = map (given pairs) (range_with_len 0 128)
+
+-- what bytes mean by these pairs, unless there is a refusal
+abbrev pub meanings_unless : Option Refusal → List (ℕ × Character)
     → Result (List Character) Refusal
-meanings_after (Err refusal) judgements = Err refusal
-meanings_after (Ok meanings) [] = Ok meanings
-meanings_after (Ok meanings) (judgement ∷ others) =
-    meanings_after (judged meanings judgement) others
+meanings_unless None pairs = Ok (meanings_by pairs)
+meanings_unless (Some refusal) pairs = Err refusal
+
+-- what bytes mean by the pairs of all judgements, or the refusal of the first that fails
+abbrev pub meanings_of : List Judgement → Result (List Character) Refusal
+meanings_of all = meanings_unless (first_refusal [] all) (pairs_after [] all)
 
 -- the number of bits of a symbol, if this many symbols are a power of two of at most 64
 abbrev pub width_of : ℕ → Option ℕ
@@ -144,7 +176,7 @@ base_by None fields = Err BadSize
 base_by (Some zero) fields = Err BadSize
 base_by (Some (suc n)) fields =
     base_with (suc n) fields
-    (meanings_after (Ok no_meanings) (judgements (suc n) fields))
+    (meanings_of (judgements (suc n) fields))
 
 -- the base that is built from a specification, or its refusal
 abbrev pub base_of : Fields → Result Base Refusal

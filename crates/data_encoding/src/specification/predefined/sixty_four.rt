@@ -145,7 +145,7 @@ pub fn base64_nopad_ref() -> EncodingRef<'static>
 /// 6.8.
 ///
 /// CR and LF are ignored anywhere. Any other byte that is no symbol is a fault, although the RFC
-/// ignores it.
+/// ignores it. No header is written.
 pub fn base64_mime() -> Encoding
     ensures { base_of base64_mime_fields ≡ Ok result }
 {

@@ -21,7 +21,8 @@ returns-then-entry_of-ge128-clause-longest g c = λ ended base reads.
     g.G.GroupSize.is_group in
     let whole = IsWhole-same refl c.SYMBOLS.ensures
     g.G.GroupSize.is_group in
-    let byte = get_or-take c.args.len c.args.input.now at 0 (omega (arith, c.decode_by_lanes-at.ensures.within, c.if-at-len.false)) in
+    let byte = get_or-take c.args.len c.args.input.now at 0
+    (omega (arith, c.decode_by_lanes-at.ensures.within, c.if-at-len.false)) in
     run-ends base reads.holds.is_width g.G.GroupSize.WIDTH g.G.GroupSize.BYTES
     c.SYMBOLS.result group reads.width_is c.args.values.now
     (take c.args.len c.args.input.now) at whole.some_symbols reads.holds

@@ -17,10 +17,22 @@ slice_bounds-decode_symbols-end g c =
     group-before (length part) c.SYMBOLS-symbols.result c.loop-index.index inside
 
 pub overflow_mul-read : goal.overflow_mul-read
-overflow_mul-read g c = omega (arith, slice_bounds-decode_symbols-end g c, length-take-le c.args.len c.args.input.now c.requires.few, c.ranges.len)
+overflow_mul-read g c =
+    omega (
+      arith,
+      slice_bounds-decode_symbols-end g c,
+      length-take-le c.args.len c.args.input.now c.requires.few,
+      c.ranges.len,
+    )
 
 pub overflow_add-read : goal.overflow_add-read
-overflow_add-read g c = omega (arith, slice_bounds-decode_symbols-end g c, length-take-le c.args.len c.args.input.now c.requires.few, c.ranges.len)
+overflow_add-read g c =
+    omega (
+      arith,
+      slice_bounds-decode_symbols-end g c,
+      length-take-le c.args.len c.args.input.now c.requires.few,
+      c.ranges.len,
+    )
 
 pub slice_bounds-decode_symbols-end-in-loop-index :
     goal.slice_bounds-decode_symbols-end-in-loop-index

@@ -86,6 +86,8 @@ loop-read-preserved g c =
           ⊎_elim
           (λ same. ⊎_elim (λ none. inl (none ∙ same))
           (λ room. inr (λ more. room (omega (arith, more)))) grows)
-          (λ room. inr (λ _. rw now.base at (c.in_ok-append_chunk.ensures.rest (here (room c.loop-read-test.true)))))
+          (λ room. inr (λ _.
+          rw now.base at
+          (c.in_ok-append_chunk.ensures.rest (here (room c.loop-read-test.true)))))
           now.grown;
     }

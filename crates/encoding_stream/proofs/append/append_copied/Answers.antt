@@ -39,7 +39,8 @@ returns-clause-room g c = λ room.
     c.extend_from_slice.ensures.succeeds
     (elim c.if-rest-gt0.branch [
       | then-rest-gt0+in_ok-reserve w ↦
-          rw w.output-is (omega (arith, few, room, w.reserve.ensures.len, w.reserve.ensures.capacity))
+          rw w.output-is
+          (omega (arith, few, room, w.reserve.ensures.len, w.reserve.ensures.capacity))
       | else-rest-gt0 w ↦ rw w.output-is (omega (arith, few, room))
     ])
 
@@ -60,4 +61,5 @@ returns-clause-rest g c =
       | else-rest-gt0 w ↦ rw w.output-is (refl, omega arith)
     ] in
     where_ok c.extend_from_slice.result _ _ _ c.extend_from_slice.ensures.len
-    (λ len room. omega (arith, few, room, len, kept.0, kept.1, c.extend_from_slice.ensures.capacity))
+    (λ len room.
+    omega (arith, few, room, len, kept.0, kept.1, c.extend_from_slice.ensures.capacity))

@@ -199,7 +199,8 @@ returns-then-count-left-clause-read g c =
 pub returns-then-count-left-clause-succeeds : goal.returns-then-count-left-clause-succeeds
 returns-then-count-left-clause-succeeds g c =
     IfSome_then (g.R.Read.remaining (inner_of c.args.reader.now))
-    (past-few 18446744073709551615 _ _ (λ bytes. ⊥) (returns-then-count-left-clause-too_long g c refl))
+    (past-few 18446744073709551615 _ _ (λ bytes. ⊥)
+    (returns-then-count-left-clause-too_long g c refl))
     (λ bytes fails few. absurd (fails (omega (arith, few))))
 
 pub write_text-requires-clause-fits : goal.write_text-requires-clause-fits

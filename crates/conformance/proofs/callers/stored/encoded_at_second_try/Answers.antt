@@ -1,8 +1,8 @@
 use Rattle.std.proofs.Common.{◌≡◌, ℕ, List, ◌++◌, false, rules, Result, Ok, Err, OnOk, OnErr, is_err, sym, ap, ◌∙◌, subst}
 use Rattle.std.proofs.lemmas.Result.{IfOk-at_ok}
 use Rattle.std.specs.String.{string_bytes}
-use Rattle.data_encoding.specs.declared.encode.encoder.Encoder.{Encoder}
-use Rattle.data_encoding.specs.declared.encode.encoder.Encodes
+use Rattle.data_encoding.specs.declared.encoder.Encoder.{Encoder}
+use Rattle.data_encoding.specs.declared.encoder.Encodes
 use Rattle.data_encoding.specs.Encoder.{HasTaken, IsUnchanged, base_of_encoder, held, written}
 use Rattle.data_encoding.specs.EncodedPieces.{HasEncoded}
 use Rattle.data_encoding.specs.Text.{text_of}
@@ -20,7 +20,8 @@ where_err (Err other) error is holds = holds
 
 -- an encoder that is unchanged has taken the same bytes
 still_taken : {E : Type 0} {by : Encodes.Ghosts E} (old new : Encoder E by)
-    → IsUnchanged old new → (before bytes : List ℕ) → HasTaken old before bytes → HasTaken new before bytes
+    → IsUnchanged old new → (before bytes : List ℕ) → HasTaken old before bytes
+    → HasTaken new before bytes
 still_taken old new same before bytes has =
     subst (λ base. HasEncoded base before bytes (written new) (held new)) (sym same.base)
     (subst (λ text. HasEncoded (base_of_encoder old) before bytes text (held new))

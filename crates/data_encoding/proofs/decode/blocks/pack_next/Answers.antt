@@ -1,6 +1,6 @@
-use Rattle.std.proofs.Common.{◌≡◌, ◌+◌, ◌-◌, ◌≤◌, length, take, drop, ap, arith, sym, ◌∙◌, length-take-le, subst}
+use Rattle.std.proofs.Common.{◌≡◌, ◌-◌, ◌≤◌, length, take, drop, arith, length-take-le, subst}
 use Rattle.data_encoding_meaning.proofs.lists.PartLemmas.{part-is}
-use Rattle.data_encoding_meaning.proofs.lists.WriteLemmas.{length-rewritten_same, rewritten}
+use Rattle.data_encoding_meaning.proofs.lists.WriteLemmas.{length-rewritten_same}
 use Rattle.data_encoding.specs.Blocks.{HasPacked}
 use Rattle.data_encoding.proofs.decoding.BlockLemmas.{packed-further, moved-front}
 use Rattle.std.proofs.lemmas.List.{length-drop}

@@ -1,4 +1,4 @@
-use Rattle.std.proofs.Common.{◌≡◌, ◌+◌, ◌*◌, ◌/◌, arith}
+use Rattle.std.proofs.Common.{◌≡◌, ◌*◌, ◌/◌, arith}
 use Rattle.data_encoding.proofs.decode.steps.after_run.Goals as goal
 
 pub overflow_add-read : goal.overflow_add-read

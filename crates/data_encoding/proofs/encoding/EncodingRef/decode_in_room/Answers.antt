@@ -1,6 +1,5 @@
-use Rattle.std.proofs.Common.{◌≡◌, ◌+◌, ◌-◌, ◌<◌, ◌≤◌, ◌∙◌, length, arith}
+use Rattle.std.proofs.Common.{◌≡◌, ◌∙◌, arith}
 use Rattle.data_encoding_meaning.proofs.digits.SizeLemmas.{IsSmall-group}
-use Rattle.data_encoding_kernel.specs.Tables.{Reads}
 use Rattle.data_encoding.specs.Blocks.{HasReached, IsPacking}
 use Rattle.data_encoding.proofs.decoding.BlockLemmas.{packed-nothing}
 use Rattle.data_encoding.proofs.tables.TableLemmas.{Reads-seen, ascii-seen}
@@ -76,7 +75,9 @@ reached g c =
           rw w.now-is (w.decode_packed-now.ensures.start ∙ w.pack_next-mixed.ensures.start
           ∙ c.loop.invariant.start)
     ] in
-    rw start at (c.after_blocks.ensures c.args.self.now reads.holds c.loop-test.room
+    let held = c.of-ignored.ensures c.args.self.now reads.holds
+    (ascii-seen _ c.self.invariant c.args.self.now c.self.view_is) in
+    rw start at (c.after_blocks.ensures c.args.self.now reads.holds held c.loop-test.room
     c.loop-test.output packing)
 
 pub returns-clause-so_far : goal.returns-clause-so_far

@@ -1,12 +1,10 @@
-use Rattle.std.proofs.Common.{◌≡◌, ◌+◌, ◌-◌, ◌*◌, ◌/◌, ◌<◌, ◌≤◌, ◌&&◌, ◌∙◌, not, nat_lt, length, take, drop, inl, inr, refl, ap, arith, subst, sym, length-take-le}
+use Rattle.std.proofs.Common.{◌≡◌, ◌+◌, ◌-◌, ◌≤◌, ◌∙◌, length, take, drop, inl, inr, refl, ap, arith, subst, sym, length-take-le}
 use Rattle.std.proofs.lemmas.List.{drop-drop}
 use Rattle.data_encoding_meaning.proofs.decoding.GroupJudgementLemmas.{few-bits}
 use Rattle.data_encoding_meaning.proofs.digits.SizeLemmas.{IsGroup-same}
 use Rattle.data_encoding_meaning.proofs.lists.PartLemmas.{IsWhole-same}
-use Rattle.data_encoding_meaning.proofs.lists.WriteLemmas.{rewritten}
 use Rattle.data_encoding_meaning.specs.decoding.Decoding.{IsDecodedGroup}
-use Rattle.data_encoding.specs.Blocks.{HasPacked}
-use Rattle.data_encoding.proofs.decoding.StepLemmas.{IsUnderWay, after_none, final-not, under_way}
+use Rattle.data_encoding.proofs.decoding.StepLemmas.{after_none, final-not, under_way}
 use Rattle.data_encoding.proofs.decoding.BlockLemmas.{packed-group, packed-group_room, packing-group, packing-len}
 use Rattle.data_encoding.proofs.encoding.EncodingRef.decode_packed_group.Given.{Over}
 use Rattle.data_encoding.proofs.encoding.EncodingRef.decode_packed_group.Goals as goal

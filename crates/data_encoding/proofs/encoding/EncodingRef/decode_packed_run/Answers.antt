@@ -1,4 +1,4 @@
-use Rattle.std.proofs.Common.{◌≡◌, ◌+◌, ◌-◌, ◌*◌, ◌/◌, ◌≤◌, length, take, drop, refl, ap, arith, subst, sym}
+use Rattle.std.proofs.Common.{◌+◌, ◌-◌, ◌*◌, ◌≤◌, length, take, drop, refl, ap, arith, subst}
 use Rattle.std.proofs.lemmas.List.{drop-drop}
 use Rattle.data_encoding_kernel.specs.Runs.{IsRun}
 use Rattle.data_encoding_meaning.proofs.lists.WriteLemmas.{length-rewritten_same, rewritten}

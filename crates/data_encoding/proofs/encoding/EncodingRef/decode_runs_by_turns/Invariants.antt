@@ -1,4 +1,4 @@
-use Rattle.std.proofs.Common.{◌≤◌, ◌≡◌, ◌%◌, false, drop}
+use Rattle.std.proofs.Common.{◌≤◌, false, drop}
 use Rattle.data_encoding_meaning.specs.decoding.Decoding.{HasDecodedTo, IsIgnoredFront}
 use Rattle.data_encoding.proofs.encoding.EncodingRef.decode_runs_by_turns.Given as goal
 

@@ -1,7 +1,5 @@
-use Rattle.std.proofs.Common.{◌≤◌, Ok, length, sym, ap, ◌∙◌, arith}
+use Rattle.std.proofs.Common.{Ok, sym, ap, ◌∙◌}
 use Rattle.data_encoding.proofs.decoding.StepLemmas.{decoded-all, under_way}
-use Rattle.data_encoding_meaning.proofs.decoding.WholeLengthLemmas.{most_bytes-few}
-use Rattle.data_encoding_meaning.proofs.digits.SizeLemmas.{IsSmall-group}
 use Rattle.data_encoding.proofs.encoding.EncodingRef.decode_steps.Goals as goal
 
 pub returns : goal.returns

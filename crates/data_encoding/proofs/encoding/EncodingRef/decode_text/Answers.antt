@@ -28,8 +28,3 @@ returns-in-More g c =
     let now = under_way g.G.GroupSize.is_group c.requires.width
     (c.requires.exact ∙ ap Ok (sym len)) c.in-More.ensures.1 in
     decoded-all now (omega (arith, c.if-stop-input.true))
-
-pub decode_rest-requires-clause-so_far : goal.decode_rest-requires-clause-so_far
-decode_rest-requires-clause-so_far g c =
-    begin c.args.self.now (subst IsWidth (sym c.requires.width) g.G.GroupSize.is_group.is_width)
-    c.args.input.now c.args.output.now

@@ -1,15 +1,6 @@
-use Rattle.std.proofs.Common.{◌^◌, ◌<◌, ◌∙◌, subst}
-use Rattle.std.specs.List.{AllByRecursion}
+use Rattle.std.proofs.Common.{◌∙◌}
 use Rattle.data_encoding_kernel.proofs.decoding.GroupRunLemmas.{found-run}
-use Rattle.data_encoding_meaning.proofs.lists.PartLemmas.{IsWhole-group}
 use Rattle.data_encoding_kernel.proofs.lanes.decode.decode_eight.Goals as goal
-
-pub store-requires-clause-words : goal.store-requires-clause-words
-store-requires-clause-words g c =
-    subst (λ n. AllByRecursion (λ word. word < 2 ^ n) c.words_of_groups-count.result.0)
-    (IsWhole-group g.G.GroupSize.WIDTH g.G.GroupSize.BYTES g.G.GroupSize.SYMBOLS
-    g.G.GroupSize.is_group).same_bits
-    c.words_of_groups-count.ensures.fit
 
 pub returns-clause-run : goal.returns-clause-run
 returns-clause-run g c = λ values held base reads.

@@ -1,25 +1,20 @@
-use Rattle.std.proofs.Common.{◌*◌, map, sym, ap, ◌∙◌, arith}
+use Rattle.std.proofs.Common.{◌+◌, ◌*◌, ◌^◌, ◌<◌, ◌≡◌, map, take, sym, ap, ◌∙◌, subst, arith}
 use Rattle.std.proofs.lemmas.List.{map-id}
-use Rattle.std.proofs.Math.Nat.{mul-one}
-use Rattle.std.specs.Simd.Lanes.{number_l, digits_l}
-use Rattle.data_encoding_kernel.specs.Values.{joined}
-use Rattle.data_encoding_kernel.proofs.digits.GatherWordLemmas.{words-fit, words-of-one, words-step}
+use Rattle.std.specs.List.{AllByRecursion}
+use Rattle.std.specs.Simd.{first_chunks}
+use Rattle.data_encoding_kernel.specs.Words.{word_of}
+use Rattle.data_encoding_kernel.proofs.digits.FrontWordLemmas.{groups-front, pairs-front}
 use Rattle.data_encoding_kernel.proofs.lanes.decode.words_of_two.Goals as goal
 
-pub returns-clause-words : goal.returns-clause-words
-returns-clause-words c = λ small.
+pub returns : goal.returns
+returns c = λ n few small.
     let order = c.args.order in
     let width = c.args.width in
     let values = c.args.values in
-    map-id c.halves_16.result
-    ∙ c.halves_16.ensures
-    ∙ ap (λ l. map (joined order 8 width) (digits_l 65536 8 (number_l 256 l)))
-    (words-of-one order width 16 values c.fits-values.0 small)
-    ∙ words-step order width 8 1 width (sym (mul-one width)) c.requires 8 values
-    c.fits-values.0
-
-pub returns-clause-fit : goal.returns-clause-fit
-returns-clause-fit c = λ small.
-    rw (returns-clause-words c small)
-    (words-fit c.args.order c.args.width (c.args.width * 2) 2 (omega arith) 8 c.args.values
-    c.fits-values.0)
+    let twice : n * 2 ≡ n + n = omega arith in
+    let words = map (word_of order width 2) in
+    ap (take n) (map-id c.halves_16.result ∙ c.halves_16.ensures)
+    ∙ pairs-front order width c.requires n 8 values few (omega (arith, few, c.fits-values.0))
+    (subst (λ size. AllByRecursion (λ value. value < 2 ^ width) (take size values)) twice small)
+    ∙ ap (λ size. words (first_chunks 2 n (take size values))) (sym twice)
+    ∙ ap words (groups-front 2 n values)

@@ -62,7 +62,8 @@ pub returns-in-Ok-clause-reads : goal.returns-in-Ok-clause-reads
 returns-in-Ok-clause-reads c =
     let s = c.args.self.now in
     let bytes = take c.in-Ok.written c.judge-judged.new.output in
-    let size = length-take-le c.in-Ok.written c.judge-judged.new.output (returns-in-Ok-clause-within c) in
+    let size =
+    length-take-le c.in-Ok.written c.judge-judged.new.output (returns-in-Ok-clause-within c) in
     take-sound s.encoding.now s.kept
     (is-kept s (omega arith) (omega arith)) c.args.byte
     (sym c.is_some.ensures ∙ c.if-is_some.false)

@@ -1,5 +1,6 @@
 use Rattle.std.proofs.Common.{◌≡◌, drop, Ok}
-use Rattle.data_encoding_meaning.specs.specification.Fields.{meanings_after, symbol_judgements}
+use Rattle.data_encoding_meaning.specs.specification.Fields.{symbol_judgements}
+use Rattle.data_encoding_meaning.specs.specification.MeaningTable.{meanings_after}
 use Rattle.data_encoding.proofs.specification.meanings.Meanings.define_symbols.Given as goal
 
 abbrev pub invariant-loop-value : goal.invariant-loop-value

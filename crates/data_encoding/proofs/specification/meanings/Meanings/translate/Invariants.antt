@@ -1,5 +1,6 @@
 use Rattle.std.proofs.Common.{◌≡◌, drop, Ok}
-use Rattle.data_encoding_meaning.specs.specification.Fields.{meanings_after, pair_judgements}
+use Rattle.data_encoding_meaning.specs.specification.Fields.{pair_judgements}
+use Rattle.data_encoding_meaning.specs.specification.MeaningTable.{meanings_after}
 use Rattle.data_encoding.proofs.specification.meanings.Meanings.translate.Given as goal
 
 abbrev pub invariant-loop-index : goal.invariant-loop-index

@@ -168,7 +168,7 @@ impl<'a> EncodingRef<'a> {
 }
 
 /// Data that prints as its text, whatever width and fill the format asks for. For no data nothing
-/// is printed, and printing never fails.
+/// is printed, and that never fails.
 #[derive(Debug, Drop)]
 pub struct Display<'a> {
     encoding: EncodingRef<'a>,

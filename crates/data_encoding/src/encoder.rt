@@ -15,8 +15,8 @@ use std::alloc::{AllocError, Allocator};
 
 /// What an [`Encoder`] borrows besides its text: an [`Encoding`].
 ///
-/// It is a type parameter, since what becomes of the text is proved only if the encoder has no other
-/// reference.
+/// It is a type parameter, since what becomes of the text is proved only if the encoder has no
+/// other reference.
 pub trait Encodes: Copy {
     ghost base: { Self → Base };
 

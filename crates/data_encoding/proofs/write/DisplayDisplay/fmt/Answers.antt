@@ -1,5 +1,5 @@
 use Rattle.data_encoding_meaning.proofs.text.WrittenLemmas.{formatted-all, of_ok}
-use Rattle.data_encoding.proofs.encode.display.DisplayDisplay.fmt.Goals as goal
+use Rattle.data_encoding.proofs.write.DisplayDisplay.fmt.Goals as goal
 
 pub returns-clause-writes : goal.returns-clause-writes
 returns-clause-writes g c plain ok =

@@ -1,6 +1,6 @@
-use Rattle.std.proofs.Common.{◌≤◌, ◌≡◌, ◌%◌, false, drop}
+use Rattle.std.proofs.Common.{◌≤◌, false, drop}
 use Rattle.data_encoding_meaning.specs.decoding.Decoding.{HasDecodedTo, IsIgnoredFront}
-use Rattle.data_encoding.proofs.encoding.EncodingRef.decode_last_runs.Given as goal
+use Rattle.data_encoding.proofs.encoding.EncodingRef.decode_runs_one_by_one.Given as goal
 
 abbrev pub invariant-loop : goal.invariant-loop
 invariant-loop g l = record {
