@@ -24,7 +24,6 @@ use Rattle.basecode.specs.Words.{Task, Request, AreRequest, Asks, IsWrong, Names
 use Rattle.std.proofs.lemmas.List.{append-nil}
 use Rattle.std.specs.Io.KnownBytes.{Keeps}
 use Rattle.data_encoding.specs.Grammar.{Means}
-use Rattle.encoding_stream.specs.declared.error.StreamFault.{StreamFault}
 use Rattle.encoding_stream.specs.Encoded.{EncodesAll, EncodesFront, ReadsMore}
 use Rattle.basecode.specs.declared.command.Task.{Task as TaskRequested}
 use Rattle.basecode.specs.declared.command.Verb.{Verb}

@@ -15,14 +15,14 @@ use Rattle.data_encoding.specs.Grammar.{Means}
 use Rattle.data_encoding.specs.Layout.{layout}
 use Rattle.data_encoding.specs.Plain.{base_of_plain}
 use Rattle.data_encoding.specs.declared.plain.PlainEncoding.{PlainEncoding}
-use Rattle.data_encoding.specs.Named.{IsNumbered, name_numbered}
+use Rattle.data_encoding.specs.Named.{IsNumbered}
 use Rattle.data_encoding.specs.Pieces.{whole_bytes}
 use Rattle.data_encoding.specs.Predefined.{base64_fields, base64_mime_fields}
 use Rattle.data_encoding.specs.Text.{text_of}
 use Rattle.encoding_stream.specs.declared.kept_data.KeptData.{KeptData}
 use Rattle.encoding_stream.specs.declared.pieces.Kept.{Kept}
 use Rattle.encoding_stream.specs.Blocks.{held_data, piece_text, EncodesOn, HasWritten, EndsBlocks}
-use Rattle.encoding_stream.specs.Pieces.{most_completed, Keeps}
+use Rattle.encoding_stream.specs.Pieces.{most_completed}
 use Rattle.encoding_stream.specs.Resume.{HoldsNoIgnored, MayBeKept}
 use Rattle.data_encoding_calls.specs.declared.convert.Decoded.{Decoded}
 use Rattle.data_encoding_calls.specs.declared.facts.TextLengths.{TextLengths}
@@ -39,9 +39,6 @@ use Rattle.data_encoding_calls.specs.Numbered.{DecodesByNumber, EncodesByNumber,
 use Rattle.data_encoding_calls.specs.Pieces.{fault_at_position, fault_told, kept_told, kept_with, kind_told, length_status, piece_status, EndsText, MayBeGiven, Places, ReadsPiece, StandsAfter, TellsRoom}
 use Rattle.data_encoding_calls.proofs.NumberLemmas.{by-known, by-unknown}
 use Rattle.data_encoding_calls.specs.Status.{detail_of_refusal, no_decoder, no_encoder, no_encoding, ok, short_buffer, status_of_fault, status_of_kind, status_of_refusal, too_long, unknown_encoding}
-use Rattle.data_encoding.specs.Fault.{fault_of, sound_bytes}
-use Rattle.data_encoding.specs.Lengths.{alignment, decoded_len}
-use Rattle.data_encoding.specs.Partial.{partial_of}
 
 abbrev Holds : (Base → Type 0) → Result Base Refusal → Type 0
 Holds P (Ok base) = P base
