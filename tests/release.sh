@@ -122,4 +122,38 @@ $(for tool in npm wasm-opt; do
     said=$(first $tool --version)
     echo "$tool: ${said:-none}"
 done)" "$(field 'it["creationInfo"]["comment"]')"
+
+# compared FOLDER: what the comparison of the list with the files says at last.
+compared() {
+    python3 release/checks/contents.py "$1/bamsturk-$version.spdx.json" LICENSE 2>&1 | tail -n 1
+}
+
+# wrong NAME EDIT: the list that the edit of sed makes is refused.
+wrong() {
+    sed "$2" "$room/files/bamsturk-$version.spdx.json" >"$room/wrong/bamsturk-$version.spdx.json"
+    [[ $(compared "$room/wrong") == *Error* ]]
+    is "a list with $1" 0 $?
+}
+
+if [ ${#options[@]} = 10 ]; then
+    mkdir "$room/wrong"
+    ln -s "$room/files"/* "$room/wrong"
+    rm "$room/wrong"/*.json
+    wrong 'another sum' '0,/"checksumValue": "/s//&0/'
+    wrong 'another file' '0,/"fileName": "/s//&x/'
+    wrong 'another kind' 's/"STATIC_LINK"/"GENERATES"/'
+    wrong 'another version' '0,/"versionInfo": "/s//&1/'
+    wrong 'another licence' '0,/"licenseConcluded": "MIT"/s//"licenseConcluded": "ISC"/'
+    wrong 'a part less' 's/It is in: program, c, python\./It is in: program, c./'
+    wrong 'a part more' 's/It is in: program, c, python\./It is in: program, c, rust, python./'
+    wrong 'another linker' 's/ld\.lld: LLD /&1/'
+    wrong 'another toolchain' 's/: "rt: .* logic /&0/'
+    wrong 'another C compiler' 's/\\ncc: /&other /'
+    wrong 'another C compiler for ARM64' 's/-gcc: /&other /'
+    wrong 'another version of what makes wheels' 's/ wheel [0-9]/& /'
+    echo >"$room/wrong/basecode.htm"
+    wrong 'a file that it lacks' ''
+    rm "$room/wrong/basecode.htm" "$room/wrong/basecode.html"
+    wrong 'a file that is not there' ''
+fi
 finish
