@@ -1,5 +1,5 @@
-"""Compares the list of what went into a release with its files: names and sums, the licence and what
-is linked in each, and the versions of tools that files name.
+"""Compares the list of what went into a release with its files: names and sums, the licence and
+what is linked in each, and the versions of tools that files name.
 
 usage: contents.py LIST LICENSE: the list is in the folder of the files.
 """
@@ -98,31 +98,38 @@ def check_linked(listed: Dict[str, Any], parts: Set[str], linked: Set[str]) -> N
 
 def check_licence(name: str, held: Dict[str, bytes]) -> None:
     """Each file that holds others has the licence of this repository."""
-    licences = [path for path in held if re.search(r"(^|/)(LICENSE|usr/share/doc/.*/copyright)$", path)]
+    form = r"(^|/)(LICENSE|usr/share/doc/.*/copyright)$"
+    licences = [path for path in held if re.search(form, path)]
     assert licences, f"{name} has no licence"
     for path in licences:
         assert held[path] == LICENCE, f"{name}: another licence: {path}"
+
+
+def check_toolchain(name: str, data: bytes, tools: Dict[str, str]) -> None:
+    """Programs and libraries name the toolchain of the list, as the object files in them do."""
+    wanted = tools["rt"].rpartition(" logic ")[2].encode()
+    logics = re.findall(rb"rattle logic=([0-9a-f]+)", data)
+    assert wanted and logics and all(it.startswith(wanted) for it in logics), (name, logics, wanted)
 
 
 def check_tools(name: str, held: Dict[str, bytes], tools: Dict[str, str]) -> None:
     """The versions that the file names are those of the list."""
     for path, data in held.items():
         if path.endswith(".dist-info/WHEEL"):
-            version = re.search(r"^Generator: bdist_wheel \((.*)\)$", data.decode(), re.MULTILINE)
-            assert version and tools["python3"].endswith(f" wheel {version[1]}"), (name, data)
+            wheel = re.search(r"^Generator: bdist_wheel \((.*)\)$", data.decode(), re.MULTILINE)
+            assert wheel and tools["python3"].endswith(f" wheel {wheel[1]}"), (name, data)
+        if is_linked(data) or data.startswith(b"!<arch>\n"):
+            check_toolchain(name, data, tools)
         if not is_linked(data):
             continue
         made = made_by(data)
-        if "bin/" in path or "/basecode-" in path:
+        if name.startswith("basecode"):
             linker = next(it for it in made if it.startswith("Linker: "))
             assert tools["ld.lld"].startswith(linker.replace("Linker: ", "") + " "), (name, made)
-            logic = next(it for it in made if it.startswith("rattle logic="))
-            wanted = tools["rt"].rpartition(" logic ")[2]
-            assert wanted and logic.startswith(f"rattle logic={wanted}"), (name, made)
         else:
             compiler = "aarch64-linux-gnu-gcc" if data[18] == 183 else "cc"
-            wanted = tools[compiler].partition(" ")[2]
-            assert f"GCC: {wanted}" in made, (name, path, made, wanted)
+            version = tools[compiler].partition(" ")[2]
+            assert f"GCC: {version}" in made, (name, path, made, version)
 
 
 def main() -> None:
