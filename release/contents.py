@@ -30,9 +30,8 @@ LINKED = [
      "linked freely. The library itself is the machine's."),
 ]
 
-# What made the files.
+# What made the files, besides the toolchain.
 TOOLS = [
-    ["rt", "version"],
     ["cc", "--version"],
     ["aarch64-linux-gnu-gcc", "--version"],
     ["ld", "--version"],
@@ -55,6 +54,15 @@ def said(words: List[str]) -> str:
     return ran.stdout.partition("\n")[0] if ran.returncode == 0 else ""
 
 
+def tools() -> List[str]:
+    """A line for each tool: its name, and its version or `none`."""
+    # `rt doc` prints the path of a page at the top of the toolchain's folder.
+    folder = pathlib.Path(said(["rt", "doc"])).parent / "toolchain/bin"
+    kit = [["rt", "version"]]
+    kit += [[str(folder / name), "--version"] for name in ("clang", "ld.lld")]
+    return [f"{pathlib.Path(it[0]).name}: {said(it) or 'none'}" for it in kit + TOOLS]
+
+
 def commit() -> str:
     name = said(["git", "rev-parse", "HEAD"])
     if not name:
@@ -67,7 +75,7 @@ def package(key: str, name: str, licence: str, version: str, comment: str) -> Di
     return {
         "SPDXID": f"SPDXRef-{key}",
         "name": name,
-        "versionInfo": version,
+        **({"versionInfo": version} if version else {}),
         "downloadLocation": "NOASSERTION",
         "filesAnalyzed": False,
         "licenseConcluded": licence,
@@ -95,7 +103,6 @@ def relation(one: str, kind: str, other: str) -> Dict[str, str]:
 def document(version: str, folder: pathlib.Path, parts: List[str]) -> Dict[str, Any]:
     source = commit()
     kit = said(["rt", "version"])
-    tools = [" ".join([pathlib.Path(it[0]).name + ":", said(it) or "none"]) for it in TOOLS]
     made = time.strftime("%Y-%m-%dT00:00:00Z", time.gmtime(int(os.environ["SOURCE_DATE_EPOCH"])))
     packages = [package("bamsturk", "Bamsturk", "MIT", version, f"This repository: {source}.")]
     relations = [relation("SPDXRef-DOCUMENT", "DESCRIBES", "SPDXRef-bamsturk")]
@@ -103,7 +110,8 @@ def document(version: str, folder: pathlib.Path, parts: List[str]) -> Dict[str, 
         linked = [part for part in parts if part in where.split()]
         if linked:
             comment = f"{comment} It is in: {', '.join(linked)}."
-            packages.append(package(key, name, licence, kit if key in ("toolchain", "arrayvec") else "", comment))
+            found = kit if key in ("toolchain", "arrayvec") else ""
+            packages.append(package(key, name, licence, found, comment))
             relations.append(relation("SPDXRef-bamsturk", "STATIC_LINK", f"SPDXRef-{key}"))
     files = []
     for index, path in enumerate(sorted(folder.iterdir()), 1):
@@ -118,7 +126,7 @@ def document(version: str, folder: pathlib.Path, parts: List[str]) -> Dict[str, 
         "creationInfo": {
             "created": made,
             "creators": [f"Organization: {AUTHORS}", "Tool: release/build"],
-            "comment": "\n".join(tools),
+            "comment": "\n".join(tools()),
         },
         "packages": packages,
         "files": files,

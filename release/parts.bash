@@ -73,11 +73,12 @@ make_rust() {
 
 # wheel ARCH: the wheel for that processor.
 wheel() {
-    local cc
+    local cc flags='-O2 -g0'
     cc=$(tool "$1" gcc)
+    [ "$1" != aarch64 ] || flags+=" -idirafter $(python_headers)"
     rm -rf "$room/python/build"
     (cd "$room/python" && quietly env "DATA_ENCODING_DIR=$room/c-$1" "CC=$cc" \
-        "LDSHARED=$cc -shared" 'CFLAGS=-O2 -g0' LDFLAGS=-s "_PYTHON_HOST_PLATFORM=linux-$1" \
+        "LDSHARED=$cc -shared" "CFLAGS=$flags" LDFLAGS=-s "_PYTHON_HOST_PLATFORM=linux-$1" \
         /usr/bin/python3 setup.py bdist_wheel --plat-name "manylinux_2_17_$1" --dist-dir "$target")
 }
 

@@ -1,15 +1,16 @@
 #!/usr/bin/env bash
-# Builds the library for C for ARM64, and runs its tests, those of the crate for Rust and those of the
-# package for Python under qemu-aarch64; a digest of some hundred thousand calls is the same as that
-# of the library for x86-64.
+# Builds the library for C for ARM64, and runs its tests, those of the crate for Rust and those of
+# the package for Python under qemu-aarch64; a digest of some hundred thousand calls is the same as
+# that of the library for x86-64.
 #
-# usage: tests/arm64.sh [LIB]: where build.sh left the library for x86-64; it is built if no folder is
-# given.
+# usage: tests/arm64.sh [LIB]: where build.sh left the library for x86-64; it is built if no folder
+# is given.
 #
-# Programs with threads are tried if ARM64_ROOT names a folder with libraries for ARM64, as
-# release/check says: with those of libc6-dev-arm64-cross, threads do not end in the emulator. They
-# are one in C, the tests of the crate and those of the package.
+# Programs with threads are tried with the libraries of the folder of tests/arm64-root: with those
+# of libc6-dev-arm64-cross, threads do not end in the emulator. They are one in C, the tests of the
+# crate and those of the package.
 . "$(dirname "$0")/common.bash" || exit 1
+. release/names.bash
 
 cc=aarch64-linux-gnu-gcc
 for needed in $cc:gcc-aarch64-linux-gnu qemu-aarch64:qemu-user; do
@@ -18,7 +19,8 @@ for needed in $cc:gcc-aarch64-linux-gnu qemu-aarch64:qemu-user; do
         finish
     fi
 done
-root=${ARM64_ROOT:-/usr/aarch64-linux-gnu}
+arm_root=$(tests/arm64-root)
+root=${arm_root:-/usr/aarch64-linux-gnu}
 emulated=(timeout 300 qemu-aarch64 -L "$root")
 
 crates/data_encoding_c/build.sh --target aarch64 "$room/arm" || exit 1
@@ -38,10 +40,10 @@ program 'texts in pieces' tests/c/pieces.c "$arm/libdata_encoding.a"
 program 'data in pieces' tests/c/blocks.c "$arm/libdata_encoding.a"
 program 'what is written to a bool' tests/c/bools.c "$glue"/*.c "$arm/libdata_encoding.a" \
     -Wl,--wrap=de_numbered_is_canonical,--wrap=de_held_is_canonical
-if [ -n "${ARM64_ROOT-}" ]; then
+if [ -n "$arm_root" ]; then
     program 'two threads' tests/c/threads.c "$arm/libdata_encoding.a" -pthread
 else
-    skip 'two threads: no ARM64_ROOT'
+    skip 'two threads: no libraries for it (tests/arm64-root)'
 fi
 is 'what the shared library gives' "$(grep -o '^[a-z].*\bde_[a-z_]*(' "$arm/data_encoding.h" |
     grep -o 'de_[a-z_]*($' | tr -d '(' | sort)" \
@@ -60,9 +62,9 @@ is 'the digest of the calls for each x86-64' "$wanted" "$(DE_CPU=baseline "$room
 is 'the digest of the calls for ARM64' "$wanted" "$(digest "$cc" "$arm" "${emulated[@]}")"
 
 triple=aarch64-unknown-linux-gnu
-if [ -z "${ARM64_ROOT-}" ]; then
-    skip 'the crate for Rust: no ARM64_ROOT'
-elif [ -d /usr/lib/rustlib/$triple ] && [ -x /usr/bin/rustc ] && command -v cargo >/dev/null; then
+if [ -z "$arm_root" ]; then
+    skip 'the crate for Rust: no libraries for it (tests/arm64-root)'
+elif command -v cargo >/dev/null && sysroot=$(rust_library "$arm_root"); then
     crate=$room/rust
     mkdir "$crate"
     cp -r bindings/rust/{Cargo.toml,README.md,src,sys,tests} "$crate"
@@ -70,27 +72,29 @@ elif [ -d /usr/lib/rustlib/$triple ] && [ -x /usr/bin/rustc ] && command -v carg
         "DATA_ENCODING_DIR=$arm" "CARGO_TARGET_DIR=$room/target" CARGO_NET_OFFLINE=true \
         CARGO_TARGET_AARCH64_UNKNOWN_LINUX_GNU_LINKER=$cc \
         "CARGO_TARGET_AARCH64_UNKNOWN_LINUX_GNU_RUNNER=${emulated[*]}" \
+        "CARGO_TARGET_AARCH64_UNKNOWN_LINUX_GNU_RUSTFLAGS=--sysroot=$sysroot" \
         cargo test --tests --target $triple
     tried=$(grep -c '^test .* ok$' "$room/said")
     [ "$tried" -ge 45 ] || fail "the crate has fewer than 45 tests: $tried"
 else
-    skip 'the crate for Rust: no cargo, or no standard library (rustc-web, libstd-rust-web-dev:arm64)'
+    skip 'the crate for Rust: no cargo, or no rustc with a library for it (rustc-web)'
 fi
 
 python=/usr/bin/python3
-if [ -z "${ARM64_ROOT-}" ]; then
-    skip 'the package for Python: no ARM64_ROOT'
-elif [ ! -f /usr/include/aarch64-linux-gnu/python3.11/pyconfig.h ] ||
-    ! "$python" -c 'import setuptools, wheel' 2>/dev/null; then
+headers=$(python_headers)
+if [ -z "$arm_root" ]; then
+    skip 'the package for Python: no Python for it (tests/arm64-root)'
+elif [ -z "$headers" ] || ! "$python" -c 'import setuptools, wheel' 2>/dev/null; then
     skip 'the package for Python: no python3-setuptools, python3-wheel or libpython3.11-dev:arm64'
 else
     cp -r bindings/python "$room/python"
     holds 'the package for Python is built' quietly env -C "$room/python" "CC=$cc" \
-        "LDSHARED=$cc -shared" "DATA_ENCODING_DIR=$arm" _PYTHON_HOST_PLATFORM=linux-aarch64 \
+        "LDSHARED=$cc -shared" "CFLAGS=-idirafter $headers" "DATA_ENCODING_DIR=$arm" \
+        _PYTHON_HOST_PLATFORM=linux-aarch64 \
         "$python" setup.py build_ext --inplace
     holds 'the tests of the package for Python' quietly "${emulated[@]}" \
-        -E "PYTHONHOME=$ARM64_ROOT/usr" -E "PYTHONPATH=$room/python/src" \
-        -E PYTHONDONTWRITEBYTECODE=1 "$ARM64_ROOT/usr/bin/python3.11" \
+        -E "PYTHONHOME=$arm_root/usr" -E "PYTHONPATH=$room/python/src" \
+        -E PYTHONDONTWRITEBYTECODE=1 "$arm_root/usr/bin/python3.11" \
         bindings/python/tests/test_data_encoding.py
 fi
 finish

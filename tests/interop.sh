@@ -1,6 +1,7 @@
 #!/usr/bin/env bash
-# Compares the built program with the tools of docs/COMING_FROM.md, line by line, and with itself in
-# parts, as docs/SCALE.md cuts them.
+# Compares the built program with the tools of docs/COMING_FROM.md, line by line, with the Rust crate
+# `data-encoding`, if Debian's package of it is here, and with itself in parts, as docs/SCALE.md cuts
+# them. Of the program of that crate, which is no package, tests/original.rs takes the place.
 #
 # usage: tests/interop.sh [PROGRAM]
 . "$(dirname "$0")/common.bash" || exit 1
@@ -9,6 +10,19 @@ program=$(tests/find-program "$@") || exit 1
 tables=$(realpath docs/COMING_FROM.md)
 scale=$(realpath docs/SCALE.md)
 name_program "$program"
+original=$(compgen -G '/usr/share/cargo/registry/data-encoding-[0-9]*/src/lib.rs' | tail -n 1)
+
+# build_original: the program over the original crate, which the rows of the page name.
+build_original() {
+    quietly rustc --crate-name data_encoding --crate-type rlib --edition 2018 --cap-lints allow \
+        --cfg 'feature="std"' --cfg 'feature="alloc"' -O --out-dir "$room" "$original" &&
+        quietly rustc --edition 2021 -O --extern "data_encoding=$room/libdata_encoding.rlib" \
+            tests/original.rs -o "$room/bin/data-encoding"
+}
+
+if [ -n "$original" ] && command -v rustc >/dev/null; then
+    holds 'the program over the original crate' build_original
+fi
 cd "$room" || exit 1
 mkdir inputs parts
 
@@ -64,12 +78,59 @@ while IFS=$'\t' read -r encode_there encode_here decode_there decode_here; do
         encodes "$encode_there" "$encode_here"
         decodes "$decode_there" "$decode_here"
     else
-        skip "$encode_there, $decode_there: no $tool"
+        skip "$encode_there, $decode_there: no $tool (tests/setup)"
     fi
 done < <(rows)
 is 'each row of the tables is read' "$(grep -c '^| .* | `.*basecode encode ' "$tables")" \
     "$(rows | grep -c 'basecode encode .*basecode decode ')"
 [ "$(rows | wc -l)" -ge 20 ] || fail 'the tables have fewer than 20 rows'
+
+# damaged TEXT: the names of files with texts that are like it.
+damaged() {
+    local text=$1
+    head -c -1 "$text" >less
+    cat "$text" "$text" >twice
+    sed 's/./!/3' "$text" >symbol
+    sed 's/./=/2' "$text" >padding
+    # Another last symbol has other bits, of which some may be left after the data.
+    sed -E '$s/[^=\r](=*\r?)$/7\1/' "$text" >bits
+    tr 'A-Za-z' 'a-zA-Z' <"$text" >case
+    echo less twice symbol padding bits case
+}
+
+# answer COMMAND..: the status, and the fault or the sum of the data.
+answer() {
+    local status
+    "$@" >data 2>line
+    status=$?
+    [ "$status" != 0 ] || sha256sum <data >line
+    echo "$status $(sed 's/^basecode: //' line)"
+}
+
+# like_original NAME: the program and the original crate give the same text for each input, the same
+# data for each text, and for what is damaged the same fault or data.
+like_original() {
+    local size text changed
+    encodes "data-encoding --mode=encode --base=$1" "basecode encode $1"
+    decodes "data-encoding --mode=decode --base=$1" "basecode decode $1"
+    for size in 1 2 3 57 58; do
+        for changed in $(damaged "text.$size"); do
+            is "$1, $size bytes, $changed" \
+                "$(answer data-encoding --mode=decode "--base=$1" <$changed)" \
+                "$(answer basecode decode "$1" <$changed)"
+        done
+    done
+}
+
+# Those that version 2.3 of the crate has.
+if [ -x bin/data-encoding ]; then
+    for name in HEXLOWER{,_PERMISSIVE} HEXUPPER{,_PERMISSIVE} BASE32{,_NOPAD,HEX,HEX_NOPAD} \
+        BASE32_DNS{SEC,CURVE} BASE64{,_NOPAD,_MIME,URL,URL_NOPAD}; do
+        like_original "$name"
+    done
+else
+    skip 'the original crate: no librust-data-encoding-dev, or no rustc'
+fi
 
 # statuses ROW ENCODE DECODE FAULTY WRONG: the commands end as the row of the table says.
 statuses() {

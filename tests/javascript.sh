@@ -71,6 +71,50 @@ done <<<"$PATH:"
 is 'without rt' 'build.sh: no rt on the PATH: the toolchain of README.md has it' \
     "$(PATH=$rest alone/bindings/javascript/build.sh unbuilt 2>&1)"
 
+# The sources of the module: a stand-in of rt keeps what `rt lib` is given.
+mkdir stand-in proved
+cat >stand-in/rt <<'END_OF_RT'
+#!/bin/sh
+cp -r ../.. "$KEPT" && mkdir out && printf '\0asm\1\0\0\0' >out/data_encoding_c.wasm
+END_OF_RT
+chmod +x stand-in/rt
+tar -C "$OLDPWD" -cf - --exclude=out crates crates.txt HANDLES LICENSE bindings/javascript |
+    tar -C proved -xf -
+
+# given [EDIT]: the sources that build.sh gives `rt lib` and that are not those which are proved
+# here. The edit, of sed, makes another build.sh.
+given() {
+    local name part
+    rm -rf kept proved/bindings/javascript/out
+    sed "${1-}" "$source/build.sh" >proved/bindings/javascript/build.sh
+    PATH=$room/stand-in:$PATH KEPT=$room/kept proved/bindings/javascript/build.sh unused >said 2>&1
+    for name in $(ls kept/crates); do
+        for part in src specs proofs; do
+            [ ! -d "proved/crates/$name/$part" ] ||
+                diff -rq "proved/crates/$name/$part" "kept/crates/$name/$part"
+        done
+        [ "$(sed -nE "s/^$name( staticlib)?://p" proved/crates.txt)" = \
+            "$(sed -nE "s/^$name( wasm64)?://p" kept/crates.txt)" ] || echo "what $name uses"
+    done | sed -e 's:proved/crates/::' -e 's: and kept/.* differ::' -e 's/^Files //'
+    diff -q {proved,kept}/HANDLES
+}
+
+is 'the sources of the module' data_encoding_kernel/src/platform.rt "$(given)"
+for folder in proved kept; do
+    grep -v '^//' $folder/crates/data_encoding_kernel/src/platform.rt >$folder.code
+done
+is 'what differs in platform.rt' $'<     true\n>     false' "$(diff {proved,kept}.code | grep '^[<>]')"
+after() {
+    given "/^    platform >/a $1"
+}
+is 'another file is rewritten' 'data_encoding/src/lib.rt
+data_encoding_kernel/src/platform.rt' "$(after 'echo >>"$room/crates/data_encoding/src/lib.rt"')"
+is 'another file is removed' 'Only in data_encoding/specs: Calls.antt
+data_encoding_kernel/src/platform.rt' "$(after 'rm "$room/crates/data_encoding/specs/Calls.antt"')"
+is 'another crate is used' 'what data_encoding uses
+what data_encoding_calls uses
+data_encoding_kernel/src/platform.rt' "$(after 'sed -i "s/ arrayvec//" "$room/crates.txt"')"
+
 wanted="the WebAssembly module is not here: \`bindings/javascript/build.sh DIR\` makes a package \
 with it from the sources of Bamsturk"
 is 'without the module' "$wanted" "$(node "${flags[@]}" -e "

@@ -64,7 +64,7 @@ python ['Requires-Python: >=3.9']" "$(wheel_facts \
         skip 'the wheel: no pip (python3-pip)'
     fi
     if [ -z "$ARM64_ROOT" ]; then
-        skip 'the wheel, aarch64: no ARM64_ROOT'
+        skip 'the wheel, aarch64: no Python for it (tests/arm64-root)'
     elif ! lacks 'the wheel, aarch64' qemu-aarch64 qemu-user; then
         mkdir site
         python3 -m zipfile -e \

@@ -58,14 +58,15 @@ END
         grep -c '^error: could not find native static library `data_encoding-for-x86_64-unknown-linux-gnu`')"
     if ! lacks 'the crate for Rust, aarch64' aarch64-linux-gnu-gcc gcc-aarch64-linux-gnu &&
         ! lacks 'the crate for Rust, aarch64' qemu-aarch64 qemu-user; then
-        if [ -d /usr/lib/rustlib/aarch64-unknown-linux-gnu ]; then
+        if sysroot=$(rust_library "$ARM64_ROOT"); then
             export CARGO_TARGET_AARCH64_UNKNOWN_LINUX_GNU_LINKER=aarch64-linux-gnu-gcc
             export CARGO_TARGET_AARCH64_UNKNOWN_LINUX_GNU_RUNNER="${foreign[*]}"
+            export CARGO_TARGET_AARCH64_UNKNOWN_LINUX_GNU_RUSTFLAGS=--sysroot=$sysroot
             is 'a program with the crate, aarch64' SGVsbG8= \
                 "$(RUSTC=/usr/bin/rustc cargo_in crates/by-path run --quiet \
                     --target aarch64-unknown-linux-gnu 2>&1)"
         else
-            skip 'the crate for Rust, aarch64: no standard library (libstd-rust-web-dev:arm64)'
+            skip 'the crate for Rust, aarch64: no rustc with a library for it (tests/arm64-root)'
         fi
     fi
 fi
