@@ -6,8 +6,7 @@ import test from "node:test";
 import { BASE64 } from "../src/index.js";
 import { bytes } from "./common.js";
 
-/** Half as much again as is measured. A module by lanes takes over 25 times, and so does one that
- * is not compiled again by the engine. */
+/** Half as much again as is measured. By lanes, which are taken apart, a module takes over 20. */
 const MOST = 12;
 
 const ROUNDS = 21;
