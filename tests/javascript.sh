@@ -127,7 +127,7 @@ mv with64/memory64 with64/src
 for pair in package:"${flags[*]}" ${has64:+with64:"${flags64[*]}"}; do
     holds "the tests of the $pair" quietly node ${pair#*:} --test "${pair%%:*}"/tests/*.test.js
     tried=$(sed -n 's/^# pass //p' said)
-    [ "${tried:-0}" -ge 34 ] || fail "$pair has fewer than 34 tests: $tried"
+    [ "${tried:-0}" -ge 44 ] || fail "$pair has fewer than 44 tests: $tried"
 done
 [ -n "$has64" ] || skip "64-bit memory: node $(node --version) has none"
 is 'the files of both' "$(ls package/src)" "$(ls package/memory64)"

@@ -1,6 +1,9 @@
 """Tries the functions of docs/SCALE.md for a cluster, as a module `parts`, against one run.
 
 usage: scale.py, in a folder with `input`, 64 MiB of data
+
+With SCALE_LARGE=1 the memory that 1 and 4 GiB take is compared, in place of 64 and 256 MiB: the
+files then have 14 GB.
 """
 
 import os
@@ -15,6 +18,9 @@ from distributed import Client, LocalCluster
 
 INPUT = "input"
 PART = parts.PART
+
+# How many times the file has the input whose memory is compared.
+TIMES = (16, 64) if os.environ.get("SCALE_LARGE") == "1" else (1, 4)
 
 
 def remove(name):
@@ -113,9 +119,8 @@ def peak():
         return next(int(line.split()[1]) for line in file if line.startswith("VmHWM:"))
 
 
-class OnACluster(unittest.TestCase):
-    """The text of 64 MiB, by two processes. Of each cluster one dies at most, so that nothing
-    depends on whether it is replaced."""
+class WithACluster(unittest.TestCase):
+    """With the input, and a cluster of two processes."""
 
     @classmethod
     def setUpClass(cls):
@@ -132,6 +137,11 @@ class OnACluster(unittest.TestCase):
         self.addCleanup(self.client.close)
         with open("workers", "a") as file:
             print(*self.client.run(os.getpid).values(), file=file)
+
+
+class OnACluster(WithACluster):
+    """The text of 64 MiB. Of each cluster one process dies at most, so that nothing depends on
+    whether it is replaced."""
 
     def assert_one_died(self, source):
         openers = source.openers()
@@ -165,23 +175,6 @@ class OnACluster(unittest.TestCase):
     def test_a_worker_dies_with_the_decoder(self):
         self.try_decoding(BASE64_NOPAD)
 
-    def test_memory(self):
-        """Four times the data takes no more memory: not in a worker, and not here."""
-        peaks = []
-        for times in 1, 4:
-            remove("long")
-            with open("long", "wb") as file:
-                for _ in range(times):
-                    file.write(self.data)
-            parts.encode_file(self.client, BASE64, "long", "text")
-            parts.decode_file(self.client, BASE64, "text", "back")
-            peaks.append([*self.client.run(peak).values(), peak()])
-        self.assertEqual(os.path.getsize("back"), 4 * len(self.data))
-        grown = [after - before for before, after in zip(*peaks)]
-        self.assertLess(max(grown), len(self.data) // 1024 // 2, peaks)
-        for name in "long", "text", "back":
-            remove(name)
-
     def test_other_lines(self):
         """Each piece has more data, or less, than it is taken to have at first."""
         text = BASE64_MIME.encode(self.data)
@@ -207,6 +200,29 @@ class OnACluster(unittest.TestCase):
             found = in_parts(self.client, BASE64, "faulty")
             self.assertTrue(found == one_run(BASE64, faulty), position)
             self.assertEqual(found[1], ("symbol", position))
+
+
+class OfMemory(WithACluster):
+    """In a program that does nothing else, so that no other test has had more."""
+
+    def test_memory(self):
+        """Four times the data takes no more memory: not in a worker, and not here."""
+        peaks = []
+        for times in TIMES:
+            remove("long")
+            with open("long", "wb") as file:
+                for _ in range(times):
+                    file.write(self.data)
+            parts.encode_file(self.client, BASE64, "long", "text")
+            parts.decode_file(self.client, BASE64, "text", "back")
+            peaks.append([*self.client.run(peak).values(), peak()])
+        self.assertEqual(os.path.getsize("back"), TIMES[-1] * len(self.data))
+        with open("peaks", "w") as file:
+            print("KiB in each worker, and here, of less and of more:", *peaks, file=file)
+        grown = [after - before for before, after in zip(*peaks)]
+        self.assertLess(max(grown), len(self.data) // 1024 // 2, peaks)
+        for name in "long", "text", "back":
+            remove(name)
 
 
 class OfSmallParts(unittest.TestCase):

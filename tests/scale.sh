@@ -2,8 +2,9 @@
 # Runs the program that docs/SCALE.md describes, and its functions with faulty texts and with workers
 # that die, on a cluster of two processes. It is skipped where there is no Dask.
 #
-# usage: tests/scale.sh [LIB]: where build.sh left the library for C; it is built if no folder is
-# given.
+# usage: [SCALE_LARGE=1] tests/scale.sh [LIB]: where build.sh left the library for C; it is built if
+# no folder is given. With SCALE_LARGE=1 the memory that 1 and 4 GiB take is compared, by hand: that
+# takes 14 GB of disk and minutes.
 . "$(dirname "$0")/common.bash" || exit 1
 
 # lacking PYTHON: why it can't build the package or make a cluster, in a line; nothing if it can.
@@ -40,7 +41,13 @@ sys.stdout.write(BASE64.encode(sys.stdin.buffer.read()))' <input >whole
 holds 'the program' quietly timeout -k 5 60 "$python" parts.py
 holds 'what it encodes' cmp whole text
 holds 'what it decodes' cmp input back
-holds 'its functions' quietly timeout -k 5 180 "$python" "$test"
+if [ "${SCALE_LARGE-}" = 1 ]; then
+    holds 'its memory' timeout -k 5 900 "$python" "$test" OfMemory
+    cat peaks
+    finish
+fi
+holds 'its memory' quietly timeout -k 5 60 "$python" "$test" OfMemory
+holds 'its functions' quietly timeout -k 5 180 "$python" "$test" OnACluster OfSmallParts
 is 'what is left of its processes' '' "$(cat workers | xargs -r ps -o pid= -p)"
 
 finish

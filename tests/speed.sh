@@ -23,7 +23,7 @@ is 'too many words' 2 $?
 benches/speed --original /nowhere 2>/dev/null
 is 'no original' 2 $?
 
-# benches/memory and benches/calls prove and build libraries, which takes too long here.
+# These prove and build libraries, or take minutes: too long here.
 benches/memory --original /nowhere 2>/dev/null
 is 'no original in memory' 2 $?
 benches/memory 1 2>/dev/null
@@ -38,6 +38,10 @@ else
 fi
 benches/calls lib lib 2>/dev/null
 is 'too many libraries' 2 $?
+benches/tables 2>/dev/null
+is 'tables of no page' 1 $?
+benches/tables rust lib 2>/dev/null
+is 'tables of a page without a folder' 1 $?
 
 # The tables of docs/SPEED.md have the same rows.
 rows() {

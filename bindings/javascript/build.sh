@@ -113,7 +113,7 @@ put_module() {
 
 put_module "$module" 64 memory64
 if command -v wasm-opt >/dev/null; then
-    wasm-opt --enable-memory64 --enable-bulk-memory --memory64-lowering -O3 "$module" \
+    wasm-opt --enable-memory64 --enable-bulk-memory --memory64-lowering -O1 "$module" \
         -o "$room/lowered.wasm"
     put_module "$room/lowered.wasm" 32 src
 else

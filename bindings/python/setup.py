@@ -46,7 +46,8 @@ setup(
             "data_encoding._native",
             ["src/data_encoding/_native.c"],
             define_macros=[("Py_LIMITED_API", "0x030B0000")] if STABLE else [],
-            extra_compile_args=["-std=c99"],
+            # The second saves a jump for each call of Python's.
+            extra_compile_args=["-std=c99", "-fno-plt"],
             # Without the second, an empty archive would be linked.
             extra_link_args=["-Wl,--exclude-libs,ALL", "-Wl,--require-defined=de_version"],
             py_limited_api=STABLE,

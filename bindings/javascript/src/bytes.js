@@ -87,22 +87,9 @@ export function writeText(text, output) {
   }
 }
 
-/** From this length on Node makes a string sooner by its buffers than by a TextDecoder. There is a
- * character for each byte, so that ASCII gives the same. */
-const LONG = 4096;
-const { Buffer } = globalThis;
-const hasBuffers = typeof Buffer?.prototype?.latin1Slice === "function";
-
 /** The string of ASCII characters. */
-export function stringOf(bytes) {
-  const { buffer, byteOffset, length } = bytes;
-  if (length <= SHORT) {
-    return String.fromCharCode.apply(null, bytes);
-  }
-  return hasBuffers && length >= LONG
-    ? Buffer.from(buffer, byteOffset, length).latin1Slice()
-    : decoder.decode(bytes);
-}
+export const stringOf = (bytes) =>
+  bytes.length <= SHORT ? String.fromCharCode.apply(null, bytes) : decoder.decode(bytes);
 
 /** The bytes of a string; a character that is not ASCII has several, and none is ASCII. */
 export const utf8 = (text) => encoder.encode(text);

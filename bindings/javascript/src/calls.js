@@ -95,8 +95,8 @@ const SHORT_TEXT = 1024;
 const SHORT_TEXT_LENGTH = BigInt(SHORT_TEXT);
 const TOO_SHORT = 4;
 
-/** A view of the text of short data; undefined if it is longer than that. */
-function encodeShort(key, data) {
+/** The text of short data, as `take` takes it; undefined if it is longer than that. */
+function encodeShort(key, data, take) {
   const output = machine.reserve(data.length, SHORT_TEXT);
   machine.putInput(data);
   const status = key.calls.encode(
@@ -106,12 +106,13 @@ function encodeShort(key, data) {
     return undefined;
   }
   needsOk(status);
-  return machine.part(output, machine.numberIn(RESULT));
+  return take(output, machine.numberIn(RESULT));
 }
 
-/** A view of the text of the data. */
-export function encode(key, data) {
-  const short = data.length <= SHORT_DATA ? encodeShort(key, data) : undefined;
+/** The text of the data, as `take` takes it of its address and length: `part` or `stringAt` of the
+ * machine. */
+export function encode(key, data, take) {
+  const short = data.length <= SHORT_DATA ? encodeShort(key, data, take) : undefined;
   if (short !== undefined) {
     return short;
   }
@@ -122,7 +123,7 @@ export function encode(key, data) {
     key.calls.encode(key.first, INPUT, BigInt(data.length), BigInt(output), BigInt(length),
       RESULT_ADDRESS),
   );
-  return machine.part(output, length);
+  return take(output, length);
 }
 
 /** The greatest number of bytes that a text of this length may mean. */

@@ -1,6 +1,7 @@
-import { bytesOf, kindOf, stringOf, textOf } from "./bytes.js";
+import { bytesOf, kindOf, textOf } from "./bytes.js";
 import * as calls from "./calls.js";
 import { DecodeError } from "./errors.js";
+import { part, stringAt } from "./machine.js";
 import { alignmentOf, keyOfLayout, keyOfSpecification, specificationOf } from "./specification.js";
 
 /** The key of an encoding; a TypeError for anything else. */
@@ -110,13 +111,13 @@ export class Encoding {
 
   /** The text of the data. */
   encode(data) {
-    return stringOf(calls.encode(this.#key, bytesOf(data, "data")));
+    return calls.encode(this.#key, bytesOf(data, "data"), stringAt);
   }
 
   /** Writes the text of the data to the start of the output, and returns its length. */
   encodeInto(data, output) {
     const target = bytesOf(output, "the output");
-    return copyTo(target, calls.encode(this.#key, bytesOf(data, "data")));
+    return copyTo(target, calls.encode(this.#key, bytesOf(data, "data"), part));
   }
 
   /** The data that the text means. */

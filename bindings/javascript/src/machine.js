@@ -4,6 +4,7 @@
 // with the input of a call and after it its output. A call is given addresses and lengths of these
 // alone.
 
+import { stringOf } from "./bytes.js";
 import { ADDRESS_BITS, MODULE } from "./module.js";
 
 /** A module of 13 bytes whose memory has 64-bit addresses. */
@@ -73,9 +74,18 @@ function countOf() {
   }
 }
 
+/** The memory as a buffer of Node, which makes strings sooner than a TextDecoder does; undefined
+ * elsewhere. */
+function nodeBuffer() {
+  const { Buffer } = globalThis;
+  const hasSlices = typeof Buffer?.prototype?.latin1Slice === "function";
+  return hasSlices ? Buffer.from(memory.buffer) : undefined;
+}
+
 const count = countOf();
 let bytes = new Uint8Array(memory.buffer);
 let fields = new DataView(memory.buffer);
+let buffer = nodeBuffer();
 
 /** The address of a field of the desk. */
 export const addressOf = (field) => BigInt(desk + field);
@@ -91,6 +101,7 @@ function growTo(size) {
   }
   bytes = new Uint8Array(memory.buffer);
   fields = new DataView(memory.buffer);
+  buffer = nodeBuffer();
 }
 
 /** Has the room hold an input and an output of these lengths, and returns where the output is. */
@@ -104,6 +115,11 @@ export function reserve(inputLength, outputLength) {
 
 /** The part of the room from an address on; it is what it is until the next `reserve`. */
 export const part = (address, length) => bytes.subarray(address, address + length);
+
+/** The string of the ASCII characters from an address on: as there is a character for each byte,
+ * Latin-1 gives the same. */
+export const stringAt = (address, length) =>
+  buffer?.latin1Slice(address, address + length) ?? stringOf(part(address, length));
 
 /** The room for an input of this length, which was reserved. */
 export const inputPart = (length) => part(room, length);

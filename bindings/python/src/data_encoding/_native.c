@@ -319,9 +319,30 @@ static PyObject *encode_input(const encoding *it, const struct input *input) {
     return text_in(&text, len, status);
 }
 
+/* The text of a bytes object of at most this length mostly fits the stack. */
+#define SHORT_BYTES (SMALL / 2)
+
+/* The text of a short bytes object, by as few calls as that takes. NULL without an error where
+ * encode_input has to make it. */
+static PyObject *encode_short(const encoding *it, PyObject *bytes) {
+    char small[SMALL];
+    size_t len = 0;
+    if (!it->is_predefined || de_encode(it->number, PyBytes_AsString(bytes),
+                                        (size_t)Py_SIZE(bytes), small, SMALL, &len) != DE_OK) {
+        return NULL;
+    }
+    return PyUnicode_DecodeASCII(small, (Py_ssize_t)len, NULL);
+}
+
 static PyObject *encode(PyObject *self, PyObject *object) {
     struct input input;
     PyObject *text = NULL;
+    if (Py_IS_TYPE(object, &PyBytes_Type) && Py_SIZE(object) <= SHORT_BYTES) {
+        text = encode_short(encoding_of(self), object);
+        if (text != NULL || PyErr_Occurred()) {
+            return text;
+        }
+    }
     if (take_data(&input, object)) {
         text = encode_input(encoding_of(self), &input);
         release(&input);
