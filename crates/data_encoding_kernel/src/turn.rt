@@ -55,7 +55,7 @@ impl<L: LookUp> DecodeTurn for Lanes<L> {
     }
 }
 
-/// The groups of sixteen symbols, in lanes: all or none of them.
+/// The groups of sixteen symbols in lanes, up to the first byte that is none.
 #[derive(Clone, Copy, Drop)]
 pub struct Few<L> {
     pub look_up: L,
@@ -73,10 +73,7 @@ impl<L: LookUp> DecodeTurn for Few<L> {
 
     #[inline(always)]
     fn decode<G: GroupSize>(&self, order: BitOrder, input: &[u8], output: &mut [u8]) -> usize {
-        if !decode_sixteen::<L, G>(&self.look_up, order, input, output) {
-            return 0;
-        }
-        16
+        decode_sixteen::<L, G>(&self.look_up, order, input, output)
     }
 }
 

@@ -21,7 +21,7 @@ use Rattle.data_encoding_kernel.proofs.digits.GatherStoreLemmas.{bytes_of_words,
 use Rattle.data_encoding_kernel.proofs.digits.FrontWordLemmas.{groups-front}
 use Rattle.data_encoding_kernel.proofs.digits.GatherWordLemmas.{length-words}
 use Rattle.data_encoding_kernel.proofs.digits.KernelLemmas.{symbol_bytes-word}
-use Rattle.data_encoding_kernel.proofs.decoding.SymbolRunLemmas.{run-front}
+use Rattle.data_encoding_kernel.proofs.decoding.SymbolRunLemmas.{few-groups, run-front}
 use Rattle.data_encoding_meaning.proofs.digits.WidthLemmas.{by_width, symbols-few}
 use Rattle.data_encoding_meaning.proofs.lists.EachLemmas.{all-at, all_weaker}
 use Rattle.data_encoding_meaning.proofs.decoding.GroupJudgementLemmas.{part_bytes}
@@ -102,48 +102,12 @@ module _ (base : Base) (values : List ℕ) (width bytes symbols : ℕ) (order : 
             (is ∙ words-run n input long fits low);
       }
 
--- the limit of values
-limit-is : (width : ℕ) → IsWidth width → 1 * 2 ^ width % 256 ≡ 2 ^ width
-limit-is width is = omega (arith, symbols-few width is)
-
-pub all-small : {width read : ℕ} → IsWidth width → read ≡ width → (entries : List ℕ)
-    → AllByRecursion (λ entry. entry < 1 * 2 ^ read % 256) entries
-    → AllByRecursion (λ entry. entry < 2 ^ width) entries
-all-small {width} is same entries below = rw (same, limit-is width is) at below
-
--- values below the limit are those of bytes, each a symbol
-pub values-found : {width count : ℕ} → IsWidth width → (values input entries : List ℕ)
-    → length input ≡ count → AllByRecursion (λ entry. entry < 2 ^ width) entries
-    → length entries ≡ count → AreEntries values (take count input) entries
-    → record {
-      entries : entries ≡ map (slice_index values) input;
-      symbols : (j : ℕ) → j < length input → slice_index values (slice_index input j) < 128;
-    }
-values-found {width} {count} is values input entries long small lanes found =
-    let low = all_weaker (λ entry. entry < 2 ^ width) (λ entry. entry < 128)
-    (λ entry less. omega (arith, less, symbols-few width is)) entries small in
-    let each = rw (take_all count input (omega (arith, long))) at found in
-    let are : entries ≡ map (slice_index values) input =
-    ext_get_or 0 entries (map (slice_index values) input)
-    (omega (arith, lanes, long, length-map input (slice_index values)))
-    (λ k h.
-    let inside : k < length input = omega (arith, h, lanes, long) in
-    each k inside (all-at (λ entry. entry < 128) entries low k h)
-    ∙ sym (get_or-map (slice_index values) input k 0 0 inside)) in
-    record {
-      entries = are;
-      symbols = λ j inside.
-          rw (← get_or-map (slice_index values) input j 0 0 inside)
-          (all-at (λ entry. entry < 128) (map (slice_index values) input) (rw are at low) j
-          (omega (arith, inside, length-map input (slice_index values))));
-    }
-
 -- what is found for groups: the words of those before the first byte that is no symbol
-module _ {width number : ℕ} (is : IsWidth width) (some : 0 < number) (values : List ℕ)
-    (input entries : List ℕ) (found : ℕ) (long : length input ≡ 8 * number)
-    (lanes : length entries ≡ 8 * number) (few : found ≤ 8 * number)
+module _ (total : ℕ) {width number : ℕ} (is : IsWidth width) (some : 0 < number)
+    (values : List ℕ) (input entries : List ℕ) (found : ℕ) (long : length input ≡ total * number)
+    (lanes : length entries ≡ total * number) (few : found ≤ total * number)
     (below : (j : ℕ) → j < found → slice_index entries j < 128)
-    (are : AreEntries values (take (8 * number) input) entries) where
+    (are : AreEntries values (take (total * number) input) entries) where
   abbrev groups : ℕ
   groups = found / number
 
@@ -153,9 +117,10 @@ module _ {width number : ℕ} (is : IsWidth width) (some : 0 < number) (values :
   entry-found : (j : ℕ) → j < found
       → slice_index entries j ≡ slice_index values (slice_index input j)
   entry-found j h =
-      are j (omega (arith, h, few, long, length-take-le (8 * number) input (omega (arith, long))))
+      are j (omega (arith, h, few, long,
+      length-take-le (total * number) input (omega (arith, long))))
       (below j h)
-      ∙ ap (slice_index values) (get_or-take (8 * number) input j 0 (omega (arith, h, few)))
+      ∙ ap (slice_index values) (get_or-take (total * number) input j 0 (omega (arith, h, few)))
 
   pub found-symbols : (j : ℕ) → j < found → slice_index values (slice_index input j) < 128
   found-symbols j h =
@@ -197,18 +162,13 @@ module _ {width number : ℕ} (is : IsWidth width) (some : 0 < number) (values :
 
   pub found-words : AreValues values width → ((j : ℕ) → slice_index input j < 256)
       → (order : BitOrder) (made : List ℕ)
-      → ((n : ℕ) → n ≤ 8
+      → ((n : ℕ) → n ≤ total
       → AllByRecursion (λ entry. entry < 2 ^ width) (take (n * number) entries)
       → take n made ≡ map (word_of order width number) (first_chunks number n entries))
       → take groups made ≡ map (word_of order width number)
       (first_chunks number groups (map (slice_index values) input))
   found-words own fits order made are_made =
-      let most : groups ≤ 8 =
-      omega (
-        arith,
-        (div-lt_iff_lt-mul {k = number} {x = found} {y = 9} some).1
-            (omega (arith, few, some)),
-      ) in
+      let most = few-groups found total some few in
       are_made groups most (entries-small own fits)
       ∙ ap (map (word_of order width number))
       (sym (groups-front number groups entries)
@@ -216,31 +176,31 @@ module _ {width number : ℕ} (is : IsWidth width) (some : 0 < number) (values :
       ∙ groups-front number groups (map (slice_index values) input))
 
 -- the same for a look-up, with the sizes under other names
-pub words-found : {width number read count : ℕ} → IsWidth width → 0 < number → read ≡ width
+pub words-found : (total : ℕ) {width number read count : ℕ} → IsWidth width → 0 < number → read ≡ width
     → number ≡ count → (holds : List ℕ → Type 0) (order : BitOrder)
-    (input entries made : List ℕ) (found : ℕ) → length input ≡ 8 * number
-    → ((j : ℕ) → slice_index input j < 256) → length entries ≡ 8 * count → found ≤ 8 * count
+    (input entries made : List ℕ) (found : ℕ) → length input ≡ total * number
+    → ((j : ℕ) → slice_index input j < 256) → length entries ≡ total * count → found ≤ total * count
     → ((j : ℕ) → j < found → slice_index entries j < 128)
-    → ((values : List ℕ) → holds values → AreEntries values (take (8 * count) input) entries)
-    → ((n : ℕ) → n ≤ 8 → AllByRecursion (λ entry. entry < 2 ^ read) (take (n * count) entries)
+    → ((values : List ℕ) → holds values → AreEntries values (take (total * count) input) entries)
+    → ((n : ℕ) → n ≤ total → AllByRecursion (λ entry. entry < 2 ^ read) (take (n * count) entries)
     → take n made ≡ map (word_of order read count) (first_chunks count n entries))
     → record {
-      few : found ≤ 8 * number;
+      few : found ≤ total * number;
       words : (values : List ℕ) → holds values → AreValues values width
           → take (found / number) made ≡ map (word_of order width number)
           (first_chunks number (found / number) (map (slice_index values) input));
       symbols : (values : List ℕ) → holds values → (j : ℕ) → j < found
           → slice_index values (slice_index input j) < 128;
     }
-words-found {width} {number} is some same many holds order input entries made found long fits =
+words-found total {width} {number} is some same many holds order input entries made found long fits =
     rw (same, ← many) (λ lanes few below look are.
     record {
       few = few;
       words = λ values held own.
-          found-words is some values input entries found long lanes few below (look values held)
+          found-words total is some values input entries found long lanes few below (look values held)
           own fits order made are;
       symbols = λ values held.
-          found-symbols is some values input entries found long lanes few below
+          found-symbols total is some values input entries found long lanes few below
           (look values held);
     })
 
@@ -257,27 +217,22 @@ bytes-front show size (suc count) (one ∷ made) each =
     ∙ ap (λ l. show one ++ l) (bytes-front show size count made each))
 
 -- groups of symbols before the first byte that is none are a run
-pub found-run : (base : Base) (values : List ℕ) (width bytes symbols : ℕ) (order : BitOrder)
+pub found-run : (total : ℕ) (base : Base) (values : List ℕ) (width bytes symbols : ℕ) (order : BitOrder)
     → IsGroup width bytes symbols → Reads base values width order
-    → (input old new words : List ℕ) (found : ℕ) → length input ≡ 8 * symbols
-    → length new ≡ 8 * bytes → ((j : ℕ) → slice_index input j < 256) → found ≤ 8 * symbols
+    → (input old new words : List ℕ) (found : ℕ) → length input ≡ total * symbols
+    → length new ≡ total * bytes → ((j : ℕ) → slice_index input j < 256) → found ≤ total * symbols
     → ((j : ℕ) → j < found → slice_index values (slice_index input j) < 128)
     → take (found / symbols) words ≡ map (word_of order width symbols)
     (first_chunks symbols (found / symbols) (map (slice_index values) input))
     → new ≡ bytes_of_words order bytes words → IsRun base input (found / symbols) old new
-found-run base values width bytes symbols order group reads input old new words found long exact
+found-run total base values width bytes symbols order group reads input old new words found long exact
     fits few low words_are stored =
     let whole = IsWhole-group width bytes symbols group in
     let count = found / symbols in
     let read = count * symbols in
     let shown = word_bytes base values width bytes symbols order group reads in
     let within : read ≤ found = groups-within found symbols in
-    let most : count ≤ 8 =
-    omega (
-      arith,
-      (div-lt_iff_lt-mul {k = symbols} {x = found} {y = 9} whole.some_symbols).1
-          (omega (arith, few, whole.some_symbols)),
-    ) in
+    let most = few-groups found total whole.some_symbols few in
     let room : count * bytes ≤ length new =
     omega (arith, exact, mul-le-mul_right bytes most) in
     let part_len : length (take read input) ≡ read =
@@ -305,41 +260,3 @@ sixteen-symbols {width} group =
     rw group.has_symbols
     (by_width (λ w. 16 / group_symbols w * group_symbols w ≡ 16) refl refl refl refl refl refl
     width group.is_width)
-
--- the bytes of sixteen values, at one of the widths
-module _ (w : ℕ) {width bytes symbols : ℕ} (group : IsGroup width bytes symbols)
-    (is : width ≡ w) (order : BitOrder) (values words : List ℕ) where
-  abbrev Small : ℕ → Type 0
-  Small size = AllByRecursion (λ value. value < 2 ^ size) values
-
-  abbrev AreWords : Type 0
-  AreWords =
-      Small w → words ≡ map (word_of order w (group_symbols w))
-      (first_chunks (group_symbols w) (16 / group_symbols w) values)
-
-  abbrev StoredAs : List ℕ → Type 0
-  StoredAs new =
-      new ≡ bytes_of_words order bytes (map (word_of order width symbols)
-      (first_chunks symbols (16 / group_symbols width) values))
-
-  pub values-stored : (new : List ℕ) → Small width → AreWords
-      → new ≡ bytes_of_words order (group_bytes w) words → StoredAs new
-  values-stored new =
-      rw (group.has_bytes, group.has_symbols, is) (λ small are stored.
-      stored ∙ ap (bytes_of_words order (group_bytes w)) (are small))
-
-  -- if each word is one byte
-  pub values-stored-ones : group_bytes w ≡ 1 → (output : List ℕ)
-      → length output ≡ 16 / group_symbols width * bytes → Small width → AreWords
-      → (Small w → AllByRecursion (λ word. word < 256) words)
-      → StoredAs (put_chunk 0 output (map (λ x. x) words))
-  values-stored-ones one output exact small are fit =
-      let low = subst Small is small in
-      let count : length words ≡ 16 / group_symbols w =
-      ap length (are low) ∙ length-words order w (group_symbols w) (16 / group_symbols w) values in
-      let single : bytes ≡ 1 = group.has_bytes ∙ ap group_bytes is ∙ one in
-      let long : length output ≡ 16 / group_symbols w * 1 =
-      exact ∙ (λ i. 16 / group_symbols (is i) * single i) in
-      values-stored (put_chunk 0 output (map (λ x. x) words)) small are
-      (stored-ones order words output (omega (arith, long, count)) (fit low)
-      ∙ ap (λ b. bytes_of_words order b words) (sym one))

@@ -117,28 +117,28 @@ threes-picked LeastSignificantFirst =
     (by_eight (Picks LeastSignificantFirst 3 4 16 8) (λ a b c d e f g h. refl))
 
 pub four-threes-picked : (order : BitOrder) (words : List ℕ) → length words ≡ 4
-    → AllByRecursion (λ word. word < 2 ^ 24) words
+    → AllByRecursion (λ word. word < 2 ^ 32) words
     → picked-words order 3 4 8 4 (digits_l 256 16 (number_l 4294967296 words))
     ≡ bytes_of_words order 3 words
 four-threes-picked MostSignificantFirst =
-    words-picked MostSignificantFirst 3 4 8 4 4294967296 (2 ^ 24) refl (omega arith)
+    words-picked MostSignificantFirst 3 4 8 4 4294967296 (2 ^ 32) refl (omega arith)
     four-bytes (λ word. refl)
     (by_four (Picks MostSignificantFirst 3 4 8 4) (λ a b c d. refl))
 four-threes-picked LeastSignificantFirst =
-    words-picked LeastSignificantFirst 3 4 8 4 4294967296 (2 ^ 24) refl (omega arith)
+    words-picked LeastSignificantFirst 3 4 8 4 4294967296 (2 ^ 32) refl (omega arith)
     four-bytes (λ word. refl)
     (by_four (Picks LeastSignificantFirst 3 4 8 4) (λ a b c d. refl))
 
 pub two-threes-picked : (order : BitOrder) (words : List ℕ) → length words ≡ 2
-    → AllByRecursion (λ word. word < 2 ^ 24) words
+    → AllByRecursion (λ word. word < 2 ^ 64) words
     → picked-words order 3 8 4 2 (digits_l 256 16 (number_l 18446744073709551616 words))
     ≡ bytes_of_words order 3 words
 two-threes-picked MostSignificantFirst =
-    words-picked MostSignificantFirst 3 8 4 2 18446744073709551616 (2 ^ 24) refl (omega arith)
+    words-picked MostSignificantFirst 3 8 4 2 18446744073709551616 (2 ^ 64) refl (omega arith)
     eight-bytes (λ word. refl)
     (by_two (Picks MostSignificantFirst 3 8 4 2) (λ a b. refl))
 two-threes-picked LeastSignificantFirst =
-    words-picked LeastSignificantFirst 3 8 4 2 18446744073709551616 (2 ^ 24) refl (omega arith)
+    words-picked LeastSignificantFirst 3 8 4 2 18446744073709551616 (2 ^ 64) refl (omega arith)
     eight-bytes (λ word. refl)
     (by_two (Picks LeastSignificantFirst 3 8 4 2) (λ a b. refl))
 
@@ -156,15 +156,15 @@ fives-picked LeastSignificantFirst =
     (by_eight (Picks LeastSignificantFirst 5 8 32 8) (λ a b c d e f g h. refl))
 
 pub two-fives-picked : (order : BitOrder) (words : List ℕ) → length words ≡ 2
-    → AllByRecursion (λ word. word < 2 ^ 40) words
+    → AllByRecursion (λ word. word < 2 ^ 64) words
     → picked-words order 5 8 8 2 (digits_l 256 16 (number_l 18446744073709551616 words))
     ≡ bytes_of_words order 5 words
 two-fives-picked MostSignificantFirst =
-    words-picked MostSignificantFirst 5 8 8 2 18446744073709551616 (2 ^ 40) refl (omega arith)
+    words-picked MostSignificantFirst 5 8 8 2 18446744073709551616 (2 ^ 64) refl (omega arith)
     eight-bytes (λ word. refl)
     (by_two (Picks MostSignificantFirst 5 8 8 2) (λ a b. refl))
 two-fives-picked LeastSignificantFirst =
-    words-picked LeastSignificantFirst 5 8 8 2 18446744073709551616 (2 ^ 40) refl (omega arith)
+    words-picked LeastSignificantFirst 5 8 8 2 18446744073709551616 (2 ^ 64) refl (omega arith)
     eight-bytes (λ word. refl)
     (by_two (Picks LeastSignificantFirst 5 8 8 2) (λ a b. refl))
 

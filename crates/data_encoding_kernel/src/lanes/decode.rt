@@ -98,7 +98,7 @@ pub fn are_below<const N: usize>(limit: u8, lanes: Simd<u8, N>) -> bool
 
 // How many lanes come before the first that is not below the limit.
 #[inline(always)]
-fn count_below<const N: usize>(limit: u8, lanes: Simd<u8, N>) -> usize
+pub fn count_below<const N: usize>(limit: u8, lanes: Simd<u8, N>) -> usize
     requires { N ≤ 64 }
     ensures lanes { length lanes.entry ≡ N }
     ensures few { result ≤ N }
@@ -156,11 +156,11 @@ fn words_of_groups<L: LookUp, G: GroupSize>(
 
 // The lowest bits of each word.
 #[inline(always)]
-fn low_bits(count: usize, words: u64x8) -> u64x8
+pub fn low_bits<const N: usize>(count: usize, words: Simd<u64, N>) -> Simd<u64, N>
     requires { count < 64 }
-    ensures { result ≡ map (λ word. word % 2 ^ count) words }
+    ensures { result ≡ map (λ word. word % 2 ^ count) words.entry }
 {
-    words & u64x8::splat((1 << count) - 1)
+    words & Simd::<u64, N>::splat((1 << count) - 1)
 }
 
 // Writes the lowest three bytes of each of eight words.

@@ -1,6 +1,6 @@
 //! Sixteen symbols at a time, with a lane for each of their groups.
 
-ghost use Rattle.std.specs.Prelude.{◌≡◌, ℕ, ◌*◌, ◌/◌, ◌^◌, ◌<◌, ◌≤◌, List, length, map, flat_map, IsTrue};
+ghost use Rattle.std.specs.Prelude.{◌≡◌, ℕ, ◌*◌, ◌/◌, ◌^◌, ◌<◌, ◌≤◌, List, length, map, take, flat_map};
 ghost use Rattle.std.specs.List.{AllByRecursion, range_with_len};
 ghost use Rattle.std.specs.Simd.{first_chunks};
 ghost use Rattle.data_encoding_kernel.specs.Runs.{IsRunBy};
@@ -8,59 +8,45 @@ ghost use Rattle.data_encoding_kernel.specs.Words.{digit, word_of};
 ghost use Rattle.data_encoding_meaning.specs.text.Base.{group_symbols};
 
 use crate::group_size::GroupSize;
-use crate::lanes::decode::{are_below, halves_16, halves_32, halves_64};
+use crate::lanes::decode::{count_below, decode_eight, halves_16, halves_32, halves_64, low_bits};
 use crate::lanes::look_up::LookUp;
 use data_encoding_meaning::encoding::BitOrder;
 use std::simd::prelude::*;
 
-// The words of eight groups of two values.
+// The words of four groups of four values, by halves: of those groups at the front that have values
+// alone.
 #[inline(always)]
-fn words_of_sixteen_by_two(order: BitOrder, width: usize, values: u8x16) -> u16x8
+fn words_of_sixteen_by_four(order: BitOrder, width: usize, values: u8x16) -> u64x4
     requires { width ≤ 8 }
-    ensures words { AllByRecursion (λ value. value < 2 ^ width) values
-        → result ≡ map (word_of order width 2) (first_chunks 2 8 values) }
-    ensures fit { AllByRecursion (λ value. value < 2 ^ width) values
-        → AllByRecursion (λ word. word < 2 ^ (width * 2)) result }
-{
-    halves_16(order, width, u16x8::from_le_bytes(values))
-}
-
-// The words of four groups of four values.
-#[inline(always)]
-fn words_of_sixteen_by_four(order: BitOrder, width: usize, values: u8x16) -> u32x4
-    requires { width ≤ 8 }
-    ensures words { AllByRecursion (λ value. value < 2 ^ width) values
-        → result ≡ map (word_of order width 4) (first_chunks 4 4 values) }
-    ensures fit { AllByRecursion (λ value. value < 2 ^ width) values
-        → AllByRecursion (λ word. word < 2 ^ (width * 4)) result }
+    ensures { (n : ℕ) → n ≤ 4
+        → AllByRecursion (λ value. value < 2 ^ width) (take (n * 4) values)
+        → take n result ≡ map (word_of order width 4) (first_chunks 4 n values) }
 {
     let pairs = halves_16(order, width, u16x8::from_le_bytes(values));
-    halves_32(order, 2 * width, u32x4::from_le_bytes(pairs.to_le_bytes()))
+    halves_32(order, 2 * width, u32x4::from_le_bytes(pairs.to_le_bytes())).cast::<u64>()
 }
 
-// The words of two groups of eight values.
+// The same of two groups of eight values.
 #[inline(always)]
 fn words_of_sixteen_by_eight(order: BitOrder, width: usize, values: u8x16) -> u64x2
     requires { width ≤ 8 }
-    ensures words { AllByRecursion (λ value. value < 2 ^ width) values
-        → result ≡ map (word_of order width 8) (first_chunks 8 2 values) }
-    ensures fit { AllByRecursion (λ value. value < 2 ^ width) values
-        → AllByRecursion (λ word. word < 2 ^ (width * 8)) result }
+    ensures { (n : ℕ) → n ≤ 2
+        → AllByRecursion (λ value. value < 2 ^ width) (take (n * 8) values)
+        → take n result ≡ map (word_of order width 8) (first_chunks 8 n values) }
 {
     let pairs = halves_16(order, width, u16x8::from_le_bytes(values));
     let fours = halves_32(order, 2 * width, u32x4::from_le_bytes(pairs.to_le_bytes()));
     halves_64(order, 4 * width, u64x2::from_le_bytes(fours.to_le_bytes()))
 }
 
-// Writes the bytes of four words of three bytes each.
+// Writes the lowest three bytes of each of four words.
 #[inline(always)]
-fn store_four_threes(order: BitOrder, words: u32x4, output: &mut [u8])
-    requires words { AllByRecursion (λ word. word < 2 ^ 24) words }
+fn store_four_threes(order: BitOrder, words: u64x4, output: &mut [u8])
     requires exact { length output.old ≡ 12 }
     ensures { output.new
         ≡ flat_map (λ word. map (digit order 8 3 word) (range_with_len 0 3)) words }
 {
-    let bytes = words.to_le_bytes();
+    let bytes = low_bits(32, words).cast::<u32>().to_le_bytes();
     match order {
         BitOrder::MostSignificantFirst => {
             bytes
@@ -81,10 +67,9 @@ fn store_four_threes(order: BitOrder, words: u32x4, output: &mut [u8])
     }
 }
 
-// Writes the bytes of two words of five bytes each.
+// Writes the lowest five bytes of each of two words.
 #[inline(always)]
 fn store_two_fives(order: BitOrder, words: u64x2, output: &mut [u8])
-    requires words { AllByRecursion (λ word. word < 2 ^ 40) words }
     requires exact { length output.old ≡ 10 }
     ensures { output.new
         ≡ flat_map (λ word. map (digit order 8 5 word) (range_with_len 0 5)) words }
@@ -106,10 +91,9 @@ fn store_two_fives(order: BitOrder, words: u64x2, output: &mut [u8])
     }
 }
 
-// Writes the bytes of two words of three bytes each.
+// Writes the lowest three bytes of each of two words.
 #[inline(always)]
 fn store_two_threes(order: BitOrder, words: u64x2, output: &mut [u8])
-    requires words { AllByRecursion (λ word. word < 2 ^ 24) words }
     requires exact { length output.old ≡ 6 }
     ensures { output.new
         ≡ flat_map (λ word. map (digit order 8 3 word) (range_with_len 0 3)) words }
@@ -131,51 +115,63 @@ fn store_two_threes(order: BitOrder, words: u64x2, output: &mut [u8])
     }
 }
 
-// Writes the bytes of the groups of sixteen values.
+// Writes the lowest bytes of each of four words, as many as a group of four symbols has.
 #[inline(always)]
-fn store_sixteen<G: GroupSize>(order: BitOrder, values: u8x16, output: &mut [u8])
-    requires small { AllByRecursion (λ value. value < 2 ^ G.WIDTH) values }
-    requires exact { length output.old ≡ 16 / group_symbols G.WIDTH * G.BYTES }
+fn store_four<G: GroupSize>(order: BitOrder, words: u64x4, output: &mut [u8])
+    requires symbols { G.SYMBOLS ≡ 4 }
+    requires exact { length output.old ≡ 4 * G.BYTES }
     ensures { output.new
-        ≡ flat_map (λ word. map (digit order 8 G.BYTES word) (range_with_len 0 G.BYTES))
-        (map (word_of order G.WIDTH G.SYMBOLS)
-        (first_chunks G.SYMBOLS (16 / group_symbols G.WIDTH) values)) }
+        ≡ flat_map (λ word. map (digit order 8 G.BYTES word) (range_with_len 0 G.BYTES)) words }
 {
-    match G::WIDTH {
-        1 => words_of_sixteen_by_eight(order, 1, values)
-            .cast::<u8>()
-            .copy_to_slice(output),
-        2 => words_of_sixteen_by_four(order, 2, values)
-            .cast::<u8>()
-            .copy_to_slice(output),
-        3 => store_two_threes(order, words_of_sixteen_by_eight(order, 3, values), output),
-        4 => words_of_sixteen_by_two(order, 4, values)
-            .cast::<u8>()
-            .copy_to_slice(output),
-        5 => store_two_fives(order, words_of_sixteen_by_eight(order, 5, values), output),
-        _ => store_four_threes(order, words_of_sixteen_by_four(order, 6, values), output),
+    match G::BYTES {
+        1 => low_bits(8, words).cast::<u8>().copy_to_slice(output),
+        _ => store_four_threes(order, words, output),
     }
 }
 
-/// Decodes the whole groups of sixteen symbols. Returns `false`, with the output unchanged, if a
-/// byte of the input is no symbol.
+// Writes the lowest bytes of each of two words, as many as a group has.
+#[inline(always)]
+fn store_two<G: GroupSize>(order: BitOrder, words: u64x2, output: &mut [u8])
+    requires exact { length output.old ≡ 2 * G.BYTES }
+    ensures { output.new
+        ≡ flat_map (λ word. map (digit order 8 G.BYTES word) (range_with_len 0 G.BYTES)) words }
+{
+    match G::BYTES {
+        1 => low_bits(8, words).cast::<u8>().copy_to_slice(output),
+        3 => store_two_threes(order, words, output),
+        _ => store_two_fives(order, words, output),
+    }
+}
+
+/// Decodes sixteen symbols, and returns how many bytes come before the first that is none. Output
+/// bytes after those of the whole groups before it are unspecified.
 #[inline(always)]
 pub fn decode_sixteen<L: LookUp, G: GroupSize>(
     look_up: &L,
     order: BitOrder,
     input: &[u8],
     output: &mut [u8],
-) -> bool
-    requires symbols { length input.now ≡ 16 / group_symbols G.WIDTH * G.SYMBOLS }
+) -> usize
+    requires symbols { length input.now ≡ 16 }
     requires exact { length output.old ≡ 16 / group_symbols G.WIDTH * G.BYTES }
-    ensures { (values : List ℕ) → L.holds values look_up.now → IsTrue result
-        → IsRunBy values G.WIDTH order input.now (16 / group_symbols G.WIDTH) output.old
-        output.new }
+    ensures few { result ≤ 16 }
+    ensures run { (values : List ℕ) → L.holds values look_up.now
+        → IsRunBy values G.WIDTH order input.now (result / G.SYMBOLS) output.old output.new }
 {
-    let values = look_up.look_up_16(u8x16::from_slice(input));
-    if !are_below(1 << G::WIDTH, values) {
-        return false;
+    let width = G::WIDTH;
+    match G::SYMBOLS {
+        2 => decode_eight::<L, G>(look_up, order, input, output),
+        4 => {
+            let entries = look_up.look_up_16(u8x16::from_slice(input));
+            let words = words_of_sixteen_by_four(order, width, entries);
+            store_four::<G>(order, words, output);
+            count_below(128, entries)
+        }
+        _ => {
+            let entries = look_up.look_up_16(u8x16::from_slice(input));
+            let words = words_of_sixteen_by_eight(order, width, entries);
+            store_two::<G>(order, words, output);
+            count_below(128, entries)
+        }
     }
-    store_sixteen::<G>(order, values, output);
-    true
 }
