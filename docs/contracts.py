@@ -3,7 +3,7 @@
 
 usage: docs/contracts.py           writes the file anew
        docs/contracts.py --check   writes nothing; status 1 if the file isn't what would be written,
-                                   or a clause has no words
+                                   a clause has no words, or twins (`TWINS`) are unlike
 
 The words on a clause are written in docs/CONTRACTS.md itself, by hand, and are kept as long as the
 clause reads the same, and the definitions that are shown with it. A new clause gets the words of one
@@ -44,6 +44,9 @@ RECORD_NAMES = re.findall(r"^pub record (\w+)", RECORDS.read_text(), re.MULTILIN
 # The first line of a definition.
 DEFINITION = r"(?:abbrev pub|pub record|pub data) (\w+)"
 
+# A call of the second type has the clauses, and the words on them, of the first type's call.
+TWINS = ("`Encoding::", "`EncodingRef::")
+
 # Items of an `impl` that promise nothing to a caller.
 SILENT = {"laws", "is_infallible"}
 
@@ -64,8 +67,8 @@ def indent_of(line):
 
 
 def is_end(line, indent, in_contract):
-    """Whether the header of a function ends with this line."""
-    if in_contract:
+    """Whether the header of a function ends with this line; that of a trait's ends with a semicolon."""
+    if in_contract and not line.endswith(";"):
         return line in (" " * indent + "{", " " * indent + "{}")
     return line.endswith(("{", "{}", ";"))
 
@@ -77,7 +80,7 @@ def header(lines, start):
     for at in range(start, len(lines)):
         in_contract = in_contract or bool(re.match(r"\s*(requires|ensures)\b", lines[at]))
         if is_end(lines[at], indent, in_contract):
-            end = at if in_contract else at + 1
+            end = at if lines[at].strip() in ("{", "{}") else at + 1
             return [re.sub(r" \{\}?$", "", line) for line in lines[start:end]]
     raise ValueError(f"no body: {lines[start]}")
 
@@ -158,9 +161,9 @@ def public_modules(folder, text, prefix):
 
 def of_impl(lines, at, names):
     """The calls of an `impl`: methods one by one, and those of a trait together."""
-    head = re.match(r"impl(?:<.*?>)? (?:([\w:<>]+) for )?(\w+)", lines[at])
+    head = re.match(r"impl(?:<.*?>)? (?:([\w:<>]+) for )?(&?(\w+))", lines[at])
     end = lines.index("}", at) if not lines[at].endswith("{}") else at
-    if not head or head[2] not in names or head[1] == "Model":
+    if not head or head[3] not in names or head[1] == "Model":
         return []
     inside = range(at + 1, end)
     if not head[1]:
@@ -175,6 +178,18 @@ def of_impl(lines, at, names):
         elif lines[it].startswith("    fn ") and clauses(header(lines, it)):
             block += header(lines, it)
     return [Call(f"`{head[1]}` for `{head[2]}`", "", [lines[at]] + block + ["}"])] if block else []
+
+
+def of_trait(lines, at, names):
+    """The functions of a trait, each within it, with the ghost items that clauses name."""
+    name = re.match(r"pub trait (\w+)", lines[at])[1]
+    if name not in names:
+        return []
+    inside = range(at + 1, lines.index("}", at))
+    ghosts = [lines[it] for it in inside if lines[it].startswith("    ghost ")]
+    return [Call(f"`{name}::{name_of(lines[it])}`", summary(lines, it),
+                 [lines[at]] + ghosts + [""] + header(lines, it) + ["}"])
+            for it in inside if lines[it].startswith("    fn ")]
 
 
 def name_of(line):
@@ -196,6 +211,8 @@ def of_file(path, module, names, modules):
     for at, line in enumerate(lines):
         if line.startswith("impl"):
             calls += of_impl(lines, at, names)
+        elif line.startswith("pub trait "):
+            calls += of_trait(lines, at, names)
         elif line.startswith("pub fn ") and (module in modules or name_of(line) in names):
             prefix = f"{module}::" if module in modules else ""
             calls.append(Call(f"`{prefix}{name_of(line)}`", summary(lines, at), header(lines, at)))
@@ -243,7 +260,7 @@ def of_sources(folder, names, modules):
 
 
 def types_of(path):
-    return re.findall(r"^pub (?:struct|enum) (\w+)", path.read_text(), re.MULTILINE)
+    return re.findall(r"^pub (?:struct|enum|trait) (\w+)", path.read_text(), re.MULTILINE)
 
 
 def definitions():
@@ -335,6 +352,10 @@ class Page:
         was, words = self.words[crate, title, label]
         return words if was == claim else MISSING
 
+    def said(self, crate, title, label):
+        """The words on a clause as they are, or None."""
+        return self.words.get((crate, title, label), (None, None))[1]
+
     def intro(self, crate):
         """The text above the first call of a crate."""
         section = self.text.partition(f"\n## `{crate}`\n")[2]
@@ -358,6 +379,20 @@ def told(crate, call, words, old, missing):
         lines += textwrap.wrap(f"- *{label}*: {said}", COLUMNS, subsequent_indent="  ",
                                break_long_words=False, break_on_hyphens=False)
     return lines + [""]
+
+
+def unlike(crate, calls, old):
+    """The calls of the second twin with clauses, or words on one, that are not those of the first."""
+    blocks = {call.title: clauses(call.block) for call in calls}
+    pairs = [(title.replace(TWINS[1], TWINS[0]), title) for title in blocks if TWINS[1] in title]
+    found = []
+    for one, other in pairs:
+        texts = list(blocks[other].items())
+        labels = [label for label, _ in texts if old.said(crate, one, label) is not None]
+        if one in blocks and (texts != list(blocks[one].items()) or any(
+                old.said(crate, one, it) != old.said(crate, other, it) for it in labels)):
+            found.append(f"{crate}: {other} has not the clauses, or the words, of {one}")
+    return found
 
 
 def all_calls():
@@ -387,8 +422,9 @@ def main():
     old = Page(PAGE.read_text())
     crates = all_calls()
     missing = []
+    wrong = [line for crate, calls in crates.items() for line in unlike(crate, calls, old)]
     new = page(crates, old, missing)
-    wrong = [f"no words: {line}" for line in missing]
+    wrong += [f"no words: {line}" for line in missing]
     if "--check" not in sys.argv[1:]:
         PAGE.write_text(new)
         print("".join(f"{line}\n" for line in wrong), end="")

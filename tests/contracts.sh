@@ -12,14 +12,19 @@ check() {
 
 holds 'the pages are what the sources say' check .
 
-# sees NAME FILE OLD NEW: a copy in which OLD, in a line of FILE, became NEW is refused.
-sees() {
+# copy: makes "$room/copy", which has what the pages are made of.
+copy() {
     rm -rf "$room/copy"
     mkdir -p "$room/copy/docs"
     cp docs/*.py docs/*.svg docs/CONTRACTS.md docs/PROVED.md "$room/copy/docs"
     cp crates.txt "$room/copy"
     find crates -path '*/out' -prune -o \( -path '*/src/*' -o -path '*/specs/*' \) -type f -print0 |
         xargs -0 cp --parents -t "$room/copy"
+}
+
+# sees NAME FILE OLD NEW: a copy in which OLD, in a line of FILE, became NEW is refused.
+sees() {
+    copy
     sed -i "s~$3~$4~" "$room/copy/$2"
     cmp -s "$2" "$room/copy/$2"
     is "$1: an edit" 1 $?
@@ -34,6 +39,10 @@ sees 'a record of clauses that changed' crates/data_encoding/specs/Calls.antt \
 sees 'a clause that is gone' $encode '^        ensures ascii .*' ''
 sees 'a call that is new' $encode '    fn padded_len' '    pub fn padded_len'
 sees 'a call that is gone' $encode 'pub fn encode_align' 'fn encode_align'
+encoder=crates/data_encoding/src/encoder.rt
+sees 'a clause of a trait that changed' $encoder 'ensures { result ≡ Self.base self.now };' \
+    'ensures { Self.base self.now ≡ result };'
+sees 'a trait that is gone' $encoder '^pub trait' 'trait'
 sees 'a definition that changed' crates/encoding_stream/specs/Encoded.antt \
     'pub at_end : IsAtEnd reader.new' 'pub at_end : IsAtEnd reader.old'
 sees 'a law that changed' crates/data_encoding_meaning/specs/laws/Laws.antt '→ one ≡ other' '→ other ≡ one'
@@ -44,6 +53,19 @@ sees 'a call of docs/way.svg that is gone' crates/encoding_stream/src/runs.rt 's
 sees 'a call that docs/PROVED.md lists and there is not' docs/PROVED.md '^run: status' 'runs: status'
 sees 'a clause that docs/PROVED.md lists and there is not' docs/PROVED.md '^run: status' 'run: state'
 sees 'words on a clause that changed' docs/CONTRACTS.md '^- \*text\*: Afterwards' '- *text*: Then'
+
+# differs NAME FILE OLD NEW: twins are unlike in a copy whose page is written anew, after the first OLD
+# of FILE became NEW.
+differs() {
+    copy
+    sed -i "0,/$3/s//$4/" "$room/copy/$2"
+    "$room/copy/docs/contracts.py" >/dev/null
+    is "$1" 1 "$("$room/copy/docs/contracts.py" --check | grep -c 'has not the clauses, or the words, of')"
+}
+
+differs 'a clause that has another name at one twin' $encode 'ensures most {' 'ensures few {'
+differs 'a clause that one twin lacks' $encode '        ensures ascii .*' ''
+differs 'a clause that has other words at one twin' docs/CONTRACTS.md ': It is at most 189' ': At most 189'
 
 # Calls of the last column are named as the page names them.
 unknown=$(sed -n '/^## The Rust crate/,$ s/^| .* | //p' docs/COMING_FROM.md |

@@ -18,13 +18,13 @@ use Rattle.data_encoding.specs.Text.{text_of}
 use Rattle.conformance.proofs.RewrittenLemmas.{each_byte, known, specified_by}
 
 -- a byte in lower case, if it is a letter up to V
-abbrev pub lowered : ℕ → ℕ
+abbrev lowered : ℕ → ℕ
 lowered byte = if nat_le 65 byte && nat_le byte 86 then byte + 32 else byte
 
-pub lowered-upper : (byte : ℕ) → 65 ≤ byte → byte ≤ 86 → byte + 32 ≡ lowered byte
+lowered-upper : (byte : ℕ) → 65 ≤ byte → byte ≤ 86 → byte + 32 ≡ lowered byte
 lowered-upper byte low high = grind (arith, nat_tests)
 
-pub lowered-other : (byte : ℕ) → (65 ≤ byte → byte ≤ 86 → ⊥) → byte ≡ lowered byte
+lowered-other : (byte : ℕ) → (65 ≤ byte → byte ≤ 86 → ⊥) → byte ≡ lowered byte
 lowered-other byte apart = grind (arith, nat_tests)
 
 module _ (base : Base) (is : base_of base32_dnssec_fields ≡ Ok base) where
@@ -41,7 +41,7 @@ module _ (base : Base) (is : base_of base32_dnssec_fields ≡ Ok base) where
   long : length base.meanings ≡ 128
   long = known (λ b. length b.meanings) 0 base32_dnssec_fields base is
 
-  pub own_lowered : (byte : ℕ) → lowered byte ≡ exchanged base base byte
+  own_lowered : (byte : ℕ) → lowered byte ≡ exchanged base base byte
   own_lowered byte =
       ⊎_elim {C = lowered byte ≡ exchanged base base byte}
       (λ (low : byte < 128).
@@ -52,6 +52,12 @@ module _ (base : Base) (is : base_of base32_dnssec_fields ≡ Ok base) where
       sym (lowered-other byte (λ low few. omega (arith, high, few)))
       ∙ sym (ap (λ m. unwrap_or (own_character base m) byte) none))
       (cases_lt byte 128)
+
+  pub own-upper : (byte : ℕ) → 65 ≤ byte → byte ≤ 86 → byte + 32 ≡ exchanged base base byte
+  own-upper byte low high = lowered-upper byte low high ∙ own_lowered byte
+
+  pub own-other : (byte : ℕ) → (65 ≤ byte → byte ≤ 86 → ⊥) → byte ≡ exchanged base base byte
+  own-other byte apart = lowered-other byte apart ∙ own_lowered byte
 
   -- their texts are sorted as the data
   pub sorts_alike : (own : OwnText) (order : OrderOfData) (unpadded : Unpadded) → IsOrdered base

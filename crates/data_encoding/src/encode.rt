@@ -124,7 +124,7 @@ impl EncodingRef<'_> {
     pub fn encode_align(&self) -> usize
         ensures value { result ≡ alignment self.now }
         ensures some { 0 < result }
-        ensures few { result ≤ 189 }
+        ensures most { result ≤ 189 }
         ensures base { IsSpecified self.now }
     {
         if self.fields.column != 0 {

@@ -1,6 +1,8 @@
 //! Encodings, and the terms that describe them.
 
-ghost use Rattle.std.specs.Prelude.{◌≡◌, ◌<◌, ◌≤◌, ◌-◌, ◌==◌, ◌||◌, length, MatchResult};
+mod equality;
+
+ghost use Rattle.std.specs.Prelude.{◌≡◌, ◌<◌, ◌≤◌, ◌-◌, ◌==◌, ◌||◌, length};
 ghost use Rattle.data_encoding.specs.Calls.{IsBitWidth, IsGroupBytes, IsGroupLen};
 ghost use Rattle.data_encoding_meaning.specs.text.Base.{IsWidth, group_bytes, group_symbols, ignores_some, is_padded, meaning};
 ghost use Rattle.data_encoding_meaning.specs.specification.Fields.{IsSpecified};
@@ -9,7 +11,6 @@ ghost use Rattle.data_encoding_meaning.specs.text.Lengths.{most_bytes};
 use crate::plain::PlainFields;
 use arrayvec::ArrayVec;
 pub use data_encoding_meaning::encoding::{BitOrder, Character};
-use std::alloc::AllocError;
 use std::marker::Model;
 
 // The entries of a byte that is invalid, of one that is ignored, and of padding.
@@ -284,74 +285,4 @@ pub(crate) fn copied(separator: &[u8]) -> ArrayVec<u8, 255>
     let mut copy = ArrayVec::new();
     copy.try_extend_from_slice(separator).unwrap();
     copy
-}
-
-// A copy does not allocate, and never fails.
-impl Clone for Encoding {
-    ghost use Rattle.std.specs.Prelude.{◌≡◌};
-
-    ghost is_clone = { λ one copy. copy ≡ one };
-
-    ghost is_infallible = { λ _. Unit {0} };
-
-    fn clone(&self) -> Result<Encoding, AllocError>
-        ensures cases { MatchResult result (λ copy. copy ≡ self.now) (λ _. ⊥) }
-    {
-        Ok(Encoding {
-            fields: self.fields,
-            separator: copied(self.separator.as_slice()),
-        })
-    }
-}
-
-impl PartialEq for Encoding {
-    ghost use Rattle.std.specs.Prelude.{◌≡◌, ◌↔◌, IsTrue};
-    ghost use Rattle.std.specs.Str.{bytes_eq};
-    ghost use Rattle.std.specs.Ordering.{on};
-    ghost use Rattle.std.specs.Cmp.{on_per, partial_equiv_from_equiv};
-    ghost use Rattle.std.specs.Cmp.Lexicographic.{nat_list_eq_equiv};
-    ghost use Rattle.data_encoding_meaning.specs.specification.Layout.{layout};
-
-    ghost eq = { on layout bytes_eq };
-
-    ghost laws = { on_per layout (partial_equiv_from_equiv nat_list_eq_equiv) };
-
-    fn eq(&self, other: &Encoding) -> bool
-        ensures value { result ≡ on layout bytes_eq self.now other.now }
-        ensures same { IsTrue result ↔ (layout self.now ≡ layout other.now) }
-        ensures base { IsTrue result ↔ (self.now ≡ other.now) }
-    {
-        // The small fields first, since most encodings differ there.
-        let one = (
-            self.fields.width,
-            self.fields.order(),
-            self.fields.checks_trailing_bits,
-            self.fields.concatenates,
-            self.fields.padding_character(),
-            self.fields.column,
-        );
-        let another = (
-            other.fields.width,
-            other.fields.order(),
-            other.fields.checks_trailing_bits,
-            other.fields.concatenates,
-            other.fields.padding_character(),
-            other.fields.column,
-        );
-        // The first 64 symbols determine the table, and no byte from 128 on has a value.
-        one == another
-            && self.fields.symbols[..MOST_SYMBOLS as usize]
-                == other.fields.symbols[..MOST_SYMBOLS as usize]
-            && self.fields.values.entries[..ASCII as usize]
-                == other.fields.values.entries[..ASCII as usize]
-            && self.separator.as_slice() == other.separator.as_slice()
-    }
-}
-
-impl Eq for Encoding {
-    ghost use Rattle.std.specs.Cmp.{on_equiv};
-    ghost use Rattle.std.specs.Cmp.Lexicographic.{nat_list_eq_equiv};
-    ghost use Rattle.data_encoding_meaning.specs.specification.Layout.{layout};
-
-    ghost laws = { on_equiv layout nat_list_eq_equiv };
 }

@@ -74,21 +74,18 @@ fn append_again(encoder: &mut Encoder, input: &[u8]) -> Result<(), AllocError>
     encoder.append(input)
 }
 
-/// Appends the text of data that comes in two pieces, and makes each call that runs out of memory
-/// again. The text is that of the pieces joined.
+/// Appends the text of data by an encoder, and makes each call that runs out of memory again.
 pub fn encoded_at_second_try(
     encoding: &Encoding,
-    one: &[u8],
-    other: &[u8],
+    input: &[u8],
     output: &mut String,
 ) -> Result<(), AllocError>
-    requires one { length one.now ≤ ENCODE_LIMIT }
-    requires other { length other.now ≤ ENCODE_LIMIT }
+    requires limit { length input.now ≤ ENCODE_LIMIT }
     ensures { OnOk result (string_bytes output.new
-        ≡ string_bytes output.old ++ text_of encoding.now (one.now ++ other.now)) }
+        ≡ string_bytes output.old ++ text_of encoding.now input.now) }
 {
     let mut encoder = encoding.new_encoder(output);
-    if append_again(&mut encoder, one).is_err() || append_again(&mut encoder, other).is_err() {
+    if append_again(&mut encoder, input).is_err() {
         encoder.abandon();
         return Err(AllocError);
     }

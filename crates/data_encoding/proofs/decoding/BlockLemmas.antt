@@ -32,7 +32,7 @@ use Rattle.data_encoding.specs.Blocks.{AreKept, EndsBefore, HasPacked, IsPacking
 use Rattle.data_encoding.proofs.decoding.StepLemmas.{IsUnderWay, Sizes, after_group, after_none, room-next_group}
 
 -- what is gathered from the next bytes follows what was gathered before them
-pub gathered-further : (base : Base) (part block new : List ℕ) (read size count more : ℕ)
+gathered-further : (base : Base) (part block new : List ℕ) (read size count more : ℕ)
     → AreKept base part read (take count block) → count ≤ length block
     → bytes_in (kept base (take size (drop read part))) ≡ take more new
     → AreKept base part (read + size) (take (count + more) (rewritten count block new))

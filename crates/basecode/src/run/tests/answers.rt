@@ -2,7 +2,7 @@
 
 use super::*;
 
-const NAMES: &str = "\
+pub(super) const NAMES: &str = "\
 HEXLOWER
 HEXLOWER_PERMISSIVE
 HEXUPPER

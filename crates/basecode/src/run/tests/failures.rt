@@ -1,5 +1,6 @@
 //! Reads, writes and flushes that fail once, and would succeed at a second attempt.
 
+use super::answers::NAMES;
 use super::*;
 
 #[test]
@@ -25,14 +26,14 @@ fn an_interrupted_read_fails(rt: HostRuntime) -> Result<(), Fail> {
     Ok(())
 }
 
-// Whether a run over five bytes ends at the failing call of its writer, after these numbers of
-// writes and flushes, with these bytes written.
+// Whether a run ends at the failing call of its writer, after these numbers of writes and flushes,
+// with these bytes written.
 fn is_end(
     alloc: Global,
     (words, input): (&str, &str),
     failure: Failure,
     (writes, flushes): (usize, usize),
-    written: &str,
+    written: &[u8],
 ) -> Result<bool, AllocError> {
     let writer = FakeWriter::new(alloc, failure, writes.saturating_sub(1))?;
     let reader = FakeReader::new(input.as_bytes(), 2);
@@ -44,52 +45,75 @@ fn is_end(
             && !got.read_failed
             && got.writer.writes == writes
             && got.writer.flushes == flushes
-            && got.writer.bytes.as_slice() == written.as_bytes(),
+            && got.writer.bytes.as_slice() == written,
     )
 }
 
-#[test]
-fn an_interrupted_write_fails(rt: HostRuntime) -> Result<(), Fail> {
-    let encode = ("encode HEXLOWER", "Hello");
-    let decode = ("decode HEXLOWER", "48656c6c6f");
-    for failure in [Failure::Write, Failure::Take] {
-        assert!(rt;
-            is_end(rt.alloc(), encode, failure, (1, 0), "")?,
-            "at {failure:?}"
-        );
-        assert!(rt;
-            is_end(rt.alloc(), encode, failure, (3, 0), "48656c")?,
-            "at {failure:?}"
-        );
-        assert!(rt;
-            is_end(rt.alloc(), decode, failure, (2, 0), "Hel")?,
-            "at {failure:?}"
-        );
+// Whether each write of the run ends it, if that one alone fails: the first, the second, and so on
+// until a run makes fewer. What the writes before took, three bytes each, is written.
+fn each_write_ends(
+    alloc: Global,
+    run: (&str, &str),
+    failure: Failure,
+    answer: &[u8],
+) -> Result<bool, AllocError> {
+    let writes = answer.len().div_ceil(3);
+    for good_writes in 0..writes {
+        let written = &answer[..good_writes.saturating_mul(3).min(answer.len())];
+        if !is_end(alloc, run, failure, (good_writes + 1, 0), written)? {
+            return Ok(false);
+        }
     }
-    assert!(rt; is_end(rt.alloc(), encode, Failure::Flush, (4, 1), "48656c6c6f")?);
-    assert!(rt; is_end(rt.alloc(), decode, Failure::Flush, (2, 1), "Hello")?);
+    let writer = FakeWriter::new(alloc, failure, writes)?;
+    let got = outcome_of(alloc, run.0, FakeReader::new(run.1.as_bytes(), 2), writer)?;
+    Ok(got.status < 2 && !got.write_failed && got.writer.bytes.as_slice() == answer)
+}
+
+#[test]
+fn each_interrupted_write_fails(rt: HostRuntime) -> Result<(), Fail> {
+    let mime = "\
+        SGVsbG8gSGVsbG8gSGVsbG8gSGVsbG8gSGVsbG8gSGVsbG8gSGVsbG8gSGVsbG8gSGVsbG8gSGVs\r\n\
+        bG8=\r\n";
+    let data = "Hello Hello Hello Hello Hello Hello Hello Hello Hello Hello";
+    for (words, input, answer) in [
+        ("encode HEXLOWER", "Hello", "48656c6c6f"),
+        ("decode HEXLOWER", "48656c6c6f", "Hello"),
+        ("encode BASE64_MIME", data, mime),
+        ("decode BASE64_MIME", mime, data),
+        ("decode HEXLOWER", "48656c6c6f4G", "Hello"),
+        ("canonical BASE64", "Hello", "false\n"),
+        ("list", "Hello", NAMES),
+    ] {
+        for failure in [Failure::Write, Failure::Take] {
+            assert!(rt;
+                each_write_ends(rt.alloc(), (words, input), failure, answer.as_bytes())?,
+                "{words}, at {failure:?}"
+            );
+        }
+    }
     Ok(())
 }
 
 #[test]
-fn an_interrupted_answer_fails(rt: HostRuntime) -> Result<(), Fail> {
-    let question = ("canonical BASE64", "Hello");
-    for failure in [Failure::Write, Failure::Take] {
+fn an_interrupted_flush_fails(rt: HostRuntime) -> Result<(), Fail> {
+    for (run, writes, answer) in [
+        (("encode HEXLOWER", "Hello"), 4, "48656c6c6f"),
+        (("decode HEXLOWER", "48656c6c6f"), 2, "Hello"),
+        (("canonical BASE64", "Hello"), 2, "false\n"),
+        (("list", "Hello"), 85, NAMES),
+    ] {
         assert!(rt;
-            is_end(rt.alloc(), question, failure, (1, 0), "")?,
-            "at {failure:?}"
-        );
-        assert!(rt;
-            is_end(rt.alloc(), question, failure, (2, 0), "fal")?,
-            "at {failure:?}"
+            is_end(
+                rt.alloc(),
+                run,
+                Failure::Flush,
+                (writes, 1),
+                answer.as_bytes()
+            )?,
+            "{}",
+            run.0
         );
     }
-    assert!(rt; is_end(rt.alloc(), question, Failure::Flush, (2, 1), "false\n")?);
-    // 255 bytes, three in each write.
-    let writer = FakeWriter::new(rt.alloc(), Failure::Flush, 0)?;
-    let got = outcome_of(rt.alloc(), "list", FakeReader::new(b"Hello", 2), writer)?;
-    assert!(rt; got.status == 3 && got.reads == 0);
-    assert!(rt; got.writer.writes == 85 && got.writer.flushes == 1);
     Ok(())
 }
 
@@ -107,11 +131,9 @@ fn a_failed_read_fails_unseen(rt: HostRuntime) -> Result<(), Fail> {
 }
 
 #[test]
-fn an_interrupted_list_fails(rt: HostRuntime) -> Result<(), Fail> {
+fn an_interrupted_list_reads_nothing(rt: HostRuntime) -> Result<(), Fail> {
     let writer = FakeWriter::new(rt.alloc(), Failure::Write, 2)?;
     let got = outcome_of(rt.alloc(), "list", FakeReader::new(b"Hello", 2), writer)?;
     assert!(rt; got.status == 3 && got.reads == 0);
-    assert!(rt; got.writer.bytes.as_slice() == b"HEXLOW".as_slice());
-    assert!(rt; got.writer.writes == 3 && got.writer.flushes == 0);
     Ok(())
 }

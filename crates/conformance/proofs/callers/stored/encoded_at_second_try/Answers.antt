@@ -32,36 +32,25 @@ still_taken old new same before bytes has =
 pub returns-in-Ok : goal.returns-in-Ok
 returns-in-Ok c =
     let start = c.new_encoder-encoder.ensures.pieces in
-    let once =
+    let taken =
     where_ok c.append_again.result c.if-is_err.ensures.value c.append_again.ensures.taken _ _ start
     in
-    let twice =
-    where_ok c.append_again-else-is_err.result c.if-is_err-2.ensures.value
-    c.append_again-else-is_err.ensures.taken _ _ once in
-    let text = IfOk-at_ok _ c.in-Ok.is c.finalize.follows.holds-at-none _ _ twice in
+    let text = IfOk-at_ok _ c.in-Ok.is c.finalize.follows.holds-at-none _ _ taken in
     search rules
 
 pub returns-in-Ok-finalize : goal.returns-in-Ok-finalize
 returns-in-Ok-finalize c =
     let start = c.new_encoder-encoder.ensures.pieces in
-    let once =
+    let taken =
     where_ok c.append_again.result c.if-is_err.ensures.value c.append_again.ensures.taken _ _ start
     in
-    let twice =
-    where_ok c.append_again-else-is_err.result c.if-is_err-2.ensures.value
-    c.append_again-else-is_err.ensures.taken _ _ once in
     let same = c.in-Err.ensures.unchanged in
-    let again = still_taken _ _ same _ _ twice in
+    let again = still_taken _ _ same _ _ taken in
     let text = IfOk-at_ok _ c.in-Ok-finalize.is c.finalize-in-Err.follows.holds-at-none _ _ again in
     let name =
-    same.output ∙ c.append_again-else-is_err.ensures.output ∙ c.append_again.ensures.output
-    ∙ c.new_encoder-encoder.ensures.output in
-    let base =
-    same.base ∙ c.append_again-else-is_err.ensures.base ∙ c.append_again.ensures.base
-    ∙ c.new_encoder-encoder.ensures.base in
+    same.output ∙ c.append_again.ensures.output ∙ c.new_encoder-encoder.ensures.output in
+    let base = same.base ∙ c.append_again.ensures.base ∙ c.new_encoder-encoder.ensures.base in
     let whole =
     text
-    ∙ ap (λ base. string_bytes c.args.output.now
-    ++ text_of base (c.args.one.now ++ c.args.other.now))
-    base in
+    ∙ ap (λ base. string_bytes c.args.output.now ++ text_of base c.args.input.now) base in
     search rules

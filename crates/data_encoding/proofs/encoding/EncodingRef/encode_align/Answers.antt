@@ -35,8 +35,8 @@ returns-then-self-ne0-clause-some c =
     subst (λ n. 0 < n) (sym (returns-then-self-ne0-clause-value c))
     (alignment-some seen ruled _ wrapping)
 
-pub returns-then-self-ne0-clause-few : goal.returns-then-self-ne0-clause-few
-returns-then-self-ne0-clause-few c =
+pub returns-then-self-ne0-clause-most : goal.returns-then-self-ne0-clause-most
+returns-then-self-ne0-clause-most c =
     few-lines c.self.inside.fields.now.column _ c.self.inside.fields.now.width
     c.self.inside.fields.now.values.entries c.self.invariant.is_width c.self.invariant.wrapping
 

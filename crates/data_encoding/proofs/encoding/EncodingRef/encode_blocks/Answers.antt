@@ -54,7 +54,7 @@ overflow_add-read g c =
         before c.loop-index.invariant c.div_ceil-index-end.ensures c.loop-index-test.true,
         mul-le (1024 / c.self.inside.fields.now.column) c.encode_align.result 1024 189
             (lines-few c.self.invariant c.self.view_is c.requires.lines 1024)
-            c.encode_align.ensures.few,
+            c.encode_align.ensures.most,
         c.requires.limit,
       );
     }

@@ -27,7 +27,7 @@ overflow_add-read g c =
       fits = omega (
         arith,
         before c.loop-index.invariant c.div_ceil-index-end.ensures c.loop-index-test.true,
-        c.encode_align-line_bytes.ensures.few,
+        c.encode_align-line_bytes.ensures.most,
         c.requires.limit,
       );
     }

@@ -5,7 +5,7 @@ use Rattle.data_encoding_meaning.specs.text.Base.{Base, is_ignored, meaning}
 use Rattle.data_encoding_meaning.specs.specification.Layout.{ignored_bytes, own_byte, translated_bytes}
 use Rattle.data_encoding.specs.PlainTables.{plain_tables}
 use Rattle.data_encoding.specs.Specification.{specified}
-use Rattle.data_encoding.proofs.judgement.FieldLemmas.{fields-are}
+use Rattle.data_encoding.proofs.judgement.FieldLemmas.{Describes, fields-are}
 use Rattle.data_encoding_meaning.proofs.judgement.TranslationLemmas.{is_translated_byte, owns-ascii, range-ascii}
 use Rattle.data_encoding.proofs.tables.TableLemmas.{padding-seen, symbols-seen}
 use Rattle.data_encoding.proofs.tables.TableRuleLemmas.{separator-ascii}
@@ -58,7 +58,7 @@ returns c =
         to = c.in_ok-ascii_text-5.field-0;
       };
     } in
-    rw (← c.self.view_is) (fields-are (specified s) _ c.self.invariant (record {
+    let is : Describes (specified s) e = record {
       symbols = c.in_ok-ascii_text.ensures ∙ sym has.symbols ∙ ap (λ (b : Base). b.symbols) view;
       order = c.order.ensures;
       checks = refl;
@@ -76,4 +76,5 @@ returns c =
           c.in_ok-ascii_text-5.ensures ∙ c.as_slice-3.ensures.value
           ∙ c.translations-translations.ensures.to base has
           ∙ ap (λ (b : Base). map (own_byte b) (translated_bytes b)) view;
-    }))
+    } in
+    rw (← c.self.view_is) (fields-are (specified s) e c.self.invariant is)

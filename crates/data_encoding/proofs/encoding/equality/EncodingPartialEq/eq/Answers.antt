@@ -8,7 +8,7 @@ use Rattle.data_encoding_meaning.specs.declared.encoding.BitOrder.{BitOrder}
 use Rattle.data_encoding_meaning.specs.declared.encoding.BitOrder.TheVariants.{MostSignificantFirst, LeastSignificantFirst}
 use Rattle.data_encoding_meaning.specs.specification.Layout.{layout}
 use Rattle.data_encoding.proofs.tables.EqualityLemmas.{base-Decides, layout-Decides}
-use Rattle.data_encoding.proofs.encoding.EncodingPartialEq.eq.Goals as goal
+use Rattle.data_encoding.proofs.encoding.equality.EncodingPartialEq.eq.Goals as goal
 
 orders-Decides : (o p : BitOrder) → Decides (sameb the_type o p) (o ≡ p)
 orders-Decides MostSignificantFirst MostSignificantFirst = (λ h. refl, λ h. refl)
