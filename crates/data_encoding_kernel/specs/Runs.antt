@@ -31,8 +31,3 @@ IsRunBy values width order part count old new =
 abbrev pub IsLongestBy : List ℕ → ℕ → BitOrder → List ℕ → ℕ → Type 0
 IsLongestBy values width order part count =
     (base : Base) → Reads base values width order → IsLongest base part count
-
--- Sixteen symbols, and the room for their bytes, follow as many turns of eight groups.
-pub record HasHalf (width read written count : ℕ) : Type 0 where
-  pub symbols : count * 8 * group_symbols width + 16 ≤ read
-  pub bytes : (count * 8 + 16 / group_symbols width) * group_bytes width ≤ written

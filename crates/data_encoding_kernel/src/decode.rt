@@ -1,10 +1,9 @@
 //! Runs of whole groups of symbols only, which are decoded without a judgement.
 
 ghost use Rattle.std.specs.Prelude.{◌≡◌, ℕ, ◌*◌, ◌/◌, ◌≤◌, List, length, take, IsTrue};
-ghost use Rattle.data_encoding_kernel.specs.Runs.{HasHalf, IsLongestBy, IsRunBy};
+ghost use Rattle.data_encoding_kernel.specs.Runs.{IsLongestBy, IsRunBy};
 
 use crate::group_size::GroupSize;
-use crate::lanes::decode_sixteen::decode_sixteen;
 use crate::lanes::look_up::LookUp;
 use crate::order::ConstantOrder;
 use crate::platform::has_lanes;
@@ -156,7 +155,7 @@ fn decode_by_lanes<L: LookUp, O: ConstantOrder, G: GroupSize>(
 {
     let symbols = G::SYMBOLS;
     let bytes = G::BYTES;
-    let at = decode_by_eights::<L, O, G>(look_up, count, false, input, len, output);
+    let at = decode_by_eights::<L, O, G>(look_up, count, input, len, output);
     let first = at / symbols;
     let read = first * symbols;
     let left = len - read;
@@ -173,14 +172,11 @@ fn decode_by_lanes<L: LookUp, O: ConstantOrder, G: GroupSize>(
     (first + further) * symbols
 }
 
-// Decodes by as many turns of eight groups, and then by half a turn if it is asked for, up to the
-// first byte that is no symbol or up to a length. Returns how many bytes were read; the whole groups
-// among them are decoded.
+// As `decode_by_turns`, by as many turns.
 #[inline(always)]
 fn decode_by_eights<L: LookUp, O: ConstantOrder, G: GroupSize>(
     look_up: &L,
     count: usize,
-    has_half: bool,
     input: &[u8],
     len: usize,
     output: &mut [u8],
@@ -188,47 +184,14 @@ fn decode_by_eights<L: LookUp, O: ConstantOrder, G: GroupSize>(
     requires few { len ≤ length input.now }
     requires symbols { count * 8 * G.SYMBOLS ≤ length input.now }
     requires bytes { count * 8 * G.BYTES ≤ length output.old }
-    requires half { IsTrue has_half → HasHalf G.WIDTH (length input.now) (length output.old) count }
     ensures run { (values : List ℕ) → L.holds values look_up.now
         → IsRunBy values G.WIDTH O.ORDER (take len input.now) (result / G.SYMBOLS) output.old
         output.new }
     ensures within { result ≤ len }
 {
-    let at = decode_turns_and_half::<L, O, G>(look_up, count, has_half, input, output);
-    if at < len { at } else { len }
-}
-
-#[inline(always)]
-fn decode_turns_and_half<L: LookUp, O: ConstantOrder, G: GroupSize>(
-    look_up: &L,
-    count: usize,
-    has_half: bool,
-    input: &[u8],
-    output: &mut [u8],
-) -> usize
-    requires symbols { count * 8 * G.SYMBOLS ≤ length input.now }
-    requires bytes { count * 8 * G.BYTES ≤ length output.old }
-    requires half { IsTrue has_half → HasHalf G.WIDTH (length input.now) (length output.old) count }
-    ensures run { (values : List ℕ) → L.holds values look_up.now
-        → IsRunBy values G.WIDTH O.ORDER input.now (result / G.SYMBOLS) output.old output.new }
-    ensures room { result / G.SYMBOLS * G.BYTES ≤ length output.old }
-{
-    let symbols = G::SYMBOLS;
-    let bytes = G::BYTES;
     let lanes = Lanes { look_up: *look_up };
     let at = decode_turns::<Lanes<L>, G>(&lanes, O::ORDER, count, input, output);
-    let read = count * 8 * symbols;
-    if !has_half || at < read {
-        return at;
-    }
-    let written = count * 8 * bytes;
-    let found = decode_sixteen::<L, G>(
-        look_up,
-        O::ORDER,
-        &input[read..read + 16],
-        &mut output[written..written + 16 / symbols * bytes],
-    );
-    read + found
+    if at < len { at } else { len }
 }
 
 // As `count_turns`, where the output has room for all groups: then a turn that ends after `len` is
@@ -255,14 +218,12 @@ fn count_turns_of_run<G: GroupSize>(input_len: usize, len: usize, output_len: us
 
 /// Decodes by turns of eight groups, up to the first byte that is no symbol or up to a length, as
 /// long as the input and the output have a whole turn. Returns how many bytes were read; the whole
-/// groups among them are decoded, and output bytes after theirs are unspecified. With `halves`, half
-/// a turn may be the last: for a run that is likely to have this length.
+/// groups among them are decoded, and output bytes after theirs are unspecified.
 #[inline(always)]
 pub fn decode_by_turns<L: LookUp, O: ConstantOrder, G: GroupSize>(
     look_up: &L,
     input: &[u8],
     len: usize,
-    halves: bool,
     output: &mut [u8],
 ) -> usize
     requires few { len ≤ length input.now }
@@ -271,38 +232,10 @@ pub fn decode_by_turns<L: LookUp, O: ConstantOrder, G: GroupSize>(
         output.new }
     ensures within { result ≤ len }
 {
-    let (count, has_half) = count_turns_and_half::<G>(halves, input.len(), len, output.len());
-    decode_by_eights::<L, O, G>(look_up, count, has_half, input, len, output)
-}
-
-/// Whether half a turn has what a last one would read of a run of this length.
-#[inline(always)]
-pub fn ends_in_half<G: GroupSize>(len: usize) -> bool {
-    let symbols = 8 * G::SYMBOLS;
-    let last = len % symbols;
-    symbols > 16 && 0 < last && last <= 16
-}
-
-// As `count_turns`. With `halves`, half a turn takes the place of a last one that goes on after
-// `len`, and is counted apart.
-#[inline(always)]
-fn count_turns_and_half<G: GroupSize>(
-    halves: bool,
-    input_len: usize,
-    len: usize,
-    output_len: usize,
-) -> (usize, bool)
-    requires few { len ≤ input_len }
-    ensures symbols { result.0 * 8 * G.SYMBOLS ≤ input_len }
-    ensures bytes { result.0 * 8 * G.BYTES ≤ output_len }
-    ensures half { IsTrue result.1 → HasHalf G.WIDTH input_len output_len result.0 }
-{
-    let count = count_turns::<G>(input_len, len, output_len);
-    let whole = len / (8 * G::SYMBOLS);
-    if !halves || whole >= count {
-        return (count, false);
-    }
-    (whole, true)
+    let lanes = Lanes { look_up: *look_up };
+    let count = count_turns::<G>(input.len(), len, output.len());
+    let read = decode_turns::<Lanes<L>, G>(&lanes, O::ORDER, count, input, output);
+    if read < len { read } else { len }
 }
 
 // How many turns of eight groups start before `len`, if the input and the output have them whole.

@@ -10,7 +10,7 @@ ghost use Rattle.data_encoding_kernel.specs.Tables.{HoldsValues, Reads};
 use crate::decode::{DECODE_LIMIT, Stop};
 use crate::encoding::{BitOrder, EncodingRef, IGNORED, INVALID, PADDING};
 use crate::error::DecodeKind;
-use data_encoding_kernel::decode::{decode_by_turns, decode_run, ends_in_half};
+use data_encoding_kernel::decode::{decode_by_turns, decode_run};
 use data_encoding_kernel::group_size::GroupSize;
 use data_encoding_kernel::lanes::look_up::LookUp;
 use data_encoding_kernel::order::ConstantOrder;
@@ -203,7 +203,7 @@ impl EncodingRef<'_> {
             }
             let most = input.len() - at.read - at.ignored;
             let next = self.decode_run_by_turns::<L, O, G>(
-                values, look_up, 0, most, false, at, input, output,
+                values, look_up, 0, most, at, input, output,
             );
             let len = (next.read - at.read).saturating_sub(at.ignored);
             if packs && is_short_run::<G>(values, len, next, input) {
@@ -214,11 +214,7 @@ impl EncodingRef<'_> {
             if len == 0 || at.ignored == 0 {
                 break;
             }
-            at = if ends_in_half::<G>(len) {
-                self.decode_runs_by_halves::<L, O, G>(values, look_up, len, at, input, output)
-            } else {
-                self.decode_runs_like::<L, O, G>(values, look_up, len, false, at, input, output)
-            };
+            at = self.decode_runs_like::<L, O, G>(values, look_up, len, at, input, output);
             if at.ignored == 0 {
                 break;
             }
@@ -227,43 +223,14 @@ impl EncodingRef<'_> {
         at
     }
 
-    // As `decode_runs_like`, with half a turn at the end of each run.
-    // Not inlined, so that other lengths keep their registers.
-    #[inline(never)]
-    fn decode_runs_by_halves<L: LookUp, O: ConstantOrder, G: GroupSize>(
-        &self,
-        values: &[u8; 256],
-        look_up: &L,
-        len: usize,
-        at: Reached,
-        input: &[u8],
-        output: &mut [u8],
-    ) -> Reached
-        requires reads { Reads self.now values.now G.WIDTH O.ORDER }
-        requires held { L.holds values.now look_up.now }
-        requires limit { length input.now ≤ DECODE_LIMIT }
-        requires exact { decoded_len self.now (length input.now) ≡ Ok (length output.old) }
-        requires so_far { HasDecodedTo self.now input.now at.read at.written false output.old }
-        requires front { IsIgnoredFront self.now (drop at.read input.now) at.ignored }
-        requires whole { len % G.SYMBOLS ≡ 0 }
-        requires few { len ≤ length input.now }
-        ensures so_far { HasDecodedTo self.now input.now result.read result.written false
-            output.new }
-        ensures front { IsIgnoredFront self.now (drop result.read input.now) result.ignored }
-        ensures further { at.read ≤ result.read }
-    {
-        self.decode_runs_like::<L, O, G>(values, look_up, len, true, at, input, output)
-    }
-
     // Decodes further runs of this length, as long as a byte is ignored where one would end, and
-    // one that ends before. With `halves`, half a turn may be the last of each.
+    // one that ends before.
     #[inline(always)]
     fn decode_runs_like<L: LookUp, O: ConstantOrder, G: GroupSize>(
         &self,
         values: &[u8; 256],
         look_up: &L,
         len: usize,
-        halves: bool,
         at: Reached,
         input: &[u8],
         output: &mut [u8],
@@ -287,9 +254,7 @@ impl EncodingRef<'_> {
             if end >= input.len() || entry_of(values, input[end]) != IGNORED {
                 break;
             }
-            at = self.decode_run_by_turns::<L, O, G>(
-                values, look_up, len, len, halves, at, input, output,
-            );
+            at = self.decode_run_by_turns::<L, O, G>(values, look_up, len, len, at, input, output);
             if at.read != end {
                 break;
             }
@@ -297,8 +262,7 @@ impl EncodingRef<'_> {
         at
     }
 
-    // Decodes a run by turns of eight groups, up to a length. It may have the length `len`. With
-    // `halves`, half a turn may be the last.
+    // Decodes a run by turns of eight groups, up to a length. It may have the length `len`.
     #[inline(always)]
     fn decode_run_by_turns<L: LookUp, O: ConstantOrder, G: GroupSize>(
         &self,
@@ -306,7 +270,6 @@ impl EncodingRef<'_> {
         look_up: &L,
         len: usize,
         most: usize,
-        halves: bool,
         at: Reached,
         input: &[u8],
         output: &mut [u8],
@@ -328,8 +291,7 @@ impl EncodingRef<'_> {
         ensures before { HasDecodedTo self.now input.now at.read at.written false output.new }
     {
         let rest = &input[at.read + at.ignored..];
-        let room = &mut output[at.written..];
-        let count = decode_by_turns::<L, O, G>(look_up, rest, most, halves, room);
+        let count = decode_by_turns::<L, O, G>(look_up, rest, most, &mut output[at.written..]);
         // The next position does not wait for the count if the run has that length.
         if count == len {
             return after_run::<G>(values, len, at, input);

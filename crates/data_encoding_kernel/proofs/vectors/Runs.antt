@@ -3,7 +3,7 @@ use Rattle.std.proofs.Common.{◌≡◌, ℕ, ◌<◌, true, [], ◌∷◌, code
 use Rattle.data_encoding_meaning.specs.text.Base.{meaning, is_symbol}
 use Rattle.data_encoding_meaning.specs.specification.Predefined.{base64_nopad_fields}
 use Rattle.std.specs.Prelude.{slice_index}
-use Rattle.data_encoding_kernel.specs.Runs.{HasHalf, IsLongest, IsRun}
+use Rattle.data_encoding_kernel.specs.Runs.{IsLongest, IsRun}
 use Rattle.data_encoding_meaning.specs.decoding.Decoding.{run_bytes}
 use Rattle.data_encoding_meaning.proofs.vectors.Examples.{built, Has}
 
@@ -27,10 +27,3 @@ longest_run :
     IsLongest base (codes "QUJDRE!=") 1 × IsLongest base (codes "QUJDRE") 1)
 longest_run =
     (λ before all. all 2 (lit< tt), λ before. absurd (omega (arith, before)))
-
--- two turns and a half of base64 take 80 symbols and 60 bytes
-half_turn : HasHalf 6 80 60 2
-half_turn = record { symbols = lit≤ tt; bytes = lit≤ tt }
-
-half_told : HasHalf 6 79 60 2 → ⊥
-half_told half = omega (arith, half.symbols)
