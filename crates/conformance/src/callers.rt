@@ -23,6 +23,7 @@ use std::alloc::{AllocError, Global};
 pub mod buffers;
 pub mod kept;
 pub mod keys;
+pub mod marked;
 pub mod names;
 pub mod referenced;
 pub mod runs;

@@ -1,6 +1,6 @@
 -- What a contract sees of an `Encoder`.
 use Rattle.std.specs.Prelude.{◌≡◌, ℕ, List, ◌++◌, Result, Ok, Err, OnOk, OnErr}
-use Rattle.std.specs.String.{string_bytes}
+use Rattle.std.specs.String.{string_bytes, string_capacity}
 use Rattle.std.specs.Borrow.{Fml, GName, RattleType, follows_so}
 use Rattle.std.specs.contracts.alloc.Global as global
 use Rattle.std.specs.contracts.impls.GlobalAllocator.TheImpl.{ghosts}
@@ -28,6 +28,10 @@ output_name encoder = encoder.output.ghost_name
 abbrev pub written : {E : Type 0} {by : Encodes.Ghosts E} → Encoder E by → List ℕ
 written encoder = string_bytes encoder.output.now
 
+-- the capacity of the text
+abbrev pub capacity : {E : Type 0} {by : Encodes.Ghosts E} → Encoder E by → ℕ
+capacity encoder = string_capacity encoder.output.now
+
 -- the bytes that do not fill a block yet
 abbrev pub held : {E : Type 0} {by : Encodes.Ghosts E} → Encoder E by → List ℕ
 held encoder = encoder.held.items
@@ -38,10 +42,11 @@ abbrev pub HasTaken : {E : Type 0} {by : Encodes.Ghosts E}
 HasTaken encoder before bytes =
     HasEncoded (base_of_encoder encoder) before bytes (written encoder) (held encoder)
 
--- The text, the bytes held and the encoding are as before.
+-- The text, its capacity, the bytes held and the encoding are as before.
 pub record IsUnchanged {E : Type 0} {by : Encodes.Ghosts E} (old new : Encoder E by)
     : Type 0 where
   pub written : written new ≡ written old
+  pub capacity : capacity new ≡ capacity old
   pub held : held new ≡ held old
   pub base : base_of_encoder new ≡ base_of_encoder old
   pub output : output_name new ≡ output_name old

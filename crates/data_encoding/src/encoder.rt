@@ -2,7 +2,7 @@
 
 ghost use Rattle.std.specs.Prelude.{◌≡◌, ℕ, ◌+◌, ◌<◌, ◌≤◌, List, [], ◌++◌, length, IfErr, IsOk, OnErr, OnOk};
 ghost use Rattle.std.specs.Borrow.{sem};
-ghost use Rattle.std.specs.String.{string_bytes};
+ghost use Rattle.std.specs.String.{string_bytes, string_capacity};
 ghost use Rattle.data_encoding_meaning.specs.text.Base.{Base};
 ghost use Rattle.data_encoding_meaning.specs.text.EncodedPieces.{HasEncoded};
 ghost use Rattle.data_encoding_meaning.specs.text.Lengths.{alignment};
@@ -89,6 +89,8 @@ impl EncodingRef<'_> {
         ensures short { length held.new.items < block_len }
         ensures held { OnErr result (held.new ≡ held.old) }
         ensures unchanged { OnErr result (string_bytes output.new ≡ string_bytes output.old) }
+        ensures capacity { OnErr result (string_capacity output.new
+            ≡ string_capacity output.old) }
         ensures no_block { length held.old.items + length input.now < block_len → IsOk result }
     {
         let missing = block_len - held.len();
@@ -119,6 +121,8 @@ impl EncodingRef<'_> {
             → HasEncoded self.now before bytes (string_bytes output.old) held.now
             → string_bytes output.new ≡ before ++ text_of self.now bytes) }
         ensures unchanged { OnErr result (string_bytes output.new ≡ string_bytes output.old) }
+        ensures capacity { OnErr result (string_capacity output.new
+            ≡ string_capacity output.old) }
         ensures empty { length held.now ≡ 0 → IsOk result }
     {
         self.append_in(held, output)
@@ -131,8 +135,8 @@ impl<'a, E: Encodes> Encoder<'a, E> {
     /// Takes a piece, of at most `ENCODE_LIMIT` bytes, and appends the text of the blocks that are
     /// then whole.
     ///
-    /// Returns an error only if memory runs out, and never if no block is whole. The text and the
-    /// bytes held are then unchanged.
+    /// Returns an error only if memory runs out, and never if no block is whole. The bytes and the
+    /// capacity of the text, and the bytes held, are then unchanged.
     pub fn append(&mut self, input: &[u8]) -> Result<(), AllocError>
         requires limit { length input.now ≤ ENCODE_LIMIT }
         ensures output { output_name self.new ≡ output_name self.old }
@@ -150,8 +154,8 @@ impl<'a, E: Encodes> Encoder<'a, E> {
 
     /// Appends the text of the bytes held, with padding, and with the separator if there are lines.
     ///
-    /// If memory runs out, which never happens if nothing is held, the encoder is returned, and it
-    /// and the text are unchanged.
+    /// If memory runs out, which never happens if nothing is held, the encoder is returned. It, and
+    /// the bytes and the capacity of the text, are unchanged.
     pub fn finalize(self) -> Result<(), Encoder<'a, E>>
         ensures* text { sem 𝓛 (Finalizes self.entry result) }
         ensures unchanged { IfErr result (λ encoder. IsUnchanged self.entry encoder) }

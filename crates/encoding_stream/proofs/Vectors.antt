@@ -1,7 +1,8 @@
 -- Worked rows for what streams and decoders have done.
-use Rattle.std.proofs.Common.{is_some, ◌∙◌, ◌≡◌, ℕ, ◌+◌, ◌≤◌, zero-add, Bool, true, false, List, [], ◌∷◌, ◌++◌, drop, map, codes, replicate, Option, Some, None, Result, Ok, Err, refl, zero, suc, sym, ap, subst, lit<, lit≤, arith, length, take}
+use Rattle.std.proofs.Common.{is_some, ◌∙◌, ◌≡◌, ℕ, ◌+◌, ◌≤◌, zero-add, Bool, true, false, List, [], ◌∷◌, ◌++◌, drop, map, codes, replicate, Option, Some, None, Result, Ok, Err, refl, zero, suc, sym, ap, subst, lit<, lit≤, arith, length, take, vec_capacity}
 use Rattle.std.proofs.lemmas.Bool.{false≢true}
 use Rattle.std.proofs.lemmas.Fmt.{decimal_digit}
+use Rattle.std.specs.declared.vec.Vec.{Vec}
 use Rattle.data_encoding.specs.declared.error.DecodeError.{DecodeError}
 use Rattle.data_encoding.specs.declared.error.DecodeKind.TheVariants.{Length, Symbol, Trailing, Padding}
 use Rattle.data_encoding.specs.declared.specification.meanings.Refusal.{Refusal}
@@ -24,7 +25,7 @@ use Rattle.encoding_stream.specs.declared.blocks.BufferEncoder.{BufferEncoder}
 use Rattle.encoding_stream.specs.declared.kept_data.KeptData.{KeptData}
 use Rattle.encoding_stream.specs.declared.pieces.Kept.{Kept}
 use Rattle.encoding_stream.specs.declared.watch.Watch.{Watch}
-use Rattle.encoding_stream.specs.Appending.{AppendsDecoded}
+use Rattle.encoding_stream.specs.Appending.{AppendsDecoded, IsAsBefore}
 use Rattle.encoding_stream.specs.Decoder.{base_of_decoder, decoder_len, FinishesWith, StandsAfter, AppendsFinished, AppendsPushed}
 use Rattle.encoding_stream.specs.Encoded.{EncodesAll, EncodesFront, ReadsMore, Succeeds, WritesText}
 use Rattle.encoding_stream.specs.Printed.{printed_stream_fault}
@@ -586,6 +587,14 @@ appended_told : (output : List ℕ)
     → AppendsDecoded (codes "Hel") (codes "Hello") (codes "> ") output → output ≡ codes "> lo"
 appended_told output done =
     done.appended ∙ ap (λ bytes. codes "> " ++ bytes) (sym (ap (drop 3) done.decoded))
+
+-- an output is as it was, with the same bytes and the same capacity
+as_before : {A : Type 0} (output : Vec ℕ A) → IsAsBefore output output
+as_before output = record { items = refl; capacity = refl }
+
+as_before_told : {A : Type 0} (old new : Vec ℕ A) → IsAsBefore old new
+    → (new.items ≡ old.items) × (vec_capacity new ≡ vec_capacity old)
+as_before_told old new same = (same.items, same.capacity)
 
 -- no whole block is held
 written_told :

@@ -3,6 +3,7 @@
 ghost use Rattle.std.specs.Prelude.{◌≡◌, ℕ, ◌+◌, ◌<◌, ◌≤◌, ◌⊎◌, List, length, vec_capacity, vec_len, IsOk, OnErr, OnOk};
 ghost use Rattle.data_encoding.specs.declared.decode.TheConstants.{DECODE_LIMIT};
 ghost use Rattle.encoding_stream.specs.declared.append.TheConstants.{CHUNK};
+ghost use Rattle.encoding_stream.specs.Appending.{IsAsBefore};
 ghost use Rattle.encoding_stream.specs.Pieces.{base_of_pieces, most_completed, Keeps};
 ghost use Rattle.encoding_stream.specs.Reading.{AppendsPiece, CompletesNothing};
 
@@ -36,6 +37,7 @@ pub(crate) fn append_piece<A: Allocator + Copy>(
     ensures appends { OnOk result (AppendsPiece (base_of_pieces pieces.old) pieces.old.kept
         pieces.new.kept piece.now output.old.items output.new.items) }
     ensures unchanged { OnErr result (output.new.items ≡ output.old.items) }
+    ensures capacity { OnErr result (vec_capacity output.new ≡ vec_capacity output.old) }
     ensures room { vec_len output.old + most_completed (base_of_pieces pieces.old)
         pieces.old.kept (length piece.now) ≤ vec_capacity output.old → IsOk result }
     ensures no_group { (text : List ℕ)
@@ -59,6 +61,7 @@ fn append_chunks<A: Allocator + Copy>(
     ensures appends { OnOk result (AppendsPiece (base_of_pieces pieces.old) pieces.old.kept
         pieces.new.kept piece.now output.old.items output.new.items) }
     ensures unchanged { OnErr result (output.new.items ≡ output.old.items) }
+    ensures capacity { OnErr result (vec_capacity output.new ≡ vec_capacity output.old) }
     ensures room { vec_len output.old + most_completed (base_of_pieces pieces.old)
         pieces.old.kept (length piece.now) ≤ vec_capacity output.old → IsOk result }
     ensures no_group { (text : List ℕ)
@@ -89,13 +92,14 @@ fn append_chunk<A: Allocator + Copy>(
     ensures appends { OnOk result (AppendsPiece (base_of_pieces pieces.old) pieces.old.kept
         pieces.new.kept chunk.now output.old.items output.new.items) }
     ensures unchanged { OnErr result (output.new.items ≡ output.old.items) }
+    ensures capacity { OnErr result (vec_capacity output.new ≡ vec_capacity output.old) }
     ensures room { vec_len output.old + most_completed (base_of_pieces pieces.old)
         pieces.old.kept (length chunk.now + rest) ≤ vec_capacity output.old → IsOk result }
     ensures rest { OnOk result ((vec_len output.old + most_completed (base_of_pieces pieces.old)
         pieces.old.kept (length chunk.now + rest) ≤ vec_capacity output.old)
         → vec_len output.new + most_completed (base_of_pieces pieces.old) pieces.new.kept rest
         ≤ vec_capacity output.new) }
-    ensures grows { OnOk result ((output.new.items ≡ output.old.items)
+    ensures grows { OnOk result (IsAsBefore output.old output.new
         ⊎ (0 < rest → vec_len output.new + most_completed (base_of_pieces pieces.old)
         pieces.new.kept rest ≤ vec_capacity output.new)) }
     ensures no_group { (text : List ℕ)
@@ -147,13 +151,14 @@ fn append_copied<A: Allocator + Copy, const N: usize>(
     ensures appends { OnOk result (AppendsPiece (base_of_pieces pieces.old) pieces.old.kept
         pieces.new.kept piece.now output.old.items output.new.items) }
     ensures unchanged { OnErr result (output.new.items ≡ output.old.items) }
+    ensures capacity { OnErr result (vec_capacity output.new ≡ vec_capacity output.old) }
     ensures room { vec_len output.old + most_completed (base_of_pieces pieces.old)
         pieces.old.kept (length piece.now + rest) ≤ vec_capacity output.old → IsOk result }
     ensures rest { OnOk result ((vec_len output.old + most_completed (base_of_pieces pieces.old)
         pieces.old.kept (length piece.now + rest) ≤ vec_capacity output.old)
         → vec_len output.new + most_completed (base_of_pieces pieces.old) pieces.new.kept rest
         ≤ vec_capacity output.new) }
-    ensures grows { OnOk result ((output.new.items ≡ output.old.items)
+    ensures grows { OnOk result (IsAsBefore output.old output.new
         ⊎ (0 < rest → vec_len output.new + most_completed (base_of_pieces pieces.old)
         pieces.new.kept rest ≤ vec_capacity output.new)) }
     ensures no_group { (text : List ℕ)
@@ -165,8 +170,8 @@ fn append_copied<A: Allocator + Copy, const N: usize>(
     if written == 0 {
         return Ok(());
     }
-    if rest > 0 {
-        output.reserve(written + pieces.most(rest))?;
-    }
-    output.extend_from_slice(&buffer[..written])
+    let more = if rest > 0 { pieces.most(rest) } else { 0 };
+    output.reserve(written + more)?;
+    output.extend_from_slice(&buffer[..written]).unwrap();
+    Ok(())
 }

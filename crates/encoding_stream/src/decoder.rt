@@ -1,6 +1,6 @@
 //! Text that comes in pieces, decoded as it comes.
 
-ghost use Rattle.std.specs.Prelude.{◌≡◌, ℕ, ◌+◌, ◌≤◌, List, ◌++◌, length, IfOk, IsOk, OnErr, OnOk};
+ghost use Rattle.std.specs.Prelude.{◌≡◌, ℕ, ◌+◌, ◌≤◌, List, ◌++◌, length, vec_capacity, IfOk, IsOk, OnErr, OnOk};
 ghost use Rattle.data_encoding.specs.declared.decode.TheConstants.{DECODE_LIMIT};
 ghost use Rattle.encoding_stream.specs.Pieces.{base_of_pieces, Keeps};
 ghost use Rattle.encoding_stream.specs.Reading.{AppendsLast, HasNoLastBytes, HasVerdict};
@@ -28,7 +28,7 @@ pub struct Finished {
 }
 
 impl<'a> Decoder<'a> {
-    ghost use Rattle.std.specs.Prelude.{◌≡◌, ℕ, ◌+◌, ◌≤◌, List, [], ◌++◌, length, IfErr, IfOk, IsOk, OnErr, OnOk};
+    ghost use Rattle.std.specs.Prelude.{◌≡◌, ℕ, ◌+◌, ◌≤◌, List, [], ◌++◌, length, vec_capacity, IfErr, IfOk, IsOk, OnErr, OnOk};
     ghost use Rattle.data_encoding.specs.Fields.{IsSpecified};
     ghost use Rattle.data_encoding.specs.Pieces.{whole_bytes};
     ghost use Rattle.encoding_stream.specs.Decoder.{base_of_decoder, decoder_len, AppendsFinished, AppendsPushed, FinishesWith, StandsAfter};
@@ -59,7 +59,7 @@ impl<'a> Decoder<'a> {
     /// pieces. Together with the piece, the text has at most `DECODE_LIMIT` bytes.
     ///
     /// Returns an error only if memory runs out, and never if no byte is to be appended. The
-    /// decoder and the output are then unchanged.
+    /// decoder, and the bytes and the capacity of the output, are then unchanged.
     pub fn push(&mut self, piece: &[u8], output: &mut Vec<u8>) -> Result<(), AllocError>
         requires limit { decoder_len self.old + length piece.now ≤ DECODE_LIMIT }
         ensures base { base_of_decoder self.new ≡ base_of_decoder self.old }
@@ -71,6 +71,7 @@ impl<'a> Decoder<'a> {
             output.new.items) }
         ensures unchanged { OnErr result ((self.new ≡ self.old)
             × (output.new.items ≡ output.old.items)) }
+        ensures capacity { OnErr result (vec_capacity output.new ≡ vec_capacity output.old) }
         ensures no_group { (text : List ℕ) → StandsAfter self.old text
             → CompletesNothing (base_of_decoder self.old) text piece.now → IsOk result }
     {
@@ -88,13 +89,14 @@ impl<'a> Decoder<'a> {
     /// fault, and returns the verdict on the whole text.
     ///
     /// If memory runs out, which never happens if no byte is to be appended, the decoder is
-    /// returned, and it and the output are unchanged.
+    /// returned. It, and the bytes and the capacity of the output, are unchanged.
     pub fn finish(self, output: &mut Vec<u8>) -> Result<Finished, Decoder<'a>>
         ensures verdict { IfOk result (λ finished. FinishesWith self.entry finished.verdict) }
         ensures appends { OnOk result (AppendsFinished self.entry output.old.items
             output.new.items) }
         ensures unchanged { IfErr result (λ decoder. (decoder ≡ self.entry)
             × (output.new.items ≡ output.old.items)) }
+        ensures capacity { OnErr result (vec_capacity output.new ≡ vec_capacity output.old) }
         ensures no_bytes { (text : List ℕ) → StandsAfter self.entry text
             → HasNoLastBytes (base_of_decoder self.entry) text → IsOk result }
     {
@@ -115,6 +117,7 @@ fn append_last<A: Allocator + Copy>(
     ensures appends { OnOk result (AppendsLast (base_of_pieces pieces.now) pieces.now.kept
         output.old.items output.new.items) }
     ensures unchanged { OnErr result (output.new.items ≡ output.old.items) }
+    ensures capacity { OnErr result (vec_capacity output.new ≡ vec_capacity output.old) }
     ensures no_bytes { (text : List ℕ)
         → Keeps (base_of_pieces pieces.now) pieces.now.kept text
         → HasNoLastBytes (base_of_pieces pieces.now) text → IsOk result }
@@ -122,7 +125,8 @@ fn append_last<A: Allocator + Copy>(
     let mut bytes = [0; 8];
     let (count, verdict) = pieces.finish(&mut bytes);
     if count > 0 {
-        output.extend_from_slice(&bytes[..count])?;
+        output.reserve(count)?;
+        output.extend_from_slice(&bytes[..count]).unwrap();
     }
     Ok(verdict)
 }

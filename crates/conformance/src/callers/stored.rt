@@ -1,12 +1,12 @@
 //! Encodings that are stored as bytes, and texts that are appended to another.
 
-ghost use Rattle.std.specs.Prelude.{◌≡◌, ◌↔◌, ◌≤◌, ℕ, List, ◌++◌, length, ⊤, Some, IsOk, IsTrue, OnErr, OnOk};
+ghost use Rattle.std.specs.Prelude.{◌≡◌, ◌↔◌, ◌≤◌, ℕ, List, ◌++◌, length, ⊤, Some, IfErr, IsOk, IsTrue, OnErr, OnOk};
 ghost use Rattle.std.specs.Borrow.{follows_so, sem};
 ghost use Rattle.std.specs.contracts.alloc.Global.{the_row as global_row};
 ghost use Rattle.std.specs.contracts.impls.GlobalAllocator.TheImpl.{ghosts};
 ghost use Rattle.std.specs.contracts.string.String.{the_row as string_row};
 ghost use Rattle.std.specs.String.{string_bytes};
-ghost use Rattle.data_encoding.specs.Encoder.{HasTaken, base_of_encoder, name_handed_back, output_name};
+ghost use Rattle.data_encoding.specs.Encoder.{HasTaken, base_of_encoder, capacity, name_handed_back, output_name};
 ghost use Rattle.data_encoding.specs.OneLayout.{IsLayout};
 ghost use Rattle.data_encoding.specs.Text.{text_of};
 
@@ -67,6 +67,7 @@ fn append_again(encoder: &mut Encoder, input: &[u8]) -> Result<(), AllocError>
         → HasTaken encoder.new before (bytes ++ input.now)) }
     ensures kept { OnErr result ((before bytes : List ℕ) → HasTaken encoder.old before bytes
         → HasTaken encoder.new before bytes) }
+    ensures capacity { OnErr result (capacity encoder.new ≡ capacity encoder.old) }
 {
     if encoder.append(input).is_ok() {
         return Ok(());
@@ -101,11 +102,13 @@ pub fn encoded_at_second_try(
     }
 }
 
-/// Finalizes. If memory runs out, the text is as the returned encoder leaves it.
+/// Finalizes. If memory runs out, the text is as the returned encoder leaves it, and that has the
+/// same capacity.
 pub fn finalized<'a, E: Encodes>(encoder: Encoder<'a, E>) -> Result<(), Encoder<'a, E>>
-    ensures* { sem 𝓛 (follows_so (string_row global_row ghosts) (string_row global_row ghosts)
+    ensures* text { sem 𝓛 (follows_so (string_row global_row ghosts) (string_row global_row ghosts)
         (output_name encoder.entry) (name_handed_back result)
         (λ last now. OnErr result (now ≡ last)) (λ _. ⊤)) }
+    ensures capacity { IfErr result (λ returned. capacity returned ≡ capacity encoder.entry) }
 {
     encoder.finalize()
 }

@@ -1,11 +1,13 @@
 //! Encodings that are stored as bytes, and texts that are appended to another.
 
 use conformance::callers::buffers::encode_and_log;
+use conformance::callers::marked::{finish_or_mark, push_or_mark};
 use conformance::callers::stored::{
     encoded_at_second_try, finalized, is_stored_alike, restored, show_nothing, stands_for_some,
     write_at_end,
 };
 use data_encoding::{Encoding, base32, base64, base64_mime, hexlower};
+use encoding_stream::Decoder;
 use std::alloc::Global;
 use std::fmt;
 use std::test::Fail;
@@ -70,6 +72,18 @@ fn is_logged(alloc: Global) -> Result<bool, Fail> {
     Ok(log.as_str() == "log: 6869" && output.as_slice() == "6869".as_bytes())
 }
 
+// Whether a text is decoded to an output that has room for one byte: memory is there, and no mark is
+// appended.
+fn is_decoded_unmarked(alloc: Global) -> Result<bool, Fail> {
+    let encoding = base64();
+    let mut decoder = Decoder::new(&encoding);
+    let mut output = Vec::with_capacity(alloc, 1)?;
+    let is_pushed = push_or_mark(&mut decoder, b"SGVs", b'?', &mut output);
+    output.reserve(1)?;
+    let finished = finish_or_mark(decoder, b'?', &mut output);
+    Ok(is_pushed && finished.is_some() && output.as_slice() == b"Hel".as_slice())
+}
+
 // Whether no data is displayed by a writer that fails at each call, and data is not.
 fn shows_no_data() -> bool {
     let mut plain = fmt::Formatter::new(Refusing {});
@@ -82,6 +96,7 @@ fn shows_no_data() -> bool {
 fn callers_append_and_show(rt: HostRuntime) -> Result<(), Fail> {
     assert!(rt; grows(rt.alloc())?);
     assert!(rt; is_logged(rt.alloc())?);
+    assert!(rt; is_decoded_unmarked(rt.alloc())?);
     assert!(rt; shows_no_data());
     Ok(())
 }

@@ -7,7 +7,7 @@ use Rattle.data_encoding_meaning.specs.text.Text.{text_of}
 use Rattle.data_encoding.specs.declared.encoder.Encoder.{Encoder}
 use Rattle.data_encoding.specs.declared.encoder.Encodes
 use Rattle.data_encoding_meaning.specs.text.EncodedPieces.{HasEncoded}
-use Rattle.data_encoding.specs.Encoder.{base_of_encoder, output_name, written, held, HasTaken, IsUnchanged, name_handed_back}
+use Rattle.data_encoding.specs.Encoder.{base_of_encoder, output_name, written, capacity, held, HasTaken, IsUnchanged, name_handed_back}
 use Rattle.data_encoding.specs.declared.write.Display.{Display}
 use Rattle.data_encoding.specs.Shown.{shown_data, shown_text}
 use Rattle.data_encoding_meaning.proofs.vectors.Examples.{bytes, Has}
@@ -46,13 +46,14 @@ encoder_handed_back : {E : Type 0} {by : Encodes.Ghosts E} (encoder : Encoder E 
     × (name_handed_back (Err encoder) ≡ maybe.some (output_name encoder))
     × (name_handed_back {E = E} {by = by} (Ok _) ≡ maybe.none)
 encoder_handed_back {E} {by} encoder =
-    (record { written = refl; held = refl; base = refl; output = refl }, refl, refl)
+    (record { written = refl; capacity = refl; held = refl; base = refl; output = refl }, refl, refl)
 
--- one that is unchanged has taken the same bytes, and appends to the same text
+-- one that is unchanged has taken the same bytes, and appends to the same text, of the same
+-- capacity
 encoder_unchanged : {E : Type 0} {by : Encodes.Ghosts E} (old new : Encoder E by)
     → IsUnchanged old new → ((before bytes : List ℕ)
     → HasTaken old before bytes → HasTaken new before bytes)
-    × (output_name new ≡ output_name old)
+    × (output_name new ≡ output_name old) × (capacity new ≡ capacity old)
 encoder_unchanged old new same = (
   λ before bytes has.
       subst (λ base. HasEncoded base before bytes (written new) (held new)) (sym same.base)
@@ -61,6 +62,7 @@ encoder_unchanged old new same = (
       (subst (λ rest. HasEncoded (base_of_encoder old) before bytes (written old) rest)
       (sym same.held) has)),
   same.output,
+  same.capacity,
 )
 
 -- less than a block is held

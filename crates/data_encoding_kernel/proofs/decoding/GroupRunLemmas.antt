@@ -1,13 +1,12 @@
 -- Groups of symbols that are decoded together.
-use Rattle.std.proofs.Common.{◌≡◌, ℕ, zero, suc, ◌+◌, ◌*◌, ◌/◌, ◌%◌, ◌^◌, ◌<◌, ◌≤◌, List, [], ◌∷◌, ◌++◌, length, length-take-le, map, take, drop, slice_index, refl, sym, ap, ◌∙◌, subst, arith, flat_map}
+use Rattle.std.proofs.Common.{◌≡◌, ℕ, zero, suc, ◌+◌, ◌*◌, ◌/◌, ◌^◌, ◌<◌, ◌≤◌, List, [], ◌∷◌, ◌++◌, length, length-take-le, map, take, drop, slice_index, refl, sym, ap, ◌∙◌, arith, flat_map}
 use Rattle.std.proofs.lemmas.List.{drop-map, ext_get_or, get_or-drop, get_or-map, get_or-take, length-drop, length-map, nil_from_length, take-map, take_all}
 use Rattle.std.proofs.lemmas.List.Elements.{All-from_get_or, recursion_from_All}
 use Rattle.std.proofs.lemmas.List.FromFn.{length-map-range_with_len}
-use Rattle.std.proofs.Math.Nat.{zero-mul, div-lt_iff_lt-mul, mul-le-mul_right}
+use Rattle.std.proofs.Math.Nat.{zero-mul, mul-le-mul_right}
 use Rattle.std.proofs.Math.Seq.{take-append-add}
 use Rattle.std.specs.List.{AllByRecursion, range_with_len}
 use Rattle.std.specs.Simd.{first_chunks}
-use Rattle.std.specs.Simd.Lanes.{put_chunk}
 use Rattle.data_encoding_meaning.specs.declared.encoding.Character.{Character}
 use Rattle.data_encoding_meaning.specs.declared.encoding.BitOrder.{BitOrder}
 use Rattle.data_encoding_meaning.specs.text.Base.{Base, IsWidth, group_bytes, group_symbols, is_symbol, meaning, IsGroup}
@@ -17,13 +16,11 @@ use Rattle.data_encoding_kernel.specs.Values.{AreEntries, AreValues}
 use Rattle.data_encoding_meaning.specs.decoding.Fault.{symbol_bytes}
 use Rattle.data_encoding_kernel.specs.Tables.{Reads}
 use Rattle.data_encoding_kernel.specs.Words.{digit, word_of}
-use Rattle.data_encoding_kernel.proofs.digits.GatherStoreLemmas.{bytes_of_words, stored-ones}
+use Rattle.data_encoding_kernel.proofs.digits.GatherStoreLemmas.{bytes_of_words}
 use Rattle.data_encoding_kernel.proofs.digits.FrontWordLemmas.{groups-front}
-use Rattle.data_encoding_kernel.proofs.digits.GatherWordLemmas.{length-words}
 use Rattle.data_encoding_kernel.proofs.digits.KernelLemmas.{symbol_bytes-word}
 use Rattle.data_encoding_kernel.proofs.decoding.SymbolRunLemmas.{few-groups, run-front}
-use Rattle.data_encoding_meaning.proofs.digits.WidthLemmas.{by_width, symbols-few}
-use Rattle.data_encoding_meaning.proofs.lists.EachLemmas.{all-at, all_weaker}
+use Rattle.data_encoding_meaning.proofs.digits.WidthLemmas.{by_width}
 use Rattle.data_encoding_meaning.proofs.decoding.GroupJudgementLemmas.{part_bytes}
 use Rattle.data_encoding_meaning.proofs.lists.PartLemmas.{IsWhole, IsWhole-group, groups-within}
 use Rattle.data_encoding_meaning.proofs.lists.RunLemmas.{runs-first, runs-nil}
@@ -117,8 +114,13 @@ module _ (total : ℕ) {width number : ℕ} (is : IsWidth width) (some : 0 < num
   entry-found : (j : ℕ) → j < found
       → slice_index entries j ≡ slice_index values (slice_index input j)
   entry-found j h =
-      are j (omega (arith, h, few, long,
-      length-take-le (total * number) input (omega (arith, long))))
+      are j (omega (
+        arith,
+        h,
+        few,
+        long,
+        length-take-le (total * number) input (omega (arith, long)),
+      ))
       (below j h)
       ∙ ap (slice_index values) (get_or-take (total * number) input j 0 (omega (arith, h, few)))
 

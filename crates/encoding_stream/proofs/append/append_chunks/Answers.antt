@@ -17,7 +17,7 @@ loop-read-init g c =
       room =
           subst (λ n. vec_len c.args.output.now + most_completed base c.args.pieces.now.kept n
           ≤ vec_capacity c.args.output.now) whole;
-      grown = inl refl;
+      grown = inl (record { items = refl; capacity = refl });
     }
 
 pub returns-in_err-append_chunk-clause-no_group : goal.returns-in_err-append_chunk-clause-no_group
@@ -41,7 +41,21 @@ pub returns-in_err-append_chunk-clause-unchanged :
 returns-in_err-append_chunk-clause-unchanged g c =
     let now = c.loop-read.invariant in
     where_err c.from_residual.result
-    (⊎_elim (λ same. c.in_err-append_chunk.ensures.unchanged ∙ same)
+    (⊎_elim (λ same. c.in_err-append_chunk.ensures.unchanged ∙ same.items)
+    (λ room. absurd (false≢true
+    (c.in_err-append_chunk.ensures.room
+    (room-both c.loop-read.pieces.kept c.args.piece.now c.loop-read.read c.min-end.result
+    (vec_len c.loop-read.output) (vec_capacity c.loop-read.output) now.base
+    (omega (arith, c.min-end.ensures, now.within)) (omega (arith, c.min-end.ensures))
+    (room c.loop-read-test.true)))))
+    now.grown)
+
+pub returns-in_err-append_chunk-clause-capacity :
+    goal.returns-in_err-append_chunk-clause-capacity
+returns-in_err-append_chunk-clause-capacity g c =
+    let now = c.loop-read.invariant in
+    where_err c.from_residual.result
+    (⊎_elim (λ same. c.in_err-append_chunk.ensures.capacity ∙ same.capacity)
     (λ room. absurd (false≢true
     (c.in_err-append_chunk.ensures.room
     (room-both c.loop-read.pieces.kept c.args.piece.now c.loop-read.read c.min-end.result
@@ -84,7 +98,11 @@ loop-read-preserved g c =
       room = λ room. rw now.base at (c.in_ok-append_chunk.ensures.rest (here (now.room room)));
       grown =
           ⊎_elim
-          (λ same. ⊎_elim (λ none. inl (none ∙ same))
+          (λ same. ⊎_elim
+          (λ none. inl (record {
+            items = none.items ∙ same.items;
+            capacity = none.capacity ∙ same.capacity;
+          }))
           (λ room. inr (λ more. room (omega (arith, more)))) grows)
           (λ room. inr (λ _.
           rw now.base at

@@ -1,4 +1,5 @@
 use Rattle.std.proofs.Common.{◌≡◌, ◌+◌, ◌-◌, ◌<◌, ◌≤◌, ◌⊎◌, length, take, vec_capacity, vec_len}
+use Rattle.encoding_stream.specs.Appending.{IsAsBefore}
 use Rattle.encoding_stream.specs.Pieces.{base_of_pieces, most_completed}
 use Rattle.encoding_stream.specs.Reading.{AppendsPiece}
 use Rattle.encoding_stream.proofs.append.append_chunks.Given as goal
@@ -13,7 +14,7 @@ invariant-loop-read g l = record {
       l.initial.pieces.kept (length l.piece) ≤ vec_capacity l.initial.output
       → vec_len l.output + most_completed (base_of_pieces l.initial.pieces) l.pieces.kept
       (length l.piece - l.read) ≤ vec_capacity l.output;
-  grown : (l.output.items ≡ l.initial.output.items)
+  grown : IsAsBefore l.initial.output l.output
       ⊎ (l.read < length l.piece → vec_len l.output
       + most_completed (base_of_pieces l.initial.pieces) l.pieces.kept (length l.piece - l.read)
       ≤ vec_capacity l.output);

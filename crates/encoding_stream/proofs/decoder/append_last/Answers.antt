@@ -3,9 +3,9 @@ use Rattle.data_encoding.specs.Pieces.{whole_bytes}
 use Rattle.encoding_stream.specs.Pieces.{base_of_pieces}
 use Rattle.encoding_stream.proofs.decoder.append_last.Goals as goal
 
-pub returns-in_err-extend_from_slice-clause-no_bytes :
-    goal.returns-in_err-extend_from_slice-clause-no_bytes
-returns-in_err-extend_from_slice-clause-no_bytes g c = λ text is none.
+pub returns-in_err-reserve-clause-no_bytes :
+    goal.returns-in_err-reserve-clause-no_bytes
+returns-in_err-reserve-clause-no_bytes g c = λ text is none.
     let whole = whole_bytes (base_of_pieces c.args.pieces.now) text in
     let bytes = take c.finish-count.result.0 c.finish-count.new.output in
     let within : c.finish-count.result.0 ≤ length c.finish-count.new.output =
