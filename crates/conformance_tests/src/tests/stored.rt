@@ -72,8 +72,8 @@ fn is_logged(alloc: Global) -> Result<bool, Fail> {
     Ok(log.as_str() == "log: 6869" && output.as_slice() == "6869".as_bytes())
 }
 
-// Whether a text is decoded to an output that has room for one byte: memory is there, and no mark is
-// appended.
+// Whether a text is decoded to an output that has room for one byte: memory is there, and no mark
+// is appended.
 fn is_decoded_unmarked(alloc: Global) -> Result<bool, Fail> {
     let encoding = base64();
     let mut decoder = Decoder::new(&encoding);

@@ -45,8 +45,11 @@ encoder_handed_back : {E : Type 0} {by : Encodes.Ghosts E} (encoder : Encoder E 
     → IsUnchanged encoder encoder
     × (name_handed_back (Err encoder) ≡ maybe.some (output_name encoder))
     × (name_handed_back {E = E} {by = by} (Ok _) ≡ maybe.none)
-encoder_handed_back {E} {by} encoder =
-    (record { written = refl; capacity = refl; held = refl; base = refl; output = refl }, refl, refl)
+encoder_handed_back {E} {by} encoder = (
+  record { written = refl; capacity = refl; held = refl; base = refl; output = refl },
+  refl,
+  refl,
+)
 
 -- one that is unchanged has taken the same bytes, and appends to the same text, of the same
 -- capacity

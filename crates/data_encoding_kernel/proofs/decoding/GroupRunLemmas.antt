@@ -178,8 +178,8 @@ module _ (total : ℕ) {width number : ℕ} (is : IsWidth width) (some : 0 < num
       ∙ groups-front number groups (map (slice_index values) input))
 
 -- the same for a look-up, with the sizes under other names
-pub words-found : (total : ℕ) {width number read count : ℕ} → IsWidth width → 0 < number → read ≡ width
-    → number ≡ count → (holds : List ℕ → Type 0) (order : BitOrder)
+pub words-found : (total : ℕ) {width number read count : ℕ} → IsWidth width → 0 < number
+    → read ≡ width → number ≡ count → (holds : List ℕ → Type 0) (order : BitOrder)
     (input entries made : List ℕ) (found : ℕ) → length input ≡ total * number
     → ((j : ℕ) → slice_index input j < 256) → length entries ≡ total * count → found ≤ total * count
     → ((j : ℕ) → j < found → slice_index entries j < 128)
@@ -194,13 +194,14 @@ pub words-found : (total : ℕ) {width number read count : ℕ} → IsWidth widt
       symbols : (values : List ℕ) → holds values → (j : ℕ) → j < found
           → slice_index values (slice_index input j) < 128;
     }
-words-found total {width} {number} is some same many holds order input entries made found long fits =
+words-found total {width} {number} is some same many holds order input entries made found long
+    fits =
     rw (same, ← many) (λ lanes few below look are.
     record {
       few = few;
       words = λ values held own.
-          found-words total is some values input entries found long lanes few below (look values held)
-          own fits order made are;
+          found-words total is some values input entries found long lanes few below
+          (look values held) own fits order made are;
       symbols = λ values held.
           found-symbols total is some values input entries found long lanes few below
           (look values held);
@@ -219,16 +220,16 @@ bytes-front show size (suc count) (one ∷ made) each =
     ∙ ap (λ l. show one ++ l) (bytes-front show size count made each))
 
 -- groups of symbols before the first byte that is none are a run
-pub found-run : (total : ℕ) (base : Base) (values : List ℕ) (width bytes symbols : ℕ) (order : BitOrder)
-    → IsGroup width bytes symbols → Reads base values width order
+pub found-run : (total : ℕ) (base : Base) (values : List ℕ) (width bytes symbols : ℕ)
+    (order : BitOrder) → IsGroup width bytes symbols → Reads base values width order
     → (input old new words : List ℕ) (found : ℕ) → length input ≡ total * symbols
     → length new ≡ total * bytes → ((j : ℕ) → slice_index input j < 256) → found ≤ total * symbols
     → ((j : ℕ) → j < found → slice_index values (slice_index input j) < 128)
     → take (found / symbols) words ≡ map (word_of order width symbols)
     (first_chunks symbols (found / symbols) (map (slice_index values) input))
     → new ≡ bytes_of_words order bytes words → IsRun base input (found / symbols) old new
-found-run total base values width bytes symbols order group reads input old new words found long exact
-    fits few low words_are stored =
+found-run total base values width bytes symbols order group reads input old new words found long
+    exact fits few low words_are stored =
     let whole = IsWhole-group width bytes symbols group in
     let count = found / symbols in
     let read = count * symbols in
