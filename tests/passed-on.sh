@@ -28,7 +28,7 @@ asked() {
             grep -vE ': ?(pub(\(crate\))? )?fn |try_extend_from_slice|u8x[0-9]+::from_slice'
         code "$1" '^ *let (mut )?(blocks_)?len\b' |
             grep -E '^data_encoding/src/(encode/append|encoder|decode).rt:'
-        code "$1" '^ *let (mut )?\(?(count|read|rest|written)\b' |
+        code "$1" '^ *let (mut )?\(?(count|more|read|rest|written)\b' |
             grep -E '^encoding_stream/src/(append|decoder).rt:'
         code "$1" 'append_(chunk|copied)\b.*\(pieces, ' | grep '^encoding_stream/src/append.rt:'
     } | sed -E 's/: +/:/'
@@ -51,9 +51,10 @@ data_encoding/src/specification.rt:from: self.from.clone()?,
 data_encoding/src/specification.rt:to: self.to.clone()?,
 data_encoding/src/specification.rt:separator: self.separator.clone()?,
 encoding_stream/src/append.rt:output.resize(start + pieces.most(piece.len()), 0).unwrap();
-encoding_stream/src/append.rt:output.reserve(written + pieces.most(rest))?;
-encoding_stream/src/append.rt:output.extend_from_slice(&buffer[..written])
-encoding_stream/src/decoder.rt:output.extend_from_slice(&bytes[..count])?;
+encoding_stream/src/append.rt:output.reserve(written + more)?;
+encoding_stream/src/append.rt:output.extend_from_slice(&buffer[..written]).unwrap();
+encoding_stream/src/decoder.rt:output.reserve(count)?;
+encoding_stream/src/decoder.rt:output.extend_from_slice(&bytes[..count]).unwrap();
 data_encoding/src/decode.rt:let len = self.decode_len(input.len())?;
 data_encoding/src/decode.rt:let len = self.greatest_valid_length(rest.len());
 data_encoding/src/encode/append.rt:let len = self.encode_len(input.len());
@@ -62,6 +63,7 @@ data_encoding/src/encoder.rt:let blocks_len = self.encode_len(blocks.len());
 encoding_stream/src/append.rt:let mut read = 0;
 encoding_stream/src/append.rt:let written = pieces.read(piece, &mut output[start..]);
 encoding_stream/src/append.rt:let written = pieces.read(piece, &mut buffer);
+encoding_stream/src/append.rt:let more = if rest > 0 { pieces.most(rest) } else { 0 };
 encoding_stream/src/decoder.rt:let (count, verdict) = pieces.finish(&mut bytes);
 encoding_stream/src/append.rt:return append_copied::<A, SHORT_ROOM>(pieces, piece, 0, output);
 encoding_stream/src/append.rt:append_chunk(pieces, &piece[read..end], piece.len() - end, output)?;
