@@ -99,13 +99,15 @@ enum {
     DE_SHORT_BUFFER = 4,
 
     /* The text has a fault: no text has its length; a byte is no symbol; bits left after the last
-     * byte are not zeros; the number of padding characters is wrong. */
+     * byte are not zeros; the number of padding characters is wrong, or a group follows a padded
+     * one though texts may not be concatenated. */
     DE_INVALID_LENGTH = 6,
     DE_INVALID_SYMBOL = 7,
     DE_INVALID_TRAILING_BITS = 8,
     DE_INVALID_PADDING = 9,
 
-    /* A specification is refused, by de_encoding_new only. These are judged in this order: */
+    /* A specification is refused, by de_encoding_new only. These are judged in this order, but
+     * DE_NOT_ASCII and DE_DUPLICATE at each byte as it is given a meaning: */
 
     /* The number of symbols is not 2, 4, 8, 16, 32 or 64. */
     DE_SYMBOL_COUNT = 10,
