@@ -158,20 +158,21 @@ pub fn decode_sixteen<L: LookUp, G: GroupSize>(
     ensures run { (values : List ℕ) → L.holds values look_up.now
         → IsRunBy values G.WIDTH order input.now (result / G.SYMBOLS) output.old output.new }
 {
-    let width = G::WIDTH;
-    match G::SYMBOLS {
-        2 => decode_eight::<L, G>(look_up, order, input, output),
-        4 => {
-            let entries = look_up.look_up_16(u8x16::from_slice(input));
-            let words = words_of_sixteen_by_four(order, width, entries);
-            store_four::<G>(order, words, output);
-            count_below(128, entries)
-        }
-        _ => {
-            let entries = look_up.look_up_16(u8x16::from_slice(input));
-            let words = words_of_sixteen_by_eight(order, width, entries);
-            store_two::<G>(order, words, output);
-            count_below(128, entries)
-        }
+    if G::SYMBOLS == 2 {
+        return decode_eight::<L, G>(look_up, order, input, output);
     }
+    let entries = look_up.look_up_16(u8x16::from_slice(input));
+    let count = count_below(128, entries);
+    // Short texts with ignored bytes often have none here, and words take longer than the test.
+    if count < G::SYMBOLS {
+        return count;
+    }
+    if G::SYMBOLS == 4 {
+        let words = words_of_sixteen_by_four(order, G::WIDTH, entries);
+        store_four::<G>(order, words, output);
+    } else {
+        let words = words_of_sixteen_by_eight(order, G::WIDTH, entries);
+        store_two::<G>(order, words, output);
+    }
+    count
 }
