@@ -4,6 +4,7 @@ pub(crate) mod blocks;
 pub(crate) mod group;
 pub(crate) mod length;
 pub(crate) mod next_group;
+pub(crate) mod padded;
 pub(crate) mod steps;
 pub(crate) mod text;
 

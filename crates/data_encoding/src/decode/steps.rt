@@ -7,8 +7,9 @@ ghost use Rattle.data_encoding.specs.Steps.{HasEnded, HasStepped};
 ghost use Rattle.data_encoding_meaning.specs.text.Lengths.{decoded_len};
 ghost use Rattle.data_encoding_kernel.specs.Tables.{HoldsValues, Reads};
 
+use crate::decode::padded::is_padded_next;
 use crate::decode::{DECODE_LIMIT, Stop};
-use crate::encoding::{BitOrder, EncodingRef, IGNORED, INVALID, PADDING};
+use crate::encoding::{BitOrder, EncodingRef, IGNORED, INVALID};
 use crate::error::DecodeKind;
 use data_encoding_kernel::decode::{decode_by_turns, decode_run};
 use data_encoding_kernel::group_size::GroupSize;
@@ -80,7 +81,13 @@ impl EncodingRef<'_> {
             if is_short {
                 at = self.decode_by_blocks::<L, O, G>(at, input, output);
             }
-            match self.decode_next::<G>(order, self.fields.ignores, at, input, output, stop) {
+            let next = self.decode_padded::<O, G>(values, at, input, output);
+            if next.read > at.read {
+                stop.read = next.read;
+                stop.written = next.written;
+                continue;
+            }
+            match self.decode_next::<G>(order, self.fields.ignores, next, input, output, stop) {
                 Step::More => {}
                 Step::Ended => return true,
                 Step::Faulty => return false,
@@ -474,16 +481,6 @@ fn after_run<G: GroupSize>(values: &[u8; 256], len: usize, at: Reached, input: &
         written: at.written + len / G::SYMBOLS * G::BYTES,
         ignored: ignored_front(values, &input[read..]),
     }
-}
-
-// Whether the next group ends in padding.
-#[inline(always)]
-fn is_padded_next<G: GroupSize>(values: &[u8; 256], at: Reached, input: &[u8]) -> bool
-    requires limit { length input.now ≤ DECODE_LIMIT }
-    requires within { at.read + at.ignored ≤ length input.now }
-{
-    let end = at.read + at.ignored + G::SYMBOLS;
-    end <= input.len() && entry_of(values, input[end - 1]) == PADDING
 }
 
 // Whether blocks may take less time than runs like this one, of so many symbols, after which the

@@ -1,0 +1,98 @@
+//! Padded groups one after another, as short padded texts that are joined have them.
+
+ghost use Rattle.std.specs.Prelude.{◌≡◌, ◌+◌, ◌≤◌, false, length, drop, IsTrue, Ok};
+ghost use Rattle.data_encoding_meaning.specs.decoding.Decoding.{HasDecodedTo, IsIgnoredFront};
+ghost use Rattle.data_encoding_meaning.specs.text.Lengths.{decoded_len};
+ghost use Rattle.data_encoding_kernel.specs.Tables.{Reads};
+
+use crate::decode::DECODE_LIMIT;
+use crate::decode::next_group::starts_whole;
+use crate::decode::steps::{Reached, ignored_front};
+use crate::encoding::{EncodingRef, PADDING};
+use data_encoding_kernel::group_size::GroupSize;
+use data_encoding_kernel::order::ConstantOrder;
+use data_encoding_kernel::words::entry_of;
+
+impl EncodingRef<'_> {
+    /// Decodes padded groups that follow what was read, up to one that ends the text or has a fault
+    /// or ignored bytes.
+    #[inline(always)]
+    pub(crate) fn decode_padded<O: ConstantOrder, G: GroupSize>(
+        &self,
+        values: &[u8; 256],
+        at: Reached,
+        input: &[u8],
+        output: &mut [u8],
+    ) -> Reached
+        requires reads { Reads self.now values.now G.WIDTH O.ORDER }
+        requires limit { length input.now ≤ DECODE_LIMIT }
+        requires exact { decoded_len self.now (length input.now) ≡ Ok (length output.old) }
+        requires so_far { HasDecodedTo self.now input.now at.read at.written false output.old }
+        requires front { IsIgnoredFront self.now (drop at.read input.now) at.ignored }
+        ensures so_far { HasDecodedTo self.now input.now result.read result.written false
+            output.new }
+        ensures front { IsIgnoredFront self.now (drop result.read input.now) result.ignored }
+        ensures further { at.read ≤ result.read }
+    {
+        let mut at = at;
+        for _ in 0..input.len() {
+            let read = at.read;
+            at = self.decode_padded_group::<O, G>(values, at, input, output);
+            if at.read == read {
+                break;
+            }
+        }
+        at
+    }
+
+    // Decodes the next group if it is padded, and others may follow it. Its length is a constant, so
+    // that this takes less time than a step.
+    #[inline(always)]
+    fn decode_padded_group<O: ConstantOrder, G: GroupSize>(
+        &self,
+        values: &[u8; 256],
+        at: Reached,
+        input: &[u8],
+        output: &mut [u8],
+    ) -> Reached
+        requires reads { Reads self.now values.now G.WIDTH O.ORDER }
+        requires limit { length input.now ≤ DECODE_LIMIT }
+        requires exact { decoded_len self.now (length input.now) ≡ Ok (length output.old) }
+        requires so_far { HasDecodedTo self.now input.now at.read at.written false output.old }
+        requires front { IsIgnoredFront self.now (drop at.read input.now) at.ignored }
+        ensures so_far { HasDecodedTo self.now input.now result.read result.written false
+            output.new }
+        ensures front { IsIgnoredFront self.now (drop result.read input.now) result.ignored }
+        ensures further { at.read ≤ result.read }
+    {
+        if !self.fields.concatenates || !is_padded_next::<G>(values, at, input) {
+            return at;
+        }
+        let rest = &input[at.read + at.ignored..];
+        if !starts_whole::<G>(values, rest) {
+            return at;
+        }
+        let group = &rest[..G::SYMBOLS];
+        let count = match self.decode_group::<G>(O::ORDER, group, &mut output[at.written..]) {
+            Ok(count) => count,
+            Err(_) => return at,
+        };
+        let read = at.read + at.ignored + G::SYMBOLS;
+        Reached {
+            read,
+            written: at.written + G::WIDTH * count / 8,
+            ignored: ignored_front(values, &input[read..]),
+        }
+    }
+}
+
+/// Returns whether the next group ends in padding.
+#[inline(always)]
+pub(crate) fn is_padded_next<G: GroupSize>(values: &[u8; 256], at: Reached, input: &[u8]) -> bool
+    requires limit { length input.now ≤ DECODE_LIMIT }
+    requires within { at.read + at.ignored ≤ length input.now }
+    ensures { IsTrue result → at.read + at.ignored + G.SYMBOLS ≤ length input.now }
+{
+    let end = at.read + at.ignored + G::SYMBOLS;
+    end <= input.len() && entry_of(values, input[end - 1]) == PADDING
+}
