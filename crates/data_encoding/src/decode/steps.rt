@@ -66,33 +66,25 @@ impl EncodingRef<'_> {
             output.old }
         ensures { HasEnded self.now input.now output.new stop.new result }
     {
-        let order = O::ORDER;
         let mut is_short = false;
-        while stop.read < input.len() {
-            let mut at = self.decode_runs::<L, O, G>(
-                values,
-                look_up,
-                &mut is_short,
-                stop.read,
-                stop.written,
-                input,
-                output,
-            );
+        let mut at = reached_at(values, stop.read, stop.written, input);
+        while at.read + at.ignored < input.len() {
+            at = self.decode_runs::<L, O, G>(values, look_up, &mut is_short, at, input, output);
             if is_short {
                 at = self.decode_by_blocks::<L, O, G>(at, input, output);
             }
-            let next = self.decode_padded::<O, G>(values, at, input, output);
-            if next.read > at.read {
-                stop.read = next.read;
-                stop.written = next.written;
+            let read = at.read;
+            at = self.decode_padded::<O, G>(values, at, input, output);
+            if at.read > read {
                 continue;
             }
-            match self.decode_next::<G>(order, self.fields.ignores, next, input, output, stop) {
-                Step::More => {}
+            match self.decode_next::<G>(O::ORDER, self.fields.ignores, at, input, output, stop) {
+                Step::More => at = reached_at(values, stop.read, stop.written, input),
                 Step::Ended => return true,
                 Step::Faulty => return false,
             }
         }
+        stop.written = at.written;
         true
     }
 
@@ -106,8 +98,7 @@ impl EncodingRef<'_> {
         values: &[u8; 256],
         look_up: &L,
         is_short: &mut bool,
-        read: usize,
-        written: usize,
+        at: Reached,
         input: &[u8],
         output: &mut [u8],
     ) -> Reached
@@ -115,17 +106,13 @@ impl EncodingRef<'_> {
         requires held { L.holds values.now look_up.now }
         requires limit { length input.now ≤ DECODE_LIMIT }
         requires exact { decoded_len self.now (length input.now) ≡ Ok (length output.old) }
-        requires so_far { HasDecodedTo self.now input.now read written false output.old }
+        requires so_far { HasDecodedTo self.now input.now at.read at.written false output.old }
+        requires front { IsIgnoredFront self.now (drop at.read input.now) at.ignored }
         ensures so_far { HasDecodedTo self.now input.now result.read result.written false
             output.new }
         ensures front { IsIgnoredFront self.now (drop result.read input.now) result.ignored }
-        ensures further { read ≤ result.read }
+        ensures further { at.read ≤ result.read }
     {
-        let at = Reached {
-            read,
-            written,
-            ignored: ignored_front(values, &input[read..]),
-        };
         let packs = has_lanes() && self.fields.ignores && !*is_short;
         *is_short = false;
         if is_padded_next::<G>(values, at, input) {
@@ -460,6 +447,22 @@ impl EncodingRef<'_> {
     }
 }
 
+// That so much of a text was read and written, and how many ignored bytes follow.
+#[inline(always)]
+fn reached_at(values: &[u8; 256], read: usize, written: usize, input: &[u8]) -> Reached
+    requires within { read ≤ length input.now }
+    ensures read { result.read ≡ read }
+    ensures written { result.written ≡ written }
+    ensures front { (base : Base) → HoldsValues base values.now
+        → IsIgnoredFront base (drop read input.now) result.ignored }
+{
+    Reached {
+        read,
+        written,
+        ignored: ignored_front(values, &input[read..]),
+    }
+}
+
 // How far a text is decoded after a run of this length, which is that of whole groups.
 #[inline(always)]
 fn after_run<G: GroupSize>(values: &[u8; 256], len: usize, at: Reached, input: &[u8]) -> Reached
@@ -498,29 +501,28 @@ fn is_short_run<G: GroupSize>(values: &[u8; 256], len: usize, at: Reached, input
     len < 16 * G::SYMBOLS && is_broken_next::<G>(values, at, input)
 }
 
-// Whether bytes are ignored within the next group, and more follow than are too few for a block.
+// Whether bytes are ignored within the next group, and more follow than are too few for a block. If
+// one of these has no meaning, there is a fault soon, and no block is worth its time.
 #[inline(always)]
 fn is_broken_next<G: GroupSize>(values: &[u8; 256], at: Reached, input: &[u8]) -> bool
     requires limit { length input.now ≤ DECODE_LIMIT }
     requires within { at.read + at.ignored ≤ length input.now }
 {
     let rest = &input[at.read + at.ignored..];
-    rest.len() > LEAST_LEN && ignores_some(values, G::SYMBOLS, &rest[..LEAST_LEN])
+    rest.len() > LEAST_LEN
+        && has_entry(values, IGNORED, &rest[..G::SYMBOLS])
+        && !has_entry(values, INVALID, &rest[..LEAST_LEN])
 }
 
-// Whether one of the first bytes of a part is ignored. If a byte of the part has no meaning, there
-// is a fault soon, and no block is worth its time.
+// Whether a byte has this entry.
 #[inline(always)]
-fn ignores_some(values: &[u8; 256], first: usize, part: &[u8]) -> bool {
-    let mut is_found = false;
+fn has_entry(values: &[u8; 256], entry: u8, part: &[u8]) -> bool {
     for index in 0..part.len() {
-        let entry = entry_of(values, part[index]);
-        if entry == INVALID {
-            return false;
+        if entry_of(values, part[index]) == entry {
+            return true;
         }
-        is_found |= entry == IGNORED && index < first;
     }
-    is_found
+    false
 }
 
 // With fewer bytes left no block is worth its time.

@@ -100,5 +100,5 @@ returns-clause-so_far g c =
 pub returns-clause-front : goal.returns-clause-front
 returns-clause-front g c =
     rw (take_rest c.args.input.now
-        (c.args.at.read + c.args.at.ignored + c.SYMBOLS-2.result))
+    (c.args.at.read + c.args.at.ignored + c.SYMBOLS-2.result))
     at (c.ignored_front.ensures.front c.args.self.now c.requires.reads.holds)

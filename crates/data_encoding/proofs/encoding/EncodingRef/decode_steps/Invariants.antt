@@ -1,9 +1,12 @@
-use Rattle.std.proofs.Common.{◌-◌, false, length}
-use Rattle.data_encoding_meaning.specs.decoding.Decoding.{HasDecodedTo}
+use Rattle.std.proofs.Common.{◌-◌, false, drop, length}
+use Rattle.data_encoding_meaning.specs.decoding.Decoding.{HasDecodedTo, IsIgnoredFront}
 use Rattle.data_encoding.proofs.encoding.EncodingRef.decode_steps.Given as goal
 
-abbrev pub invariant-loop-stop : goal.invariant-loop-stop
-invariant-loop-stop g l = HasDecodedTo l.self l.input l.stop.read l.stop.written false l.output
+abbrev pub invariant-loop-at : goal.invariant-loop-at
+invariant-loop-at g l = record {
+  so_far : HasDecodedTo l.self l.input l.at.read l.at.written false l.output;
+  front : IsIgnoredFront l.self (drop l.at.read l.input) l.at.ignored;
+}
 
-abbrev pub decreases-loop-stop : goal.decreases-loop-stop
-decreases-loop-stop g l = length l.input - l.stop.read
+abbrev pub decreases-loop-at : goal.decreases-loop-at
+decreases-loop-at g l = length l.input - l.at.read
