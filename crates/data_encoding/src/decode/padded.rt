@@ -45,8 +45,8 @@ impl EncodingRef<'_> {
         at
     }
 
-    // Decodes the next group if it is padded, and others may follow it. Its length is a constant, so
-    // that this takes less time than a step.
+    // Decodes the next group if it is padded, and others may follow it. Its length is a constant,
+    // so that this takes less time than a step.
     #[inline(always)]
     fn decode_padded_group<O: ConstantOrder, G: GroupSize>(
         &self,
