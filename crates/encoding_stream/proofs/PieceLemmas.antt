@@ -287,7 +287,7 @@ module _ (base : Base) (kept : Kept) (is : IsKept base kept) (byte : ℕ)
 -- what a decoder keeps
 pub is-kept : (pieces : BufferDecoder)
     → length pieces.kept.positions ≡ 8 → length pieces.kept.bytes ≡ 8
-    → IsKept pieces.encoding.now pieces.kept
+    → IsKept (base_of_pieces pieces) pieces.kept
 is-kept pieces positions bytes = record {
   specified = is-specified pieces;
   width = pieces.width;
