@@ -468,7 +468,7 @@ no_data base = λ bytes before has.
     (subst (HasWritten base data_so_far bytes) (sym (append-nil before)) has)
 
 -- the encoding of an encoder by pieces, and what it keeps
-base_of_encoding : (base : Base) (encoder : BufferEncoder) → encoder.encoding.now ≡ base
+base_of_encoding : (base : Base) (encoder : BufferEncoder) → base_of_lent encoder.encoding ≡ base
     → encoder.kept ≡ data_so_far
     → (base_of_blocks encoder ≡ base) × (data_kept encoder ≡ data_so_far)
 base_of_encoding base encoder is kept_is = (is, kept_is)

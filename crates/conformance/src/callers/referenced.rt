@@ -1,17 +1,19 @@
 //! Callers of encodings by reference, which hold no tables of their own.
 
-ghost use Rattle.std.specs.Prelude.{◌≡◌, ℕ, ◌+◌, ◌<◌, ◌≤◌, List, ◌++◌, length, take, IfSome, IsSome, IsTrue};
+ghost use Rattle.std.specs.Prelude.{◌≡◌, ℕ, ◌+◌, ◌<◌, ◌≤◌, List, ◌++◌, length, take, None, IfSome, IsSome, IsTrue};
 ghost use Rattle.data_encoding.specs.Base.{group_symbols};
 ghost use Rattle.data_encoding.specs.Grammar.{Means};
+ghost use Rattle.data_encoding.specs.Lengths.{alignment};
 ghost use Rattle.data_encoding.specs.Pieces.{whole_bytes};
 ghost use Rattle.data_encoding.specs.Text.{text_of};
+ghost use Rattle.encoding_stream.specs.Blocks.{EncodesOn, HasWritten};
 ghost use Rattle.encoding_stream.specs.Pieces.{Keeps};
 ghost use Rattle.encoding_stream.specs.Resume.{IsKept};
 ghost use Rattle.conformance.specs.Texts.{IsFaultOfAll};
 
 use data_encoding::laws::fault_stays;
 use data_encoding::{DECODE_LIMIT, ENCODE_LIMIT, EncodingRef};
-use encoding_stream::{BufferDecoder, Kept};
+use encoding_stream::{BufferDecoder, BufferEncoder, Kept, KeptData};
 
 /// Writes the text of data to a buffer of exactly its length, and returns whether the buffer had
 /// that length.
@@ -102,4 +104,47 @@ pub fn decode_next(
     decoder.most(piece.len());
     let written = decoder.read(piece, output);
     Some((written, decoder.kept()))
+}
+
+/// Encodes the first piece of data to the start of a buffer. Returns the length of the text that
+/// was written, and what is kept of the data, or `None` if the buffer is too short.
+pub fn encode_first(
+    encoding: &EncodingRef<'_>,
+    piece: &[u8],
+    output: &mut [u8],
+) -> Option<(usize, KeptData)>
+    requires limit { length piece.now ≤ ENCODE_LIMIT }
+    ensures { IfSome result (λ first. HasWritten encoding.now first.1 piece.now
+        (take first.0 output.new)) }
+{
+    let mut encoder = BufferEncoder::new_by_ref(encoding);
+    if output.len() < encoder.due(piece.len()) {
+        return None;
+    }
+    let written = encoder.read(piece, output);
+    Some((written, encoder.kept()))
+}
+
+/// Encodes the next piece of data of which this is kept to the start of a buffer. Returns the
+/// length of the text that was written, and what is kept then, or `None` if no encoder keeps these
+/// numbers, or the buffer is too short.
+pub fn encode_next(
+    encoding: &EncodingRef<'_>,
+    kept: KeptData,
+    piece: &[u8],
+    output: &mut [u8],
+) -> Option<(usize, KeptData)>
+    requires limit { length piece.now ≤ ENCODE_LIMIT }
+    ensures encodes { IfSome result (λ next. EncodesOn encoding.now kept next.1 piece.now
+        (take next.0 output.new)) }
+    ensures refused { alignment encoding.now ≤ kept.count → result ≡ None }
+{
+    let Some(mut encoder) = BufferEncoder::resumed_by_ref(encoding, kept) else {
+        return None;
+    };
+    if output.len() < encoder.due(piece.len()) {
+        return None;
+    }
+    let written = encoder.read(piece, output);
+    Some((written, encoder.kept()))
 }
