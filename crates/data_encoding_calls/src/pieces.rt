@@ -96,10 +96,7 @@ fn plain_of(kept: &Kept) -> PlainKept
 }
 
 // The decoder that keeps these numbers, if there can be one.
-fn decoder_of<'a>(
-    encoding: &EncodingRef<'a>,
-    plain: &PlainKept,
-) -> Option<BufferDecoder<'a>>
+fn decoder_of<'a>(encoding: &EncodingRef<'a>, plain: &PlainKept) -> Option<BufferDecoder<'a>>
     ensures base { IfSome result (λ decoder. base_of_pieces decoder ≡ encoding.now) }
     ensures kept { IfSome result (λ decoder. kept_told plain.now ≡ Some (kept_by decoder)) }
     ensures given { IsSome result → MayBeGiven encoding.now plain.now }

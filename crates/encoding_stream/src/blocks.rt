@@ -174,9 +174,9 @@ impl<'a> BufferEncoder<'a> {
 fn write_front(lent: LentEncoding<'_>, input: &[u8], output: &mut [u8]) -> usize
     requires limit { length input.now ≤ ENCODE_LIMIT }
     requires room { length (text_of (base_of_lent lent) input.now) ≤ length output.old }
-    ensures text { take result output.new ≡ text_of (base_of_lent lent) input.now }
+    ensures text { take result output.new ≡ text_of (base_of_lent lent.entry) input.now }
     ensures after { drop result output.new ≡ drop result output.old }
-    ensures value { result ≡ length (text_of (base_of_lent lent) input.now) }
+    ensures value { result ≡ length (text_of (base_of_lent lent.entry) input.now) }
     ensures len { length output.new ≡ length output.old }
 {
     let encoding = lent.by_ref();

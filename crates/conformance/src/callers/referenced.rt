@@ -61,11 +61,7 @@ pub fn text_lengths(encoding: &EncodingRef<'_>, one: usize, other: usize) -> (us
 
 /// Decodes the first piece of a text to the start of a buffer. Returns how many bytes were written,
 /// and what is kept of the text, of which nothing else is left.
-pub fn decode_first(
-    encoding: &EncodingRef<'_>,
-    piece: &[u8],
-    output: &mut [u8],
-) -> (usize, Kept)
+pub fn decode_first(encoding: &EncodingRef<'_>, piece: &[u8], output: &mut [u8]) -> (usize, Kept)
     requires limit { length piece.now ≤ DECODE_LIMIT }
     requires room { length piece.now + 7 ≤ length output.old }
     ensures keeps { Keeps encoding.now result.1 piece.now }

@@ -13,7 +13,7 @@ returns-then-not-concatenates-clause-ends c = λ text bytes same means.
     ∙ ap (λ joins. not joins && not (length bytes % group_bytes base.width == 0))
     (sym (rw c.by_ref-encoding.ensures at c.concatenates.ensures) ∙ c.if-not-concatenates.true)
     ∙ ap (λ n. not (n % group_bytes base.width == 0)) same
-    ∙ ap (λ n. not (c.args.written % n == 0)) 
+    ∙ ap (λ n. not (c.args.written % n == 0))
     (sym (rw c.by_ref-encoding.ensures at c.group_bytes.ensures.value))
 
 pub returns-else-not-concatenates-clause-ends : goal.returns-else-not-concatenates-clause-ends

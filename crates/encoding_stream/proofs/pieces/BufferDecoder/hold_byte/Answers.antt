@@ -1,20 +1,21 @@
-use Rattle.std.proofs.Common.{ℕ, false, is_some, ◌<◌, ◌≡◌, ◌+◌, ◌∙◌, arith, refl, ap, sym, subst, take, IfSome}
+use Rattle.std.proofs.Common.{◌<◌, ◌+◌, ◌∙◌, arith, refl, ap, sym, take}
 use Rattle.std.proofs.lemmas.List.Elements.{All-weaker}
-use Rattle.data_encoding.specs.declared.error.DecodeError.{DecodeError}
 use Rattle.data_encoding.specs.Base.{is_ignored}
-use Rattle.encoding_stream.specs.declared.pieces.Kept.{Kept}
 use Rattle.encoding_stream.specs.Pieces.{base_of_pieces}
 use Rattle.encoding_stream.proofs.OrderLemmas.{inside-more}
-use Rattle.encoding_stream.proofs.PieceLemmas.{is-kept, no-fault, take-held, take-ignored}
+use Rattle.encoding_stream.proofs.PieceLemmas.{is-kept, no-fault-inside, take-held, take-ignored}
 use Rattle.encoding_stream.proofs.SizeLemmas.{symbols-few}
 use Rattle.encoding_stream.proofs.pieces.BufferDecoder.hold_byte.Goals as goal
 
--- where there is no fault, none lies outside
-no-fault-inside : (kept : Kept) (end : ℕ) → is_some kept.fault ≡ false
-    → IfSome kept.fault (λ (e : DecodeError). e.position < end)
-no-fault-inside kept end sound =
-    subst (λ f. IfSome f (λ (e : DecodeError). e.position < end))
-    (sym (no-fault kept.fault sound)) tt
+pub bounds-self-count : goal.bounds-self-count
+bounds-self-count c =
+    let s = c.args.self.now in
+    omega (arith, symbols-few (base_of_pieces s).width s.width, s.group, s.short)
+
+pub bounds-self-count-2 : goal.bounds-self-count-2
+bounds-self-count-2 c =
+    let s = c.args.self.now in
+    omega (arith, symbols-few (base_of_pieces s).width s.width, s.group, s.short)
 
 pub invariant_of-self-clause-inside : goal.invariant_of-self-clause-inside
 invariant_of-self-clause-inside c =

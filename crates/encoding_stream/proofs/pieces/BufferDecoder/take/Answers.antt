@@ -5,11 +5,21 @@ use Rattle.encoding_stream.specs.declared.pieces.BufferDecoder.{BufferDecoder}
 use Rattle.encoding_stream.specs.Pieces.{base_of_pieces}
 use Rattle.encoding_stream.specs.Reading.{ReadsOn}
 use Rattle.encoding_stream.proofs.OrderLemmas.{inside-more}
-use Rattle.encoding_stream.proofs.PieceLemmas.{is-kept, take-faulty, take-held, take-ignored, take-sound}
+use Rattle.encoding_stream.proofs.PieceLemmas.{is-kept, no-fault-inside, take-faulty, take-held, take-ignored, take-sound}
 use Rattle.encoding_stream.proofs.SizeLemmas.{symbols-few}
 use Rattle.encoding_stream.proofs.ReadPieceLemmas.{most-whole, reads-fault}
 use Rattle.encoding_stream.proofs.pieces.BufferDecoder.take.Goals.{then-is_some-via-then-is_some, then-is_some-via-else-is_some+then-is_ignored}
 use Rattle.encoding_stream.proofs.pieces.BufferDecoder.take.Goals as goal
+
+pub bounds-self-index : goal.bounds-self-index
+bounds-self-index c =
+    let s = c.args.self.now in
+    omega (arith, symbols-few (base_of_pieces s).width s.width, s.group, s.short)
+
+pub bounds-self-index-2 : goal.bounds-self-index-2
+bounds-self-index-2 c =
+    let s = c.args.self.now in
+    omega (arith, symbols-few (base_of_pieces s).width s.width, s.group, s.short)
 
 pub returns-then-is_some-clause-reads : goal.returns-then-is_some-clause-reads
 returns-then-is_some-clause-reads c =
@@ -84,6 +94,11 @@ returns-in-Err-clause-reads c =
     ∙ sym c.is_ignored.ensures ∙ c.if-is_ignored.false)
     s.size (omega (arith, s.short, c.if-index-self.false)) c.pieces.ensures.group s.group
     c.in-Err.error c.in-Err.ensures.fault
+
+pub invariant_of-self-then-index-self-clause-fault_inside :
+    goal.invariant_of-self-then-index-self-clause-fault_inside
+invariant_of-self-then-index-self-clause-fault_inside c =
+    no-fault-inside c.args.self.now.kept _ (sym c.is_some.ensures ∙ c.if-is_some.false)
 
 pub invariant_of-self-then-index-self-clause-inside :
     goal.invariant_of-self-then-index-self-clause-inside
