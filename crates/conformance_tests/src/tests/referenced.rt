@@ -5,11 +5,12 @@ ghost use Rattle.std.specs.Prelude.{◌≤◌, length};
 use super::encoding::writes;
 use super::predefined::named;
 use conformance::callers::referenced::{
-    decode_exactly, decode_first, decode_next, encode_exactly, encode_first, encode_next, text_lengths,
+    decode_exactly, decode_first, decode_next, encode_exactly, encode_first, encode_next,
+    text_lengths,
 };
 use data_encoding::{
-    Encoding, EncodingRef, base64_mime_ref, base64_ref, predefined, predefined_name, predefined_names, predefined_number,
-    predefined_numbered,
+    Encoding, EncodingRef, base64_mime_ref, base64_ref, predefined, predefined_name,
+    predefined_names, predefined_number, predefined_numbered,
 };
 
 // The names, in the order of their numbers.

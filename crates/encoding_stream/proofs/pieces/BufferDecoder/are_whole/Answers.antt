@@ -14,7 +14,8 @@ returns-then-is_padded-clause-whole c = λ _ text bytes _ _ means.
 pub returns-then-is_padded-clause-few : goal.returns-then-is_padded-clause-few
 returns-then-is_padded-clause-few c = λ _ most.
     fills-by_padding (base_of_pieces c.args.self.now)
-    (sym (rw c.by_ref-encoding.ensures at c.is_padded.ensures) ∙ c.if-is_padded.true) c.args.read c.args.written most
+    (sym (rw c.by_ref-encoding.ensures at c.is_padded.ensures) ∙ c.if-is_padded.true)
+    c.args.read c.args.written most
 
 pub returns-then-has_whole_len-clause-whole : goal.returns-then-has_whole_len-clause-whole
 returns-then-has_whole_len-clause-whole c = λ _ text bytes same _ means.

@@ -20,7 +20,8 @@ pub returns-else-not-concatenates-clause-ends : goal.returns-else-not-concatenat
 returns-else-not-concatenates-clause-ends c = λ text _ _ _.
     let base = base_of_pieces c.args.self.now in
     c.whole_groups.ensures.ends_nowhere base
-    (sym (rw c.by_ref-encoding.ensures at c.concatenates.ensures) ∙ c.if-not-concatenates.false) (groups base text)
+    (sym (rw c.by_ref-encoding.ensures at c.concatenates.ensures) ∙ c.if-not-concatenates.false)
+    (groups base text)
     ∙ ap not (sym c.if-not-concatenates.false)
 
 pub returns-then-not-concatenates-clause-goes_on :

@@ -71,7 +71,8 @@ returns-in-Ok-decode_mut-clause-sound c = λ none.
     (is-specified s) c.pieces.ensures.alone c.requires.few none _ sound.0
     (sound.1 ∙ sym part) in (
       subst
-          (λ e. fault_after e (base_of_pieces s) (at_positions c.args.count k.positions k.bytes) ≡ None)
+          (λ e. fault_after e (base_of_pieces s)
+          (at_positions c.args.count k.positions k.bytes) ≡ None)
           (sym c.if-self.false) judged.0,
       judged.1,
     )

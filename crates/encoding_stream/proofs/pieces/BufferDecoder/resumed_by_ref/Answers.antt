@@ -10,8 +10,9 @@ returns-then-kept-gt-DECODE_LIMIT-clause-resumes c = λ is.
     let kept = c.args.kept in
     let decoder = c.new_by_ref-decoder.result in
     let few =
-    held-few c.args.encoding.now (rw c.new_by_ref-decoder.ensures.base at decoder.width) is.text kept.len
-    kept.count kept.fault kept.positions kept.bytes kept.ended (omega arith) (omega arith) is.keeps
+    held-few c.args.encoding.now (rw c.new_by_ref-decoder.ensures.base at decoder.width) is.text
+    kept.len kept.count kept.fault kept.positions kept.bytes kept.ended (omega arith)
+    (omega arith) is.keeps
     is.clear in
     let size = rw c.new_by_ref-decoder.ensures.base at decoder.group in
     elim c.then-kept-gt-DECODE_LIMIT.branch [
