@@ -7,7 +7,7 @@ page=docs/DEFINITIONS.md
 
 # defined FILE..: the names that are defined there.
 defined() {
-    sed -nE 's/^(abbrev |pub |record |data )+([A-Za-z_][A-Za-z0-9_]*) .*/\2/p' "$@" |
+    sed -nE 's/^(abbrev |unfoldable |pub |record |data )+([A-Za-z_][A-Za-z0-9_]*) .*/\2/p' "$@" |
         grep -vxE 'mod|use' | sort -u
 }
 

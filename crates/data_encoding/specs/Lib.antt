@@ -7,6 +7,7 @@ pub mod Tables
 pub mod Shown
 pub mod PlainTables
 pub mod Plain
+pub mod Lent
 pub mod Steps
 pub mod Blocks
 pub use Rattle.data_encoding_meaning.specs.text.Base

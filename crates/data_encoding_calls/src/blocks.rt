@@ -3,14 +3,19 @@
 ghost use Rattle.data_encoding_calls.specs.Blocks.{EncodesPiece, EndsData, TellsDue};
 
 use crate::status::{NO_ENCODER, OK, SHORT_BUFFER, TOO_LONG};
-use data_encoding::{ENCODE_LIMIT, Encoding};
+use data_encoding::{ENCODE_LIMIT, EncodingRef};
 use encoding_stream::{BufferEncoder, KeptData};
 
 /// Writes the length of the text that `len` more bytes of the data complete to `most`.
-pub(crate) fn due_by(encoding: &Encoding, kept: &KeptData, len: usize, most: &mut usize) -> u32
+pub(crate) fn due_by(
+    encoding: &EncodingRef<'_>,
+    kept: &KeptData,
+    len: usize,
+    most: &mut usize,
+) -> u32
     ensures { TellsDue encoding.now kept.now len most.old most.new result }
 {
-    let Some(encoder) = BufferEncoder::resumed(encoding, *kept) else {
+    let Some(encoder) = BufferEncoder::resumed_by_ref(encoding, *kept) else {
         return NO_ENCODER;
     };
     if len > ENCODE_LIMIT {
@@ -22,7 +27,7 @@ pub(crate) fn due_by(encoding: &Encoding, kept: &KeptData, len: usize, most: &mu
 
 /// Reads a piece, and writes the text of the blocks that are then whole to the start of the output.
 pub(crate) fn take_by(
-    encoding: &Encoding,
+    encoding: &EncodingRef<'_>,
     kept: &mut KeptData,
     piece: &[u8],
     output: &mut [u8],
@@ -32,7 +37,7 @@ pub(crate) fn take_by(
         (record { encoder = kept.old; output = output.old; written = written.old })
         (record { encoder = kept.new; output = output.new; written = written.new }) result }
 {
-    let Some(mut encoder) = BufferEncoder::resumed(encoding, *kept) else {
+    let Some(mut encoder) = BufferEncoder::resumed_by_ref(encoding, *kept) else {
         return NO_ENCODER;
     };
     if piece.len() > ENCODE_LIMIT {
@@ -48,14 +53,14 @@ pub(crate) fn take_by(
 
 /// Ends the data: writes the text of the bytes held to the start of the output.
 pub(crate) fn end_by(
-    encoding: &Encoding,
+    encoding: &EncodingRef<'_>,
     kept: &KeptData,
     output: &mut [u8],
     written: &mut usize,
 ) -> u32
     ensures { EndsData encoding.now kept.now output.old output.new written.old written.new result }
 {
-    let Some(encoder) = BufferEncoder::resumed(encoding, *kept) else {
+    let Some(encoder) = BufferEncoder::resumed_by_ref(encoding, *kept) else {
         return NO_ENCODER;
     };
     let needed = encoding.encode_len(kept.count);

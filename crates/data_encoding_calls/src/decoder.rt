@@ -39,7 +39,7 @@ pub fn numbered_decoder_most(number: u32, decoder: &PlainKept, len: usize, most:
     let Some(encoding) = predefined_numbered(number) else {
         return UNKNOWN_ENCODING;
     };
-    most_by(&encoding.encoding(), decoder, len, most)
+    most_by(&encoding, decoder, len, most)
 }
 
 /// Reads a piece, and writes the bytes of the groups that are then whole to the start of the
@@ -57,7 +57,7 @@ pub fn numbered_decoder_read(
     let Some(encoding) = predefined_numbered(number) else {
         return UNKNOWN_ENCODING;
     };
-    read_by(&encoding.encoding(), decoder, piece, output, written)
+    read_by(&encoding, decoder, piece, output, written)
 }
 
 /// Ends the text: writes the bytes of a last group to the start of the output, and returns the
@@ -74,7 +74,7 @@ pub fn numbered_decoder_finish(
     let Some(encoding) = predefined_numbered(number) else {
         return UNKNOWN_ENCODING;
     };
-    finish_by(&encoding.encoding(), decoder, output, decoded)
+    finish_by(&encoding, decoder, output, decoded)
 }
 
 /// Writes the greatest number of bytes that `len` more bytes of the text may complete to `most`.
@@ -86,7 +86,7 @@ pub fn held_decoder_most(
 ) -> u32
     ensures { TellsRoom (base_of_plain held.now) decoder.now len most.old most.new result }
 {
-    most_by(&held.encoding(), decoder, len, most)
+    most_by(&held.by_ref(), decoder, len, most)
 }
 
 /// Reads a piece, and writes the bytes of the groups that are then whole to the start of the
@@ -101,7 +101,7 @@ pub fn held_decoder_read(
     ensures { ReadsPieceByHeld held.now piece.now decoder.old decoder.new output.old output.new
         written.old written.new result }
 {
-    read_by(&held.encoding(), decoder, piece, output, written)
+    read_by(&held.by_ref(), decoder, piece, output, written)
 }
 
 /// Ends the text: writes the bytes of a last group to the start of the output, and returns the
@@ -115,5 +115,5 @@ pub fn held_decoder_finish(
     ensures { EndsText (base_of_plain held.now) decoder.now output.old output.new decoded.old
         decoded.new result }
 {
-    finish_by(&held.encoding(), decoder, output, decoded)
+    finish_by(&held.by_ref(), decoder, output, decoded)
 }

@@ -35,7 +35,7 @@ pub fn numbered_encoder_most(number: u32, encoder: &KeptData, len: usize, most: 
     let Some(encoding) = predefined_numbered(number) else {
         return UNKNOWN_ENCODING;
     };
-    due_by(&encoding.encoding(), encoder, len, most)
+    due_by(&encoding, encoder, len, most)
 }
 
 /// Reads a piece, and writes the text of the blocks that are then whole to the start of the output,
@@ -53,7 +53,7 @@ pub fn numbered_encoder_read(
     let Some(encoding) = predefined_numbered(number) else {
         return UNKNOWN_ENCODING;
     };
-    take_by(&encoding.encoding(), encoder, piece, output, written)
+    take_by(&encoding, encoder, piece, output, written)
 }
 
 /// Ends the data: writes the text of the bytes held to the start of the output, and its length to
@@ -70,7 +70,7 @@ pub fn numbered_encoder_finish(
     let Some(encoding) = predefined_numbered(number) else {
         return UNKNOWN_ENCODING;
     };
-    end_by(&encoding.encoding(), encoder, output, written)
+    end_by(&encoding, encoder, output, written)
 }
 
 /// Writes the length of the text that `len` more bytes of the data complete to `most`.
@@ -82,7 +82,7 @@ pub fn held_encoder_most(
 ) -> u32
     ensures { TellsDue (base_of_plain held.now) encoder.now len most.old most.new result }
 {
-    due_by(&held.encoding(), encoder, len, most)
+    due_by(&held.by_ref(), encoder, len, most)
 }
 
 /// Reads a piece, and writes the text of the blocks that are then whole to the start of the output,
@@ -97,7 +97,7 @@ pub fn held_encoder_read(
     ensures { EncodesPieceByHeld held.now piece.now encoder.old encoder.new output.old output.new
         written.old written.new result }
 {
-    take_by(&held.encoding(), encoder, piece, output, written)
+    take_by(&held.by_ref(), encoder, piece, output, written)
 }
 
 /// Ends the data: writes the text of the bytes held to the start of the output, and its length to
@@ -111,5 +111,5 @@ pub fn held_encoder_finish(
     ensures { EndsData (base_of_plain held.now) encoder.now output.old output.new written.old
         written.new result }
 {
-    end_by(&held.encoding(), encoder, output, written)
+    end_by(&held.by_ref(), encoder, output, written)
 }

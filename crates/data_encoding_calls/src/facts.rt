@@ -45,7 +45,7 @@ pub fn numbered_encode_align(number: u32, align: &mut usize) -> u32
     let Some(encoding) = predefined_numbered(number) else {
         return UNKNOWN_ENCODING;
     };
-    *align = encoding.encoding().encode_align();
+    *align = encoding.encode_align();
     OK
 }
 
@@ -54,7 +54,7 @@ pub fn numbered_encode_align(number: u32, align: &mut usize) -> u32
 pub fn held_encode_align(held: &PlainEncoding, align: &mut usize) -> u32
     ensures { TellsAlignment (base_of_plain held.now) align.new result }
 {
-    *align = held.encoding().encode_align();
+    *align = held.by_ref().encode_align();
     OK
 }
 

@@ -6,7 +6,7 @@ ghost use Rattle.data_encoding_calls.specs.Pieces.{kept_told, kind_told, EndsTex
 
 use crate::convert::Decoded;
 use crate::status::{NO_DECODER, OK, SHORT_BUFFER, TOO_LONG, status_of_kind};
-use data_encoding::{DECODE_LIMIT, DecodeError, DecodeKind, Encoding};
+use data_encoding::{DECODE_LIMIT, DecodeError, DecodeKind, EncodingRef};
 use encoding_stream::{BufferDecoder, Kept};
 
 /// What is kept of a text between its pieces. For the empty text this is all zeros.
@@ -96,17 +96,22 @@ fn plain_of(kept: &Kept) -> PlainKept
 }
 
 // The decoder that keeps these numbers, if there can be one.
-fn decoder_of<'a>(encoding: &'a Encoding, plain: &PlainKept) -> Option<BufferDecoder<'a>>
+fn decoder_of<'a>(encoding: &EncodingRef<'a>, plain: &PlainKept) -> Option<BufferDecoder<'a>>
     ensures base { IfSome result (λ decoder. base_of_pieces decoder ≡ encoding.now) }
     ensures kept { IfSome result (λ decoder. kept_told plain.now ≡ Some (kept_by decoder)) }
     ensures given { IsSome result → MayBeGiven encoding.now plain.now }
     ensures stands { (text : List ℕ) → StandsAfter encoding.now plain.now text → IsSome result }
 {
-    BufferDecoder::resumed(encoding, kept_of(plain)?)
+    BufferDecoder::resumed_by_ref(encoding, kept_of(plain)?)
 }
 
 /// Writes how many bytes `len` more bytes of the text may complete to `most`.
-pub(crate) fn most_by(encoding: &Encoding, plain: &PlainKept, len: usize, most: &mut usize) -> u32
+pub(crate) fn most_by(
+    encoding: &EncodingRef<'_>,
+    plain: &PlainKept,
+    len: usize,
+    most: &mut usize,
+) -> u32
     ensures { TellsRoom encoding.now plain.now len most.old most.new result }
 {
     let Some(decoder) = decoder_of(encoding, plain) else {
@@ -122,7 +127,7 @@ pub(crate) fn most_by(encoding: &Encoding, plain: &PlainKept, len: usize, most: 
 /// Reads a piece, and writes the bytes of the groups that are then whole to the start of the
 /// output.
 pub(crate) fn read_by(
-    encoding: &Encoding,
+    encoding: &EncodingRef<'_>,
     plain: &mut PlainKept,
     piece: &[u8],
     output: &mut [u8],
@@ -150,7 +155,7 @@ pub(crate) fn read_by(
 /// Ends the text: writes the bytes of a last group to the start of the output, and returns the
 /// verdict.
 pub(crate) fn finish_by(
-    encoding: &Encoding,
+    encoding: &EncodingRef<'_>,
     plain: &PlainKept,
     output: &mut [u8],
     decoded: &mut Decoded,

@@ -1,5 +1,5 @@
 -- The bytes held of a text, and how one more is read.
-use Rattle.std.proofs.Common.{◌≡◌, ℕ, zero, suc, ◌+◌, ◌<◌, ◌≤◌, Bool, true, false, not, cond, ◌&&◌, ◌||◌, List, [], ◌∷◌, ◌++◌, length, map, take, Option, None, Some, is_some, slice_index, set, refl, sym, ap, ◌∙◌, subst, arith, length-append, length-take-le, replicate}
+use Rattle.std.proofs.Common.{◌≡◌, ℕ, zero, suc, ◌+◌, ◌<◌, ◌≤◌, Bool, true, false, not, cond, ◌&&◌, ◌||◌, List, [], ◌∷◌, ◌++◌, length, map, take, Option, None, Some, IfSome, is_some, slice_index, set, refl, sym, ap, ◌∙◌, subst, arith, length-append, length-take-le, replicate}
 use Rattle.std.specs.List.{list_any}
 use Rattle.std.proofs.lemmas.List.{append-nil, take_more_set}
 use Rattle.std.proofs.lemmas.List.Elements.{All-append, All-cons, All-drop, All-nil, All-weaker, filter_passes}
@@ -101,6 +101,13 @@ module _ (base : Base) where
 pub no-fault : (fault : Option DecodeError) → is_some fault ≡ false → fault ≡ None
 no-fault None h = refl
 no-fault (Some error) h = absurd (cc h)
+
+-- where there is no fault, none lies outside
+pub no-fault-inside : (kept : Kept) (end : ℕ) → is_some kept.fault ≡ false
+    → IfSome kept.fault (λ (e : DecodeError). e.position < end)
+no-fault-inside kept end sound =
+    subst (λ f. IfSome f (λ (e : DecodeError). e.position < end))
+    (sym (no-fault kept.fault sound)) tt
 
 -- What a `BufferDecoder` guarantees about what it keeps, and about its encoding.
 pub record IsKept (base : Base) (kept : Kept) : Type 0 where
@@ -287,7 +294,7 @@ module _ (base : Base) (kept : Kept) (is : IsKept base kept) (byte : ℕ)
 -- what a decoder keeps
 pub is-kept : (pieces : BufferDecoder)
     → length pieces.kept.positions ≡ 8 → length pieces.kept.bytes ≡ 8
-    → IsKept pieces.encoding.now pieces.kept
+    → IsKept (base_of_pieces pieces) pieces.kept
 is-kept pieces positions bytes = record {
   specified = is-specified pieces;
   width = pieces.width;

@@ -10,6 +10,7 @@ use Rattle.data_encoding.specs.Base.{Base}
 use Rattle.data_encoding.specs.Fault.{fault_of, sound_bytes}
 use Rattle.data_encoding.specs.Fields.{Fields, base_of}
 use Rattle.data_encoding.specs.Laws.{further}
+use Rattle.data_encoding.specs.Lent.{base_of_lent}
 use Rattle.data_encoding.specs.Grammar.{positioned_from, Means}
 use Rattle.data_encoding.specs.Predefined.{base64_fields, base64_mime_fields, base64_mime_permissive_fields, base64_nopad_fields}
 use Rattle.data_encoding.specs.Pieces.{whole_bytes, HasRead}
@@ -283,7 +284,7 @@ pushed_by base text keeps decoder is kept_is = (
 )
 
 -- the encoding of a decoder by pieces
-base_of_decoding : (base : Base) (pieces : BufferDecoder) → pieces.encoding.now ≡ base
+base_of_decoding : (base : Base) (pieces : BufferDecoder) → base_of_lent pieces.encoding ≡ base
     → base_of_pieces pieces ≡ base
 base_of_decoding base pieces is = is
 
@@ -296,7 +297,7 @@ most_bytes_completed :
 most_bytes_completed = (refl, refl, refl)
 
 -- a decoder that continues from what is kept
-gone_on : (base : Base) (pieces : BufferDecoder) → pieces.encoding.now ≡ base
+gone_on : (base : Base) (pieces : BufferDecoder) → base_of_lent pieces.encoding ≡ base
     → pieces.kept ≡ kept_so_far → GoesOn base kept_so_far pieces × (kept_by pieces ≡ kept_so_far)
 gone_on base pieces is kept_is = (record { base_is = is; kept_is = kept_is }, kept_is)
 
@@ -467,7 +468,7 @@ no_data base = λ bytes before has.
     (subst (HasWritten base data_so_far bytes) (sym (append-nil before)) has)
 
 -- the encoding of an encoder by pieces, and what it keeps
-base_of_encoding : (base : Base) (encoder : BufferEncoder) → encoder.encoding.now ≡ base
+base_of_encoding : (base : Base) (encoder : BufferEncoder) → base_of_lent encoder.encoding ≡ base
     → encoder.kept ≡ data_so_far
     → (base_of_blocks encoder ≡ base) × (data_kept encoder ≡ data_so_far)
 base_of_encoding base encoder is kept_is = (is, kept_is)
@@ -618,7 +619,7 @@ stands_told : (decoder : Decoder) (text : List ℕ) → StandsAfter decoder text
 stands_told decoder text stands = stands.counted
 
 gone_on_told : (base : Base) (pieces : BufferDecoder) → GoesOn base kept_so_far pieces
-    → (pieces.encoding.now ≡ base) × (pieces.kept ≡ kept_so_far)
+    → (base_of_lent pieces.encoding ≡ base) × (pieces.kept ≡ kept_so_far)
 gone_on_told base pieces goes = (goes.base_is, goes.kept_is)
 
 -- a line end is ignored

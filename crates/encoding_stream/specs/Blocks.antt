@@ -3,13 +3,14 @@ use Rattle.std.specs.Prelude.{◌≡◌, ℕ, ◌*◌, ◌/◌, List, [], ◌++�
 use Rattle.data_encoding.specs.Base.{Base}
 use Rattle.data_encoding.specs.EncodedPieces.{HasEncoded}
 use Rattle.data_encoding.specs.Lengths.{alignment}
+use Rattle.data_encoding.specs.Lent.{base_of_lent}
 use Rattle.data_encoding.specs.Text.{text_of}
 use Rattle.encoding_stream.specs.declared.blocks.BufferEncoder.{BufferEncoder}
 use Rattle.encoding_stream.specs.declared.kept_data.KeptData.{KeptData}
 
 -- the encoding of an encoder
 abbrev pub base_of_blocks : BufferEncoder → Base
-base_of_blocks encoder = encoder.encoding.now
+base_of_blocks encoder = base_of_lent encoder.encoding
 
 -- what an encoder keeps of its data
 abbrev pub data_kept : BufferEncoder → KeptData

@@ -3,13 +3,14 @@ use Rattle.std.specs.Prelude.{◌≡◌, ℕ, ◌+◌, ◌*◌, ◌/◌, ◌≤�
 use Rattle.data_encoding.specs.declared.error.DecodeError.{DecodeError}
 use Rattle.data_encoding.specs.Base.{Base, group_bytes, group_symbols, is_ignored, meaning}
 use Rattle.data_encoding.specs.Grammar.{Positioned}
+use Rattle.data_encoding.specs.Lent.{base_of_lent}
 use Rattle.data_encoding.specs.Pieces.{HasRead}
 use Rattle.encoding_stream.specs.declared.pieces.Kept.{Kept}
 use Rattle.encoding_stream.specs.declared.pieces.BufferDecoder.{BufferDecoder}
 
 -- the encoding of a decoder by pieces
 abbrev pub base_of_pieces : BufferDecoder → Base
-base_of_pieces pieces = pieces.encoding.now
+base_of_pieces pieces = base_of_lent pieces.encoding
 
 -- what a decoder by pieces keeps of its text
 abbrev pub kept_by : BufferDecoder → Kept

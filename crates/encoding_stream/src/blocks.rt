@@ -3,12 +3,13 @@
 ghost use Rattle.std.specs.Prelude.{◌≡◌, ℕ, ◌+◌, ◌<◌, ◌≤◌, ◌↔◌, List, [], ◌++◌, length, take, drop, None, IfSome};
 ghost use Rattle.data_encoding.specs.Fields.{IsSpecified};
 ghost use Rattle.data_encoding.specs.Lengths.{alignment};
+ghost use Rattle.data_encoding.specs.Lent.{base_of_lent};
 ghost use Rattle.data_encoding.specs.Text.{text_of};
 ghost use Rattle.encoding_stream.specs.Specified.{IsBuiltAgain};
 
 use crate::kept_data::KeptData;
 use data_encoding::laws::{join_encode, specification_again};
-use data_encoding::{ENCODE_LIMIT, Encoding};
+use data_encoding::{ENCODE_LIMIT, Encoding, EncodingRef, LentEncoding};
 
 /// Encodes data that comes in pieces, cut anywhere, into buffers of the caller.
 ///
@@ -17,11 +18,11 @@ use data_encoding::{ENCODE_LIMIT, Encoding};
 /// `resumed` continues from them.
 #[derive(Clone, Copy, Debug, Drop)]
 pub struct BufferEncoder<'a> {
-    encoding: &'a Encoding,
+    encoding: LentEncoding<'a>,
     block: usize,
     kept: KeptData,
-    ghost specified: { IsBuiltAgain encoding.now },
-    ghost block_len: { block ≡ alignment encoding.now },
+    ghost specified: { IsBuiltAgain (base_of_lent encoding) },
+    ghost block_len: { block ≡ alignment (base_of_lent encoding) },
     ghost most: { block ≤ 189 },
     ghost short: { kept.count < block },
 }
@@ -35,10 +36,19 @@ impl<'a> BufferEncoder<'a> {
         ensures nothing { HasWritten encoding.now (data_kept result) [] [] }
         ensures specified { IsSpecified encoding.now }
     {
+        BufferEncoder::new_by_ref(&encoding.by_ref())
+    }
+
+    /// Returns an encoder that has read nothing, of an encoding by reference.
+    pub fn new_by_ref(encoding: &EncodingRef<'a>) -> BufferEncoder<'a>
+        ensures base { base_of_blocks result ≡ encoding.now }
+        ensures nothing { HasWritten encoding.now (data_kept result) [] [] }
+        ensures specified { IsSpecified encoding.now }
+    {
         join_encode();
         specification_again();
         BufferEncoder {
-            encoding,
+            encoding: encoding.lend(),
             block: encoding.encode_align(),
             kept: KeptData {
                 count: 0,
@@ -57,7 +67,20 @@ impl<'a> BufferEncoder<'a> {
         ensures few { IfSome result (λ _. kept.count ≤ 188) }
         ensures refused { (result ≡ None) ↔ (alignment encoding.now ≤ kept.count) }
     {
-        let mut encoder = BufferEncoder::new(encoding);
+        BufferEncoder::resumed_by_ref(&encoding.by_ref(), kept)
+    }
+
+    /// Returns an encoder of an encoding by reference that continues from what another of the same
+    /// encoding kept, or `None` if a whole block is held, which no encoder keeps. Any other numbers
+    /// are accepted, as by [`resumed`](BufferEncoder::resumed).
+    pub fn resumed_by_ref(encoding: &EncodingRef<'a>, kept: KeptData) -> Option<BufferEncoder<'a>>
+        ensures base { IfSome result (λ encoder. base_of_blocks encoder ≡ encoding.now) }
+        ensures kept { IfSome result (λ encoder. data_kept encoder ≡ kept) }
+        ensures short { IfSome result (λ _. kept.count < alignment encoding.now) }
+        ensures few { IfSome result (λ _. kept.count ≤ 188) }
+        ensures refused { (result ≡ None) ↔ (alignment encoding.now ≤ kept.count) }
+    {
+        let mut encoder = BufferEncoder::new_by_ref(encoding);
         if kept.count >= encoder.block {
             return None;
         }
@@ -86,7 +109,8 @@ impl<'a> BufferEncoder<'a> {
             return 0;
         }
         let rest = len - missing;
-        self.encoding.encode_len(self.block) + self.encoding.encode_len(rest - rest % self.block)
+        let encoding = self.encoding.by_ref();
+        encoding.encode_len(self.block) + encoding.encode_len(rest - rest % self.block)
     }
 
     /// Reads a piece, of at most `ENCODE_LIMIT` bytes, writes the text of the blocks that are then
@@ -147,14 +171,15 @@ impl<'a> BufferEncoder<'a> {
 }
 
 // Writes the text of data to the start of the output, and returns its length.
-fn write_front(encoding: &Encoding, input: &[u8], output: &mut [u8]) -> usize
+fn write_front(lent: LentEncoding<'_>, input: &[u8], output: &mut [u8]) -> usize
     requires limit { length input.now ≤ ENCODE_LIMIT }
-    requires room { length (text_of encoding.now input.now) ≤ length output.old }
-    ensures text { take result output.new ≡ text_of encoding.now input.now }
+    requires room { length (text_of (base_of_lent lent) input.now) ≤ length output.old }
+    ensures text { take result output.new ≡ text_of (base_of_lent lent.entry) input.now }
     ensures after { drop result output.new ≡ drop result output.old }
-    ensures value { result ≡ length (text_of encoding.now input.now) }
+    ensures value { result ≡ length (text_of (base_of_lent lent.entry) input.now) }
     ensures len { length output.new ≡ length output.old }
 {
+    let encoding = lent.by_ref();
     let len = encoding.encode_len(input.len());
     encoding.encode_mut(input, &mut output[..len]);
     len

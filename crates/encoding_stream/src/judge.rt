@@ -18,12 +18,13 @@ impl BufferDecoder<'_> {
         ensures { result ≡ is_final (base_of_pieces self.now) (at_positions self.now.size
             self.now.kept.positions self.now.kept.bytes) }
     {
-        if self.encoding.concatenates() {
+        let encoding = self.encoding.by_ref();
+        if encoding.concatenates() {
             return false;
         }
         self.kept.bytes[..self.size]
             .iter()
-            .any(|byte| self.encoding.interpret_byte(*byte).is_padding())
+            .any(|byte| encoding.interpret_byte(*byte).is_padding())
     }
 
     /// Judges the first `count` bytes kept as the next group, and returns its fault or writes its
@@ -49,11 +50,9 @@ impl BufferDecoder<'_> {
                 kind: DecodeKind::Padding,
             }));
         }
-        let fault = match self.encoding.decode_len(count) {
-            Ok(most) => match self
-                .encoding
-                .decode_mut(&self.kept.bytes[..count], &mut output[..most])
-            {
+        let encoding = self.encoding.by_ref();
+        let fault = match encoding.decode_len(count) {
+            Ok(most) => match encoding.decode_mut(&self.kept.bytes[..count], &mut output[..most]) {
                 Ok(written) => return Ok(written),
                 Err(partial) => partial.error,
             },
@@ -90,7 +89,7 @@ impl BufferDecoder<'_> {
         pieces();
         let judged = self.judge_last(output);
         let written = judged.unwrap_or(0);
-        if let Err(error) = self.encoding.decode_len(self.kept.len) {
+        if let Err(error) = self.encoding.by_ref().decode_len(self.kept.len) {
             return (written, Err(error));
         }
         match judged {

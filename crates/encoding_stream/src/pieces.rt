@@ -4,11 +4,12 @@ ghost use Rattle.std.proofs.Props.{props};
 ghost use Rattle.std.specs.Prelude.{◌≡◌, ℕ, ◌+◌, ◌<◌, ◌≤◌, ◌⊎◌, true, false, List, [], ◌∷◌, length, take, All, is_some, IfSome, IsSome};
 ghost use Rattle.data_encoding.specs.declared.decode.TheConstants.{DECODE_LIMIT};
 ghost use Rattle.data_encoding.specs.Base.{IsWidth, group_symbols};
+ghost use Rattle.data_encoding.specs.Lent.{base_of_lent};
 ghost use Rattle.encoding_stream.specs.Specified.{IsBuiltAgain};
 
 use data_encoding::laws::specification_again;
 use data_encoding::laws::steps::{pieces, whole_groups};
-use data_encoding::{DECODE_LIMIT, DecodeError, Encoding};
+use data_encoding::{DECODE_LIMIT, DecodeError, Encoding, EncodingRef, LentEncoding};
 
 /// What is kept of a text between its pieces: plain numbers, from which decoding continues.
 #[derive(Clone, Copy, Debug, Drop)]
@@ -39,14 +40,14 @@ pub struct Kept {
 /// numbers: `kept` returns them, and `resumed` continues from them.
 #[derive(Clone, Copy, Debug, Drop)]
 pub struct BufferDecoder<'a> {
-    pub(crate) encoding: &'a Encoding,
+    pub(crate) encoding: LentEncoding<'a>,
     // The number of symbols in a whole group. It is kept since it is needed for each byte, and
     // `group_len` divides.
     pub(crate) size: usize,
     pub(crate) kept: Kept,
-    ghost specified: { IsBuiltAgain encoding.now },
-    ghost width: { IsWidth encoding.now.width },
-    ghost group: { size ≡ group_symbols encoding.now.width },
+    ghost specified: { IsBuiltAgain (base_of_lent encoding) },
+    ghost width: { IsWidth (base_of_lent encoding).width },
+    ghost group: { size ≡ group_symbols (base_of_lent encoding).width },
     ghost short: { kept.count < size },
     ghost held: { kept.count ≤ kept.len },
     ghost clear: { IsSome kept.fault → kept.count ≡ 0 },
@@ -69,10 +70,20 @@ impl<'a> BufferDecoder<'a> {
         ensures no_bytes { whole_bytes encoding.now [] ≡ [] }
         ensures specified { IsSpecified encoding.now }
     {
+        BufferDecoder::new_by_ref(&encoding.by_ref())
+    }
+
+    /// Returns a decoder that has read nothing, of an encoding by reference.
+    pub fn new_by_ref(encoding: &EncodingRef<'a>) -> BufferDecoder<'a>
+        ensures base { base_of_pieces result ≡ encoding.now }
+        ensures nothing { Keeps encoding.now (kept_by result) [] }
+        ensures no_bytes { whole_bytes encoding.now [] ≡ [] }
+        ensures specified { IsSpecified encoding.now }
+    {
         pieces();
         specification_again();
         BufferDecoder {
-            encoding,
+            encoding: encoding.lend(),
             size: encoding.group_len(),
             kept: Kept {
                 len: 0,
@@ -100,8 +111,18 @@ impl<'a> BufferDecoder<'a> {
         ensures tested { IsSome result → MayBeKept encoding.now kept }
         ensures resumes { IsKept encoding.now kept → IsSome result }
     {
+        BufferDecoder::resumed_by_ref(&encoding.by_ref(), kept)
+    }
+
+    /// Returns a decoder of an encoding by reference that continues from what another of the same
+    /// encoding kept. The numbers are tested as by [`resumed`](BufferDecoder::resumed).
+    pub fn resumed_by_ref(encoding: &EncodingRef<'a>, kept: Kept) -> Option<BufferDecoder<'a>>
+        ensures goes_on { IfSome result (GoesOn encoding.now kept) }
+        ensures tested { IsSome result → MayBeKept encoding.now kept }
+        ensures resumes { IsKept encoding.now kept → IsSome result }
+    {
         whole_groups();
-        let mut decoder = BufferDecoder::new(encoding);
+        let mut decoder = BufferDecoder::new_by_ref(encoding);
         if kept.len > DECODE_LIMIT || kept.count >= decoder.size || kept.count > kept.len {
             return None;
         }
@@ -250,7 +271,7 @@ impl<'a> BufferDecoder<'a> {
         pieces();
         let position = self.kept.len;
         self.kept.len += 1;
-        if self.kept.fault.is_some() || self.encoding.interpret_byte(byte).is_ignored() {
+        if self.kept.fault.is_some() || self.encoding.by_ref().interpret_byte(byte).is_ignored() {
             return 0;
         }
         let index = self.kept.count;
@@ -319,7 +340,7 @@ impl<'a> BufferDecoder<'a> {
         let count = self.kept.count;
         let end = self.kept.len;
         self.kept.len = end + 1;
-        if self.encoding.interpret_byte(byte).is_ignored() {
+        if self.encoding.by_ref().interpret_byte(byte).is_ignored() {
             return;
         }
         self.kept.positions[count] = end;

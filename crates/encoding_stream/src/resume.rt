@@ -4,7 +4,7 @@ ghost use Rattle.std.specs.Prelude.{◌≡◌, ◌≤◌, true, false};
 ghost use Rattle.encoding_stream.specs.Resume.{held_positions, is_of_group, Ascend, HasPossibleFault, HoldsNoIgnored};
 
 use crate::pieces::Kept;
-use data_encoding::{DecodeKind, Encoding};
+use data_encoding::{DecodeKind, EncodingRef};
 
 impl Kept {
     /// Whether the bytes held are in the text, each after the one before.
@@ -24,7 +24,7 @@ impl Kept {
     }
 
     /// Whether one of the bytes held is ignored.
-    pub(crate) fn holds_ignored(&self, encoding: &Encoding) -> bool
+    pub(crate) fn holds_ignored(&self, encoding: &EncodingRef<'_>) -> bool
         requires few { self.now.count ≤ 8 }
         ensures sound { result ≡ false → HoldsNoIgnored encoding.now self.now }
         ensures complete { HoldsNoIgnored encoding.now self.now → result ≡ false }
@@ -35,7 +35,7 @@ impl Kept {
     }
 
     /// Whether a decoder of this encoding may keep this fault, or none, with what else is kept.
-    pub(crate) fn has_possible_fault(&self, encoding: &Encoding) -> bool
+    pub(crate) fn has_possible_fault(&self, encoding: &EncodingRef<'_>) -> bool
         ensures sound { result ≡ true → HasPossibleFault encoding.now self.now }
         ensures complete { HasPossibleFault encoding.now self.now → result ≡ true }
     {
@@ -49,7 +49,7 @@ impl Kept {
 }
 
 // Whether a whole group may have a fault of this kind.
-fn is_of_group(encoding: &Encoding, kind: DecodeKind) -> bool
+fn is_of_group(encoding: &EncodingRef<'_>, kind: DecodeKind) -> bool
     ensures { result ≡ is_of_group encoding.now kind }
 {
     match kind {

@@ -26,7 +26,10 @@ impl BufferDecoder<'_> {
     {
         whole_groups();
         let groups = self.count_groups(len);
-        (groups * self.size, groups * self.encoding.group_bytes())
+        (
+            groups * self.size,
+            groups * self.encoding.by_ref().group_bytes(),
+        )
     }
 
     // Returns how many whole groups this many bytes have. It divides by constants, since each piece
@@ -109,7 +112,7 @@ impl BufferDecoder<'_> {
     {
         pieces();
         let len = text.len();
-        match self.encoding.decode_mut(text, output) {
+        match self.encoding.by_ref().decode_mut(text, output) {
             Ok(written) => Ok((len, written)),
             Err(partial) if self.is_of_whole_group(len, partial.error.kind) => Err(partial),
             Err(partial) => Ok((partial.read, partial.written)),
@@ -122,10 +125,11 @@ impl BufferDecoder<'_> {
         requires whole { len % self.now.size ≡ 0 }
         ensures { result ≡ true → IsOfWholeGroup (base_of_pieces self.now) len kind }
     {
-        if matches!(kind, DecodeKind::Length) || !self.encoding.concatenates() {
+        let encoding = self.encoding.by_ref();
+        if matches!(kind, DecodeKind::Length) || !encoding.concatenates() {
             return false;
         }
-        !self.encoding.ignores_bytes() || self.encoding.completes_groups()
+        !encoding.ignores_bytes() || encoding.completes_groups()
     }
 
     // Whether a text of this length that means this many bytes is whole groups. Padded texts are.
@@ -144,10 +148,11 @@ impl BufferDecoder<'_> {
     {
         pieces();
         whole_groups();
-        if !self.encoding.ignores_bytes() && self.has_whole_len(read) {
+        let encoding = self.encoding.by_ref();
+        if !encoding.ignores_bytes() && self.has_whole_len(read) {
             return true;
         }
-        self.encoding.is_padded() || written % self.encoding.group_bytes() == 0
+        encoding.is_padded() || written % encoding.group_bytes() == 0
     }
 
     // Whether this many bytes are as long as whole groups. It divides by constants, as
@@ -176,6 +181,7 @@ impl BufferDecoder<'_> {
             → AreWholeGroups (base_of_pieces self.now) text }
     {
         whole_groups();
-        !self.encoding.concatenates() && written % self.encoding.group_bytes() != 0
+        let encoding = self.encoding.by_ref();
+        !encoding.concatenates() && written % encoding.group_bytes() != 0
     }
 }

@@ -1,10 +1,19 @@
 //! Callers of encodings by reference, which hold no tables of their own.
 
-ghost use Rattle.std.specs.Prelude.{◌≡◌, take, IfSome, IsTrue};
+ghost use Rattle.std.specs.Prelude.{◌≡◌, ℕ, ◌+◌, ◌<◌, ◌≤◌, List, ◌++◌, length, take, None, IfSome, IsSome, IsTrue};
+ghost use Rattle.data_encoding.specs.Base.{group_symbols};
 ghost use Rattle.data_encoding.specs.Grammar.{Means};
+ghost use Rattle.data_encoding.specs.Lengths.{alignment};
+ghost use Rattle.data_encoding.specs.Pieces.{whole_bytes};
 ghost use Rattle.data_encoding.specs.Text.{text_of};
+ghost use Rattle.encoding_stream.specs.Blocks.{EncodesOn, HasWritten};
+ghost use Rattle.encoding_stream.specs.Pieces.{Keeps};
+ghost use Rattle.encoding_stream.specs.Resume.{IsKept};
+ghost use Rattle.conformance.specs.Texts.{IsFaultOfAll};
 
+use data_encoding::laws::fault_stays;
 use data_encoding::{DECODE_LIMIT, ENCODE_LIMIT, EncodingRef};
+use encoding_stream::{BufferDecoder, BufferEncoder, Kept, KeptData};
 
 /// Writes the text of data to a buffer of exactly its length, and returns whether the buffer had
 /// that length.
@@ -31,4 +40,107 @@ pub fn decode_exactly(encoding: &EncodingRef<'_>, input: &[u8], output: &mut [u8
         Ok(len) => Some(len),
         Err(_) => None,
     }
+}
+
+/// Returns the lengths of the texts of data of two lengths, each by a copy of what is lent.
+pub fn text_lengths(encoding: &EncodingRef<'_>, one: usize, other: usize) -> (usize, usize)
+    requires one { one ≤ ENCODE_LIMIT }
+    requires other { other ≤ ENCODE_LIMIT }
+    ensures one { (bytes : List ℕ) → length bytes ≡ one
+        → length (text_of encoding.now bytes) ≡ result.0 }
+    ensures other { (bytes : List ℕ) → length bytes ≡ other
+        → length (text_of encoding.now bytes) ≡ result.1 }
+{
+    let lent = encoding.lend();
+    let copy = lent;
+    (
+        lent.by_ref().encode_len(one),
+        copy.by_ref().encode_len(other),
+    )
+}
+
+/// Decodes the first piece of a text to the start of a buffer. Returns how many bytes were written,
+/// and what is kept of the text, of which nothing else is left.
+pub fn decode_first(encoding: &EncodingRef<'_>, piece: &[u8], output: &mut [u8]) -> (usize, Kept)
+    requires limit { length piece.now ≤ DECODE_LIMIT }
+    requires room { length piece.now + 7 ≤ length output.old }
+    ensures keeps { Keeps encoding.now result.1 piece.now }
+    ensures bytes { whole_bytes encoding.now piece.now ≡ take result.0 output.new }
+    ensures stays { IfSome result.1.fault (λ error.
+        IsFaultOfAll encoding.now piece.now error) }
+{
+    fault_stays();
+    let mut decoder = BufferDecoder::new_by_ref(encoding);
+    decoder.most(piece.len());
+    let written = decoder.read(piece, output);
+    (written, decoder.kept())
+}
+
+/// Decodes the next piece of a text of which this is kept to the start of a buffer. Returns how
+/// many bytes were written, and what is kept then, or `None` if no decoder keeps these numbers.
+pub fn decode_next(
+    encoding: &EncodingRef<'_>,
+    kept: Kept,
+    piece: &[u8],
+    output: &mut [u8],
+) -> Option<(usize, Kept)>
+    requires limit { kept.len + length piece.now ≤ DECODE_LIMIT }
+    requires room { length piece.now + 7 ≤ length output.old }
+    ensures keeps { IfSome result (λ next. (text : List ℕ) → Keeps encoding.now kept text
+        → Keeps encoding.now next.1 (text ++ piece.now)) }
+    ensures bytes { IfSome result (λ next. (text : List ℕ) → Keeps encoding.now kept text
+        → whole_bytes encoding.now (text ++ piece.now)
+        ≡ whole_bytes encoding.now text ++ take next.0 output.new) }
+    ensures taken { IsKept encoding.now kept → IsSome result }
+    ensures tested { IsSome result → kept.count < group_symbols encoding.now.width }
+{
+    let Some(mut decoder) = BufferDecoder::resumed_by_ref(encoding, kept) else {
+        return None;
+    };
+    decoder.most(piece.len());
+    let written = decoder.read(piece, output);
+    Some((written, decoder.kept()))
+}
+
+/// Encodes the first piece of data to the start of a buffer. Returns the length of the text that
+/// was written, and what is kept of the data, or `None` if the buffer is too short.
+pub fn encode_first(
+    encoding: &EncodingRef<'_>,
+    piece: &[u8],
+    output: &mut [u8],
+) -> Option<(usize, KeptData)>
+    requires limit { length piece.now ≤ ENCODE_LIMIT }
+    ensures { IfSome result (λ first. HasWritten encoding.now first.1 piece.now
+        (take first.0 output.new)) }
+{
+    let mut encoder = BufferEncoder::new_by_ref(encoding);
+    if output.len() < encoder.due(piece.len()) {
+        return None;
+    }
+    let written = encoder.read(piece, output);
+    Some((written, encoder.kept()))
+}
+
+/// Encodes the next piece of data of which this is kept to the start of a buffer. Returns the
+/// length of the text that was written, and what is kept then, or `None` if no encoder keeps these
+/// numbers, or the buffer is too short.
+pub fn encode_next(
+    encoding: &EncodingRef<'_>,
+    kept: KeptData,
+    piece: &[u8],
+    output: &mut [u8],
+) -> Option<(usize, KeptData)>
+    requires limit { length piece.now ≤ ENCODE_LIMIT }
+    ensures encodes { IfSome result (λ next. EncodesOn encoding.now kept next.1 piece.now
+        (take next.0 output.new)) }
+    ensures refused { alignment encoding.now ≤ kept.count → result ≡ None }
+{
+    let Some(mut encoder) = BufferEncoder::resumed_by_ref(encoding, kept) else {
+        return None;
+    };
+    if output.len() < encoder.due(piece.len()) {
+        return None;
+    }
+    let written = encoder.read(piece, output);
+    Some((written, encoder.kept()))
 }

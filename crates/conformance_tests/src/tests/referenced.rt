@@ -1,11 +1,16 @@
 //! Encodings by reference, next to the same as values.
 
+ghost use Rattle.std.specs.Prelude.{◌≤◌, length};
+
 use super::encoding::writes;
 use super::predefined::named;
-use conformance::callers::referenced::{decode_exactly, encode_exactly};
+use conformance::callers::referenced::{
+    decode_exactly, decode_first, decode_next, encode_exactly, encode_first, encode_next,
+    text_lengths,
+};
 use data_encoding::{
-    Encoding, EncodingRef, predefined, predefined_name, predefined_names, predefined_number,
-    predefined_numbered,
+    Encoding, EncodingRef, base64_mime_ref, base64_ref, predefined, predefined_name,
+    predefined_names, predefined_number, predefined_numbered,
 };
 
 // The names, in the order of their numbers.
@@ -98,4 +103,62 @@ fn names_and_numbers(rt: HostRuntime) {
 #[test]
 fn names_are_listed(rt: HostRuntime) {
     assert_eq!(rt; predefined_names().strip_suffix("\n"), Some(NAMES));
+}
+
+// Whether data that comes in two pieces has these two texts of whole blocks.
+fn encodes_in_two(
+    encoding: &EncodingRef<'_>,
+    front: &[u8],
+    next: &[u8],
+    front_text: &[u8],
+    next_text: &[u8],
+) -> bool
+    requires front { length front.now ≤ 8 }
+    requires next { length next.now ≤ 8 }
+{
+    let (mut one, mut other) = ([0; 16], [0; 16]);
+    let Some((in_front, kept)) = encode_first(encoding, front, &mut one) else {
+        return false;
+    };
+    let Some((in_next, _)) = encode_next(encoding, kept, next, &mut other) else {
+        return false;
+    };
+    one.get(..in_front).unwrap_or(&[]) == front_text
+        && other.get(..in_next).unwrap_or(&[]) == next_text
+}
+
+// Whether the whole groups of a text that comes in two pieces mean these bytes.
+fn decodes_in_two(
+    encoding: &EncodingRef<'_>,
+    front: &[u8],
+    next: &[u8],
+    front_data: &[u8],
+    next_data: &[u8],
+) -> bool
+    requires front { length front.now ≤ 8 }
+    requires next { length next.now ≤ 8 }
+{
+    let (mut one, mut other) = ([0; 16], [0; 16]);
+    let (in_front, kept) = decode_first(encoding, front, &mut one);
+    if kept.len != front.len() {
+        return false;
+    }
+    let Some((in_next, _)) = decode_next(encoding, kept, next, &mut other) else {
+        return false;
+    };
+    one.get(..in_front).unwrap_or(&[]) == front_data
+        && other.get(..in_next).unwrap_or(&[]) == next_data
+}
+
+#[test]
+fn pieces_by_reference(rt: HostRuntime) {
+    let base64 = base64_ref();
+    assert!(rt; encodes_in_two(&base64, b"fooba", b"rb", b"Zm9v", b"YmFy"));
+    assert!(rt; decodes_in_two(&base64, b"Zm9vYm", b"FyYg==", b"foo", b"barb"));
+    assert!(rt; decodes_in_two(&base64, b"Zm9vY!", b"FyYg==", b"foo", b""));
+    let mime = base64_mime_ref();
+    assert!(rt; decodes_in_two(&mime, b"Zm9v\r\nYm", b"F\r\ny", b"foo", b"bar"));
+    assert!(rt; encodes_in_two(&mime, b"foobar", b"b", b"", b""));
+    assert!(rt; text_lengths(&base64, 3, 4) == (4, 8));
+    assert!(rt; text_lengths(&mime, 0, 57) == (0, 78));
 }

@@ -1,10 +1,12 @@
--- Worked rows: an encoding as plain data.
+-- Worked rows: an encoding as plain data, and one that is lent.
 use Rattle.std.proofs.Common.{◌≡◌, true, false, [], ◌∷◌, take, Some, None, refl}
 use Rattle.data_encoding_meaning.specs.declared.encoding.BitOrder.TheVariants.{MostSignificantFirst, LeastSignificantFirst}
 use Rattle.data_encoding_meaning.specs.text.Base.{wrapping_by}
 use Rattle.data_encoding_kernel.specs.declared.lanes.affine.PlainAffine.{PlainAffine}
+use Rattle.data_encoding.specs.declared.lent.LentEncoding.{LentEncoding}
 use Rattle.data_encoding.specs.declared.plain.PlainEncoding.{PlainEncoding}
 use Rattle.data_encoding.specs.declared.plain.PlainFields.{PlainFields}
+use Rattle.data_encoding.specs.Lent.{base_of_lent}
 use Rattle.data_encoding.specs.Plain.{base_of_plain}
 use Rattle.data_encoding.specs.PlainTables.{order_by, padding_by, plain_tables}
 
@@ -35,6 +37,10 @@ plain_read = (refl, refl, refl, refl, refl)
 
 plain_seen : (plain : PlainEncoding) → plain.fields.width ≡ 6 → (base_of_plain plain).width ≡ 6
 plain_seen plain width = width
+
+lent_seen : (lent : LentEncoding) → lent.fields.now.width ≡ 6 → (base_of_lent lent).width ≡ 6
+unfolding base_of_lent
+lent_seen lent width = width
 
 plain_lines : (plain : PlainEncoding) → plain.fields.column ≡ 76
     → plain.separator ≡ 13 ∷ 10 ∷ 0 ∷ [] → plain.separator_len ≡ 2

@@ -1,4 +1,4 @@
-use Rattle.std.proofs.Common.{refl, subst}
+use Rattle.std.proofs.Common.{refl}
 use Rattle.data_encoding.specs.Base.{Base}
 use Rattle.data_encoding_calls.specs.Pieces.{EndsText}
 use Rattle.data_encoding_calls.proofs.NumberLemmas.{by-known, by-unknown}
@@ -12,4 +12,4 @@ returns c =
     let Does = λ (b : Base).
     EndsText b c.args.decoder.now c.args.output.now c.finish_by.new.output c.args.decoded.now
     c.finish_by.new.decoded c.finish_by.result in
-    by-known Does c.in-Some.ensures.known (subst Does c.encoding.ensures c.finish_by.ensures)
+    by-known Does c.in-Some.ensures.known c.finish_by.ensures

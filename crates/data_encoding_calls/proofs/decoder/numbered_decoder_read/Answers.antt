@@ -1,4 +1,4 @@
-use Rattle.std.proofs.Common.{refl, subst}
+use Rattle.std.proofs.Common.{refl}
 use Rattle.data_encoding.specs.Base.{Base}
 use Rattle.data_encoding_calls.specs.Pieces.{ReadsPiece}
 use Rattle.data_encoding_calls.proofs.NumberLemmas.{by-known, by-unknown}
@@ -21,4 +21,4 @@ returns c =
       output = c.read_by.new.output;
       written = c.read_by.new.written;
     }) c.read_by.result in
-    by-known Does c.in-Some.ensures.known (subst Does c.encoding.ensures c.read_by.ensures)
+    by-known Does c.in-Some.ensures.known c.read_by.ensures

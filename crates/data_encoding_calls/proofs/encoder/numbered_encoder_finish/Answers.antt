@@ -1,4 +1,4 @@
-use Rattle.std.proofs.Common.{refl, subst}
+use Rattle.std.proofs.Common.{refl}
 use Rattle.data_encoding.specs.Base.{Base}
 use Rattle.data_encoding_calls.specs.Blocks.{EndsData}
 use Rattle.data_encoding_calls.proofs.NumberLemmas.{by-known, by-unknown}
@@ -12,4 +12,4 @@ returns c =
     let Does = λ (b : Base).
     EndsData b c.args.encoder.now c.args.output.now c.end_by.new.output c.args.written.now
     c.end_by.new.written c.end_by.result in
-    by-known Does c.in-Some.ensures.known (subst Does c.encoding.ensures c.end_by.ensures)
+    by-known Does c.in-Some.ensures.known c.end_by.ensures

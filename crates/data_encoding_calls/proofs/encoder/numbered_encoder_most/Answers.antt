@@ -1,4 +1,4 @@
-use Rattle.std.proofs.Common.{refl, subst}
+use Rattle.std.proofs.Common.{refl}
 use Rattle.data_encoding.specs.Base.{Base}
 use Rattle.data_encoding_calls.specs.Blocks.{TellsDue}
 use Rattle.data_encoding_calls.proofs.NumberLemmas.{by-known, by-unknown}
@@ -12,4 +12,4 @@ returns c =
     let Does = λ (b : Base).
     TellsDue b c.args.encoder.now c.args.len c.args.most.now c.due_by.new.most
     c.due_by.result in
-    by-known Does c.in-Some.ensures.known (subst Does c.encoding.ensures c.due_by.ensures)
+    by-known Does c.in-Some.ensures.known c.due_by.ensures

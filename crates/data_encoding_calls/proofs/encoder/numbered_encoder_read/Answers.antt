@@ -1,4 +1,4 @@
-use Rattle.std.proofs.Common.{refl, subst}
+use Rattle.std.proofs.Common.{refl}
 use Rattle.data_encoding.specs.Base.{Base}
 use Rattle.data_encoding_calls.specs.Blocks.{EncodesPiece}
 use Rattle.data_encoding_calls.proofs.NumberLemmas.{by-known, by-unknown}
@@ -21,4 +21,4 @@ returns c =
       output = c.take_by.new.output;
       written = c.take_by.new.written;
     }) c.take_by.result in
-    by-known Does c.in-Some.ensures.known (subst Does c.encoding.ensures c.take_by.ensures)
+    by-known Does c.in-Some.ensures.known c.take_by.ensures

@@ -39,11 +39,12 @@ returns c = record {
       reads-cut base (built-again encoder.specified) c.join_encode.ensures.join held piece block
       missing encoder.block encoder.block_len (omega (arith, size, encoder.short))
       (omega (arith, encoder.short)) few refl in
-      let one = c.encode_len.ensures.length block
+      let is = c.by_ref-encoding.ensures in
+      let one = (rw is at c.encode_len.ensures.length) block
       (length-append held (take missing piece)
       ∙ omega (arith, length-take-le missing piece few, size, encoder.short)) in
       let end : ℕ = length rest - length rest % encoder.block in
-      let others = c.encode_len-2.ensures.length (take end rest)
+      let others = (rw is at c.encode_len-2.ensures.length) (take end rest)
       (length-take-le end rest (omega arith) ∙ ap (λ n. n - n % encoder.block) left) in
       ap length reads.text_is
       ∙ length-append (text_of base block) (text_of base (take end rest))

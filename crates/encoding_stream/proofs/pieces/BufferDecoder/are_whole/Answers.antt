@@ -9,19 +9,21 @@ pub returns-then-is_padded-clause-whole : goal.returns-then-is_padded-clause-who
 returns-then-is_padded-clause-whole c = λ _ text bytes _ _ means.
     let s = c.args.self.now in
     c.pieces.ensures.whole (base_of_pieces s) (is-specified s) text bytes means
-    (inl (sym c.is_padded.ensures ∙ c.if-is_padded.true))
+    (inl (sym (rw c.by_ref-encoding.ensures at c.is_padded.ensures) ∙ c.if-is_padded.true))
 
 pub returns-then-is_padded-clause-few : goal.returns-then-is_padded-clause-few
 returns-then-is_padded-clause-few c = λ _ most.
     fills-by_padding (base_of_pieces c.args.self.now)
-    (sym c.is_padded.ensures ∙ c.if-is_padded.true) c.args.read c.args.written most
+    (sym (rw c.by_ref-encoding.ensures at c.is_padded.ensures) ∙ c.if-is_padded.true)
+    c.args.read c.args.written most
 
 pub returns-then-has_whole_len-clause-whole : goal.returns-then-has_whole_len-clause-whole
 returns-then-has_whole_len-clause-whole c = λ _ text bytes same _ means.
     let s = c.args.self.now in
     c.pieces.ensures.whole (base_of_pieces s) (is-specified s) text bytes means
     (inr (inr (
-      sym c.ignores_bytes.ensures ∙ c.if-not-ignores_bytes.true,
+      sym (rw c.by_ref-encoding.ensures at c.ignores_bytes.ensures)
+          ∙ c.if-not-ignores_bytes.true,
       rw (same, ← s.group)
           (eqb-true _ _ (sym c.has_whole_len.ensures ∙ c.if-has_whole_len.true)),
     )))
@@ -37,11 +39,13 @@ returns-then-has_whole_len-clause-few c = λ _ most.
 pub returns-else-is_padded-clause-whole : goal.returns-else-is_padded-clause-whole
 returns-else-is_padded-clause-whole c = λ test text bytes _ same means.
     let s = c.args.self.now in
+    let value = rw c.by_ref-encoding.ensures at c.group_bytes.ensures.value in
     c.whole_groups.ensures.whole (base_of_pieces s) (is-specified s) text bytes means
-    (rw (same, ← c.group_bytes.ensures.value) (eqb-true _ _ test))
+    (rw (same, ← value) (eqb-true _ _ test))
 
 pub returns-else-is_padded-clause-few : goal.returns-else-is_padded-clause-few
 returns-else-is_padded-clause-few c = λ test most.
     let s = c.args.self.now in
+    let value = rw c.by_ref-encoding.ensures at c.group_bytes.ensures.value in
     fills-by_bytes (base_of_pieces s) s.width c.args.read c.args.written
-    (rw (← c.group_bytes.ensures.value) (eqb-true _ _ test)) most
+    (rw (← value) (eqb-true _ _ test)) most

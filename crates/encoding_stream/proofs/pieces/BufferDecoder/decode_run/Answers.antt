@@ -17,22 +17,26 @@ returns-in-Ok-clause-most c =
 pub returns-in-Err-clause-fault : goal.returns-in-Err-clause-fault
 returns-in-Err-clause-fault c = λ before len read.
     c.pieces.ensures.stops (base_of_pieces c.args.self.now) (is-specified c.args.self.now) before
-    c.args.text.now _ len c.in-Err.partial read c.in-Err.ensures.fault
-    (c.is_of_whole_group.ensures c.if-is_of_whole_group.true) c.in-Err.ensures.partial
+    c.args.text.now _ len c.in-Err.partial read
+    (rw c.by_ref.ensures at c.in-Err.ensures.fault)
+    (c.is_of_whole_group.ensures c.if-is_of_whole_group.true)
+    (rw c.by_ref.ensures at c.in-Err.ensures.partial)
 
 pub returns-in-Err-clause-within : goal.returns-in-Err-clause-within
 returns-in-Err-clause-within c =
     let fits = stopped-within (base_of_pieces c.args.self.now) c.args.self.now.width _ _
-    c.requires.exact c.in-Err.partial c.in-Err.ensures.bounds c.in-Err.ensures.most in
+    c.requires.exact c.in-Err.partial c.in-Err.ensures.bounds
+    (rw c.by_ref.ensures at c.in-Err.ensures.most) in
     omega (arith, fits, c.decode_mut.ensures.len)
 
 pub returns-in-Err-2-clause-most : goal.returns-in-Err-2-clause-most
 returns-in-Err-2-clause-most c =
     stopped-most (base_of_pieces c.args.self.now) c.in-Err.partial.read c.in-Err.partial.written
-    c.in-Err.ensures.most
+    (rw c.by_ref.ensures at c.in-Err.ensures.most)
 
 pub returns-in-Err-2-clause-written : goal.returns-in-Err-2-clause-written
 returns-in-Err-2-clause-written c =
     let fits = stopped-within (base_of_pieces c.args.self.now) c.args.self.now.width _ _
-    c.requires.exact c.in-Err.partial c.in-Err.ensures.bounds c.in-Err.ensures.most in
+    c.requires.exact c.in-Err.partial c.in-Err.ensures.bounds
+    (rw c.by_ref.ensures at c.in-Err.ensures.most) in
     omega (arith, fits, c.decode_mut.ensures.len)

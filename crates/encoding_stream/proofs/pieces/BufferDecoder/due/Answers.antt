@@ -13,7 +13,8 @@ returns-clause-due c =
     let count = c.count_groups-groups.result in
     subst (λ n. decoded_len base (count * n) ≡ Ok (count * group_bytes base.width)) (sym s.group)
     (c.whole_groups.ensures.bytes base (is-specified s) count)
-    ∙ ap (λ n. Ok (count * n)) (sym c.group_bytes.ensures.value)
+    ∙ ap (λ n. Ok (count * n))
+    (sym (rw c.by_ref.ensures at c.group_bytes.ensures.value))
 
 pub returns-clause-whole : goal.returns-clause-whole
 returns-clause-whole c = mul-mod_left c.count_groups-groups.result c.args.self.now.size

@@ -1,12 +1,14 @@
 use Rattle.std.proofs.Common.{None, Some, sym, ◌∙◌}
-use Rattle.encoding_stream.specs.Pieces.{held}
+use Rattle.encoding_stream.specs.Pieces.{base_of_pieces, held}
 use Rattle.encoding_stream.proofs.FinishLemmas.{bytes-judged, verdict-groups, verdict-length}
+use Rattle.encoding_stream.proofs.PieceLemmas.{is-specified}
 use Rattle.encoding_stream.proofs.pieces.BufferDecoder.finish.Goals as goal
 
 pub returns-in-Err-clause-bytes : goal.returns-in-Err-clause-bytes
 returns-in-Err-clause-bytes c =
-    bytes-judged c.args.self.now.encoding.now c.decode_len.ensures.base c.pieces.ensures.bytes
-    c.args.self.now.kept c.judge_last-judged.result c.judge_last-judged.new.output
+    bytes-judged (base_of_pieces c.args.self.now) (is-specified c.args.self.now)
+    c.pieces.ensures.bytes c.args.self.now.kept c.judge_last-judged.result
+    c.judge_last-judged.new.output
     c.unwrap_or-written.result c.judge_last-judged.ensures.sound
     c.judge_last-judged.ensures.fault c.unwrap_or-written.ensures
 
@@ -14,14 +16,16 @@ pub returns-in-Ok-clause-verdict : goal.returns-in-Ok-clause-verdict
 returns-in-Ok-clause-verdict c = λ text keeps.
     let s = c.args.self.now in
     let k = s.kept in
-    verdict-groups s.encoding.now c.decode_len.ensures.base text k.len k.fault (held k) k.ended
+    verdict-groups (base_of_pieces s) (is-specified s) text k.len k.fault (held k) k.ended
     keeps c.pieces.ensures.verdict c.in_default.field-0
-    (sym c.decode_len.ensures.value ∙ c.in_default.is) None (c.in-Ok.ensures.sound text keeps).0
+    (sym (rw c.by_ref.ensures at c.decode_len.ensures.value) ∙ c.in_default.is) None
+    (c.in-Ok.ensures.sound text keeps).0
 
 pub returns-in-Ok-clause-bytes : goal.returns-in-Ok-clause-bytes
 returns-in-Ok-clause-bytes c =
-    bytes-judged c.args.self.now.encoding.now c.decode_len.ensures.base c.pieces.ensures.bytes
-    c.args.self.now.kept c.judge_last-judged.result c.judge_last-judged.new.output
+    bytes-judged (base_of_pieces c.args.self.now) (is-specified c.args.self.now)
+    c.pieces.ensures.bytes c.args.self.now.kept c.judge_last-judged.result
+    c.judge_last-judged.new.output
     c.unwrap_or-written.result c.judge_last-judged.ensures.sound
     c.judge_last-judged.ensures.fault c.unwrap_or-written.ensures
 
@@ -29,15 +33,16 @@ pub returns-in-Err-judged-clause-verdict : goal.returns-in-Err-judged-clause-ver
 returns-in-Err-judged-clause-verdict c = λ text keeps.
     let s = c.args.self.now in
     let k = s.kept in
-    verdict-groups s.encoding.now c.decode_len.ensures.base text k.len k.fault (held k) k.ended
+    verdict-groups (base_of_pieces s) (is-specified s) text k.len k.fault (held k) k.ended
     keeps c.pieces.ensures.verdict c.in_default.field-0
-    (sym c.decode_len.ensures.value ∙ c.in_default.is) (Some c.in-Err-judged.error)
-    (c.in-Err-judged.ensures.fault text keeps)
+    (sym (rw c.by_ref.ensures at c.decode_len.ensures.value) ∙ c.in_default.is)
+    (Some c.in-Err-judged.error) (c.in-Err-judged.ensures.fault text keeps)
 
 pub returns-in-Err-judged-clause-bytes : goal.returns-in-Err-judged-clause-bytes
 returns-in-Err-judged-clause-bytes c =
-    bytes-judged c.args.self.now.encoding.now c.decode_len.ensures.base c.pieces.ensures.bytes
-    c.args.self.now.kept c.judge_last-judged.result c.judge_last-judged.new.output
+    bytes-judged (base_of_pieces c.args.self.now) (is-specified c.args.self.now)
+    c.pieces.ensures.bytes c.args.self.now.kept c.judge_last-judged.result
+    c.judge_last-judged.new.output
     c.unwrap_or-written.result c.judge_last-judged.ensures.sound
     c.judge_last-judged.ensures.fault c.unwrap_or-written.ensures
 
@@ -45,5 +50,6 @@ pub returns-in-Err-clause-verdict : goal.returns-in-Err-clause-verdict
 returns-in-Err-clause-verdict c = λ text keeps.
     let s = c.args.self.now in
     let k = s.kept in
-    verdict-length s.encoding.now c.decode_len.ensures.base text k.len k.fault (held k) k.ended
-    keeps c.pieces.ensures.verdict c.in-Err.error (sym c.decode_len.ensures.value ∙ c.in-Err.is)
+    verdict-length (base_of_pieces s) (is-specified s) text k.len k.fault (held k) k.ended
+    keeps c.pieces.ensures.verdict c.in-Err.error
+    (sym (rw c.by_ref.ensures at c.decode_len.ensures.value) ∙ c.in-Err.is)

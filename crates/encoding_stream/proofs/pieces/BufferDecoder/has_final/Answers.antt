@@ -11,15 +11,17 @@ returns-then-not-concatenates-clause-ends c = λ text bytes same means.
     let base = base_of_pieces s in
     c.whole_groups.ensures.ends base (is-specified s) text bytes means
     ∙ ap (λ joins. not joins && not (length bytes % group_bytes base.width == 0))
-    (sym c.concatenates.ensures ∙ c.if-not-concatenates.true)
+    (sym (rw c.by_ref-encoding.ensures at c.concatenates.ensures) ∙ c.if-not-concatenates.true)
     ∙ ap (λ n. not (n % group_bytes base.width == 0)) same
-    ∙ ap (λ n. not (c.args.written % n == 0)) (sym c.group_bytes.ensures.value)
+    ∙ ap (λ n. not (c.args.written % n == 0))
+    (sym (rw c.by_ref-encoding.ensures at c.group_bytes.ensures.value))
 
 pub returns-else-not-concatenates-clause-ends : goal.returns-else-not-concatenates-clause-ends
 returns-else-not-concatenates-clause-ends c = λ text _ _ _.
     let base = base_of_pieces c.args.self.now in
     c.whole_groups.ensures.ends_nowhere base
-    (sym c.concatenates.ensures ∙ c.if-not-concatenates.false) (groups base text)
+    (sym (rw c.by_ref-encoding.ensures at c.concatenates.ensures) ∙ c.if-not-concatenates.false)
+    (groups base text)
     ∙ ap not (sym c.if-not-concatenates.false)
 
 pub returns-then-not-concatenates-clause-goes_on :

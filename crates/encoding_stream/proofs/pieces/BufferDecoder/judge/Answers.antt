@@ -2,8 +2,9 @@ use Rattle.std.proofs.Common.{◌≡◌, ◌<◌, None, Some, Ok, take, drop, sy
 use Rattle.std.proofs.lemmas.List.{take-append-le}
 use Rattle.data_encoding.specs.Fault.{fault_after, fault_of}
 use Rattle.data_encoding.specs.Lengths.{decoded_len}
-use Rattle.encoding_stream.specs.Pieces.{at_positions}
+use Rattle.encoding_stream.specs.Pieces.{at_positions, base_of_pieces}
 use Rattle.encoding_stream.proofs.SizeLemmas.{symbols-few}
+use Rattle.encoding_stream.proofs.PieceLemmas.{is-specified}
 use Rattle.encoding_stream.proofs.OrderLemmas.{is-held}
 use Rattle.encoding_stream.proofs.JudgedLemmas.{due-few, fault-refused, fault-stopped, judged-ended, judged-fault, judged-sound}
 use Rattle.encoding_stream.proofs.pieces.BufferDecoder.judge.Goals.{in-Ok+in-Err-decode_mut, in-Err}
@@ -13,12 +14,12 @@ pub returns-then-self-clause-fault : goal.returns-then-self-clause-fault
 returns-then-self-clause-fault c = λ none.
     let s = c.args.self.now in
     let k = s.kept in
-    let few = symbols-few s.encoding.now.width s.width in
+    let few = symbols-few (base_of_pieces s).width s.width in
     subst
-    (λ e. fault_after e s.encoding.now (at_positions c.args.count k.positions k.bytes)
+    (λ e. fault_after e (base_of_pieces s) (at_positions c.args.count k.positions k.bytes)
     ≡ Some c.at.result)
     (sym c.if-self.true)
-    (judged-ended s.encoding.now c.args.count k.positions k.bytes c.requires.some
+    (judged-ended (base_of_pieces s) c.args.count k.positions k.bytes c.requires.some
     (omega (arith, few, c.requires.few)) (omega (arith, few, c.requires.few)) c.at.result
     c.at.ensures.position c.at.ensures.kind)
 
@@ -26,7 +27,7 @@ pub shared_ref_as_front-decode_mut : goal.shared_ref_as_front-decode_mut
 shared_ref_as_front-decode_mut c =
     omega (
       arith,
-      symbols-few c.args.self.now.encoding.now.width c.args.self.now.width,
+      symbols-few (base_of_pieces c.args.self.now).width c.args.self.now.width,
       c.requires.few,
     )
 
@@ -34,23 +35,23 @@ pub slice_bounds-decode_mut-end-in-Ok : goal.slice_bounds-decode_mut-end-in-Ok
 slice_bounds-decode_mut-end-in-Ok c =
     let s = c.args.self.now in
     let due =
-    due-few s.encoding.now s.width c.args.count c.in-Ok.most c.requires.few
-    (sym c.decode_len.ensures.value ∙ c.in-Ok.is) in
+    due-few (base_of_pieces s) s.width c.args.count c.in-Ok.most c.requires.few
+    (sym (rw c.by_ref-encoding.ensures at c.decode_len.ensures.value) ∙ c.in-Ok.is) in
     omega (arith, due, c.requires.room)
 
 pub slice_bounds-decode_mut-end-in-Ok-2 : goal.slice_bounds-decode_mut-end-in-Ok-2
 slice_bounds-decode_mut-end-in-Ok-2 c =
     let s = c.args.self.now in
     let due =
-    due-few s.encoding.now s.width c.args.count c.in-Ok.most c.requires.few
-    (sym c.decode_len.ensures.value ∙ c.in-Ok.is) in
+    due-few (base_of_pieces s) s.width c.args.count c.in-Ok.most c.requires.few
+    (sym (rw c.by_ref-encoding.ensures at c.decode_len.ensures.value) ∙ c.in-Ok.is) in
     sym (length-take-le c.in-Ok.most c.args.output.now (omega (arith, due, c.requires.room)))
 
 pub decode_mut-requires-clause-exact : goal.decode_mut-requires-clause-exact
 decode_mut-requires-clause-exact c =
     let s = c.args.self.now in
-    let few = symbols-few s.encoding.now.width s.width in
-    ap (λ n. decoded_len s.encoding.now n)
+    let few = symbols-few (base_of_pieces s).width s.width in
+    ap (λ n. decoded_len c.by_ref-encoding.result n)
     (length-take-le c.args.count s.kept.bytes (omega (arith, few, c.requires.few)))
     ∙ sym c.decode_len.ensures.value ∙ c.in-Ok.is
     ∙ ap (λ n. Ok n) (slice_bounds-decode_mut-end-in-Ok-2 c)
@@ -59,18 +60,19 @@ pub returns-in-Ok-decode_mut-clause-sound : goal.returns-in-Ok-decode_mut-clause
 returns-in-Ok-decode_mut-clause-sound c = λ none.
     let s = c.args.self.now in
     let k = s.kept in
-    let few = symbols-few s.encoding.now.width s.width in
-    let sound = c.in-Ok-decode_mut.ensures.sound in
+    let few = symbols-few (base_of_pieces s).width s.width in
+    let sound = rw c.by_ref-encoding.ensures at c.in-Ok-decode_mut.ensures.sound in
     let part =
     take-append-le c.in-Ok-decode_mut.written c.decode_mut.new.output
     (drop c.in-Ok.most c.args.output.now) c.in-Ok-decode_mut.ensures.decoded.0 in
     let judged =
-    judged-sound s.encoding.now c.args.count k.positions k.bytes c.requires.some
+    judged-sound (base_of_pieces s) c.args.count k.positions k.bytes c.requires.some
     (omega (arith, few, c.requires.few)) (omega (arith, few, c.requires.few))
-    c.decode_len.ensures.base c.pieces.ensures.alone c.requires.few none _ sound.0
+    (is-specified s) c.pieces.ensures.alone c.requires.few none _ sound.0
     (sound.1 ∙ sym part) in (
       subst
-          (λ e. fault_after e s.encoding.now (at_positions c.args.count k.positions k.bytes) ≡ None)
+          (λ e. fault_after e (base_of_pieces s)
+          (at_positions c.args.count k.positions k.bytes) ≡ None)
           (sym c.if-self.false) judged.0,
       judged.1,
     )
@@ -79,8 +81,8 @@ pub returns-in-Ok-decode_mut-clause-few : goal.returns-in-Ok-decode_mut-clause-f
 returns-in-Ok-decode_mut-clause-few c =
     let s = c.args.self.now in
     let due =
-    due-few s.encoding.now s.width c.args.count c.in-Ok.most c.requires.few
-    (sym c.decode_len.ensures.value ∙ c.in-Ok.is) in
+    due-few (base_of_pieces s) s.width c.args.count c.in-Ok.most c.requires.few
+    (sym (rw c.by_ref-encoding.ensures at c.decode_len.ensures.value) ∙ c.in-Ok.is) in
     let part =
     length-take-le c.in-Ok.most c.args.output.now (omega (arith, due, c.requires.room)) in
     omega (
@@ -95,21 +97,21 @@ pub decode_len-requires : goal.decode_len-requires
 decode_len-requires c =
     omega (
       arith,
-      symbols-few c.args.self.now.encoding.now.width c.args.self.now.width,
+      symbols-few (base_of_pieces c.args.self.now).width c.args.self.now.width,
       c.requires.few,
     )
 
 pub returns-then-self-clause-position : goal.returns-then-self-clause-position
 returns-then-self-clause-position c =
     let s = c.args.self.now in
-    let few = symbols-few s.encoding.now.width s.width in
+    let few = symbols-few (base_of_pieces s).width s.width in
     is-held c.args.count 0 s.kept.positions c.at.result.position c.at.ensures.position
     c.requires.some (omega (arith, few, c.requires.few))
 
 pub returns-clause-position : goal.returns-clause-position
 returns-clause-position c =
     let s = c.args.self.now in
-    let few = symbols-few s.encoding.now.width s.width in
+    let few = symbols-few (base_of_pieces s).width s.width in
     let size = length-take-le c.args.count s.kept.bytes (omega (arith, few, c.requires.few)) in
     let inside : c.match-decode_len.fault.position < c.args.count =
     elim c.match-decode_len.branch [
@@ -122,7 +124,7 @@ returns-clause-position c =
 
 pub at-requires-2 : goal.at-requires-2
 at-requires-2 c =
-    let few = symbols-few c.args.self.now.encoding.now.width c.args.self.now.width in
+    let few = symbols-few (base_of_pieces c.args.self.now).width c.args.self.now.width in
     elim c.match-decode_len.branch [
       | in-Ok+in-Err-decode_mut w ↦
           rw w.fault-is
@@ -135,30 +137,31 @@ pub returns-clause-fault : goal.returns-clause-fault
 returns-clause-fault c = λ none.
     let s = c.args.self.now in
     let k = s.kept in
-    let few = symbols-few s.encoding.now.width s.width in
+    let few = symbols-few (base_of_pieces s).width s.width in
     let text = take c.args.count k.bytes in
     let size = length-take-le c.args.count k.bytes (omega (arith, few, c.requires.few)) in
-    let found : (fault_of s.encoding.now text ≡ Some c.match-decode_len.fault)
+    let found : (fault_of (base_of_pieces s) text ≡ Some c.match-decode_len.fault)
     × (c.match-decode_len.fault.position < c.args.count) =
     elim c.match-decode_len.branch [
       | in-Ok+in-Err-decode_mut w ↦
           rw w.fault-is (
-            fault-stopped s.encoding.now text _ w.in-Err-decode_mut.ensures.fault,
+            fault-stopped (base_of_pieces s) text _
+                (rw c.by_ref-encoding.ensures at w.in-Err-decode_mut.ensures.fault),
             omega (arith, size, w.in-Err-decode_mut.ensures.bounds.1),
           )
       | in-Err w ↦
           rw w.fault-is (
-            fault-refused s.encoding.now text c.args.count w.in-Err.error size
-                (sym c.decode_len.ensures.value ∙ w.in-Err.is),
+            fault-refused (base_of_pieces s) text c.args.count w.in-Err.error size
+                (sym (rw c.by_ref-encoding.ensures at c.decode_len.ensures.value) ∙ w.in-Err.is),
             w.in-Err.ensures.position,
           )
     ] in
     subst
-    (λ e. fault_after e s.encoding.now (at_positions c.args.count k.positions k.bytes)
+    (λ e. fault_after e (base_of_pieces s) (at_positions c.args.count k.positions k.bytes)
     ≡ Some c.at-2.result)
     (sym c.if-self.false)
-    (judged-fault s.encoding.now c.args.count k.positions k.bytes c.requires.some
+    (judged-fault (base_of_pieces s) c.args.count k.positions k.bytes c.requires.some
     (omega (arith, few, c.requires.few)) (omega (arith, few, c.requires.few))
-    c.decode_len.ensures.base c.pieces.ensures.alone c.requires.few none
+    (is-specified s) c.pieces.ensures.alone c.requires.few none
     c.match-decode_len.fault c.at-2.result found.0 found.1 c.at-2.ensures.position
     c.at-2.ensures.kind)

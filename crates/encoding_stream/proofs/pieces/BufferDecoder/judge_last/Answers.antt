@@ -1,5 +1,6 @@
 use Rattle.std.proofs.Common.{None, Some, arith, refl}
 use Rattle.std.proofs.lemmas.Result.{IfErr-weaker, IfOk-weaker}
+use Rattle.encoding_stream.specs.Pieces.{base_of_pieces}
 use Rattle.encoding_stream.proofs.SizeLemmas.{bytes-few, symbols-few}
 use Rattle.encoding_stream.proofs.FinishLemmas.{last-judged, last-kept}
 use Rattle.encoding_stream.proofs.pieces.BufferDecoder.judge_last.Goals as goal
@@ -12,7 +13,7 @@ pub returns-clause-few : goal.returns-clause-few
 returns-clause-few c =
     let s = c.args.self.now in
     IfOk-weaker c.judge.result _ _
-    (λ written few. omega (arith, few, bytes-few s.encoding.now.width s.width))
+    (λ written few. omega (arith, few, bytes-few (base_of_pieces s).width s.width))
     c.judge.ensures.few
 
 pub returns-clause-sound : goal.returns-clause-sound
@@ -20,14 +21,14 @@ returns-clause-sound c =
     let s = c.args.self.now in
     let k = s.kept in
     let none = c.in_default.is in
-    let few = symbols-few s.encoding.now.width s.width in
+    let few = symbols-few (base_of_pieces s).width s.width in
     IfOk-weaker c.judge.result _ _
     (λ written judged text keeps.
     let verdict = judged
-    (last-kept s.encoding.now k.fault k.positions k.bytes k.count k.ended none
+    (last-kept (base_of_pieces s) k.fault k.positions k.bytes k.count k.ended none
     (omega (arith, c.if-self-eq0.false)) (omega (arith, few, s.group, s.short))
     (omega (arith, few, s.group, s.short)) text k.len keeps) in (
-      last-judged s.encoding.now k.fault k.positions k.bytes k.count k.ended none
+      last-judged (base_of_pieces s) k.fault k.positions k.bytes k.count k.ended none
           (omega (arith, c.if-self-eq0.false)) (omega (arith, few, s.group, s.short))
           (omega (arith, few, s.group, s.short)) text k.len keeps None verdict.0,
       verdict.1,
@@ -39,14 +40,14 @@ returns-clause-fault c =
     let s = c.args.self.now in
     let k = s.kept in
     let none = c.in_default.is in
-    let few = symbols-few s.encoding.now.width s.width in
+    let few = symbols-few (base_of_pieces s).width s.width in
     IfErr-weaker c.judge.result _ _
     (λ error judged text keeps.
-    last-judged s.encoding.now k.fault k.positions k.bytes k.count k.ended none
+    last-judged (base_of_pieces s) k.fault k.positions k.bytes k.count k.ended none
     (omega (arith, c.if-self-eq0.false)) (omega (arith, few, s.group, s.short))
     (omega (arith, few, s.group, s.short)) text k.len keeps (Some error)
     (judged
-    (last-kept s.encoding.now k.fault k.positions k.bytes k.count k.ended none
+    (last-kept (base_of_pieces s) k.fault k.positions k.bytes k.count k.ended none
     (omega (arith, c.if-self-eq0.false)) (omega (arith, few, s.group, s.short))
     (omega (arith, few, s.group, s.short)) text k.len keeps)))
     c.judge.ensures.fault

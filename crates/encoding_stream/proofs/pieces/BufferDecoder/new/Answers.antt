@@ -1,21 +1,13 @@
-use Rattle.std.proofs.Common.{◌<◌, sym, subst}
-use Rattle.encoding_stream.proofs.SizeLemmas.{symbols-some}
 use Rattle.encoding_stream.proofs.pieces.BufferDecoder.new.Goals as goal
 
-pub invariant_of-result-clause-specified : goal.invariant_of-result-clause-specified
-invariant_of-result-clause-specified c = record {
-  is_built = c.specification_again.ensures c.args.encoding.now c.group_len.ensures.base;
-}
-
-pub invariant_of-result-clause-short : goal.invariant_of-result-clause-short
-invariant_of-result-clause-short c =
-    subst (λ n. 0 < n) (sym c.group_len.ensures.value)
-    (symbols-some c.args.encoding.now.width c.group_len.ensures.width)
+pub returns-clause-base : goal.returns-clause-base
+returns-clause-base c = rw (← c.by_ref.ensures) c.new_by_ref.ensures.base
 
 pub returns-clause-nothing : goal.returns-clause-nothing
-returns-clause-nothing c =
-    (c.pieces.ensures.nothing c.args.encoding.now c.group_len.ensures.base).0
+returns-clause-nothing c = rw (← c.by_ref.ensures) c.new_by_ref.ensures.nothing
 
 pub returns-clause-no_bytes : goal.returns-clause-no_bytes
-returns-clause-no_bytes c =
-    (c.pieces.ensures.nothing c.args.encoding.now c.group_len.ensures.base).1
+returns-clause-no_bytes c = rw (← c.by_ref.ensures) c.new_by_ref.ensures.no_bytes
+
+pub returns-clause-specified : goal.returns-clause-specified
+returns-clause-specified c = rw (← c.by_ref.ensures) c.new_by_ref.ensures.specified

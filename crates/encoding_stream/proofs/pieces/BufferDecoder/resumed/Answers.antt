@@ -1,75 +1,10 @@
-use Rattle.std.proofs.Common.{sym, ◌∙◌, arith}
-use Rattle.encoding_stream.proofs.OrderLemmas.{ascend-below}
-use Rattle.encoding_stream.proofs.ResumedLemmas.{held-few, may-be-kept}
-use Rattle.encoding_stream.proofs.pieces.BufferDecoder.resumed.Goals.{then-kept-gt-DECODE_LIMIT-via-then-kept-gt-DECODE_LIMIT, then-kept-gt-DECODE_LIMIT-via-else-kept-gt-DECODE_LIMIT+then-kept-decoder, then-kept-gt-DECODE_LIMIT-via-else-kept-gt-DECODE_LIMIT+else-kept-decoder+then-kept, then-not-is_in_order-via-then-not-is_in_order, then-not-is_in_order-via-else-not-is_in_order+then-holds_ignored}
 use Rattle.encoding_stream.proofs.pieces.BufferDecoder.resumed.Goals as goal
 
-pub returns-then-kept-gt-DECODE_LIMIT-clause-resumes :
-    goal.returns-then-kept-gt-DECODE_LIMIT-clause-resumes
-returns-then-kept-gt-DECODE_LIMIT-clause-resumes c = λ is.
-    let kept = c.args.kept in
-    let decoder = c.new-decoder.result in
-    let few =
-    held-few c.args.encoding.now (rw c.new-decoder.ensures.base at decoder.width) is.text kept.len
-    kept.count kept.fault kept.positions kept.bytes kept.ended (omega arith) (omega arith) is.keeps
-    is.clear in
-    let size = rw c.new-decoder.ensures.base at decoder.group in
-    elim c.then-kept-gt-DECODE_LIMIT.branch [
-      | then-kept-gt-DECODE_LIMIT-via-then-kept-gt-DECODE_LIMIT w ↦
-          absurd (omega (arith, w.if-kept-gt-DECODE_LIMIT.true, is.keeps.counted, is.limit))
-      | then-kept-gt-DECODE_LIMIT-via-else-kept-gt-DECODE_LIMIT+then-kept-decoder w ↦
-          absurd (omega (arith, w.if-kept-decoder.true, few.0, size))
-      | then-kept-gt-DECODE_LIMIT-via-else-kept-gt-DECODE_LIMIT+else-kept-decoder+then-kept w ↦
-          absurd (omega (arith, w.if-kept.true, few.1))
-    ]
-
-pub returns-then-not-is_in_order-clause-resumes :
-    goal.returns-then-not-is_in_order-clause-resumes
-returns-then-not-is_in_order-clause-resumes c = λ is.
-    let decoder = c.new-decoder.result in
-    let may =
-    may-be-kept c.args.encoding.now c.new-decoder.ensures.specified
-    (rw c.new-decoder.ensures.base at decoder.width) c.whole_groups.ensures.joins
-    c.whole_groups.ensures.ends_nowhere is.text c.args.kept (omega arith) (omega arith) is.keeps
-    is.limit is.clear in
-    elim c.then-not-is_in_order.branch [
-      | then-not-is_in_order-via-then-not-is_in_order w ↦
-          sym w.if-not-is_in_order.true ∙ c.is_in_order.ensures.complete may.in_order
-      | then-not-is_in_order-via-else-not-is_in_order+then-holds_ignored w ↦
-          sym (w.holds_ignored.ensures.complete may.none_ignored) ∙ w.if-holds_ignored.true
-    ]
-
-pub returns-then-not-has_possible_fault-clause-resumes :
-    goal.returns-then-not-has_possible_fault-clause-resumes
-returns-then-not-has_possible_fault-clause-resumes c = λ is.
-    let decoder = c.new-decoder.result in
-    let may =
-    may-be-kept c.args.encoding.now c.new-decoder.ensures.specified
-    (rw c.new-decoder.ensures.base at decoder.width) c.whole_groups.ensures.joins
-    c.whole_groups.ensures.ends_nowhere is.text c.args.kept (omega arith) (omega arith) is.keeps
-    is.limit is.clear in
-    sym c.if-not-has_possible_fault.true ∙ c.has_possible_fault.ensures.complete may.fault
-
-pub invariant_of-decoder-clause-clear : goal.invariant_of-decoder-clause-clear
-invariant_of-decoder-clause-clear c =
-    (c.has_possible_fault.ensures.sound c.if-not-has_possible_fault.false).clear
-
-pub invariant_of-decoder-clause-inside : goal.invariant_of-decoder-clause-inside
-invariant_of-decoder-clause-inside c =
-    ascend-below 0 c.args.kept.len _ (c.is_in_order.ensures.sound c.if-not-is_in_order.false)
-
-pub invariant_of-decoder-clause-fault_inside : goal.invariant_of-decoder-clause-fault_inside
-invariant_of-decoder-clause-fault_inside c =
-    (c.has_possible_fault.ensures.sound c.if-not-has_possible_fault.false).inside
+pub returns-clause-goes_on : goal.returns-clause-goes_on
+returns-clause-goes_on c = rw (← c.by_ref.ensures) c.resumed_by_ref.ensures.goes_on
 
 pub returns-clause-tested : goal.returns-clause-tested
-returns-clause-tested c = λ _.
-    let decoder = c.new-decoder.result in
-    let size = rw c.new-decoder.ensures.base at decoder.group in
-    record {
-      limit = omega (arith, c.if-kept-gt-DECODE_LIMIT.false);
-      short = omega (arith, c.if-kept-decoder.false, size);
-      in_order = c.is_in_order.ensures.sound c.if-not-is_in_order.false;
-      none_ignored = c.holds_ignored.ensures.sound c.if-holds_ignored.false;
-      fault = c.has_possible_fault.ensures.sound c.if-not-has_possible_fault.false;
-    }
+returns-clause-tested c = rw (← c.by_ref.ensures) c.resumed_by_ref.ensures.tested
+
+pub returns-clause-resumes : goal.returns-clause-resumes
+returns-clause-resumes c = rw (← c.by_ref.ensures) c.resumed_by_ref.ensures.resumes

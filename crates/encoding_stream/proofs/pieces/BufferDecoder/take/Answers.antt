@@ -2,19 +2,30 @@ use Rattle.std.proofs.lemmas.List.Elements.{All-contains}
 use Rattle.std.proofs.Common.{All, set, ◌<◌, ◌≡◌, ◌+◌, ◌∙◌, arith, refl, ap, sym, subst, [], ◌∷◌, take, length-take-le}
 use Rattle.data_encoding.specs.Base.{is_ignored}
 use Rattle.encoding_stream.specs.declared.pieces.BufferDecoder.{BufferDecoder}
+use Rattle.encoding_stream.specs.Pieces.{base_of_pieces}
 use Rattle.encoding_stream.specs.Reading.{ReadsOn}
 use Rattle.encoding_stream.proofs.OrderLemmas.{inside-more}
-use Rattle.encoding_stream.proofs.PieceLemmas.{is-kept, take-faulty, take-held, take-ignored, take-sound}
+use Rattle.encoding_stream.proofs.PieceLemmas.{is-kept, no-fault-inside, take-faulty, take-held, take-ignored, take-sound}
 use Rattle.encoding_stream.proofs.SizeLemmas.{symbols-few}
 use Rattle.encoding_stream.proofs.ReadPieceLemmas.{most-whole, reads-fault}
 use Rattle.encoding_stream.proofs.pieces.BufferDecoder.take.Goals.{then-is_some-via-then-is_some, then-is_some-via-else-is_some+then-is_ignored}
 use Rattle.encoding_stream.proofs.pieces.BufferDecoder.take.Goals as goal
 
+pub bounds-self-index : goal.bounds-self-index
+bounds-self-index c =
+    let s = c.args.self.now in
+    omega (arith, symbols-few (base_of_pieces s).width s.width, s.group, s.short)
+
+pub bounds-self-index-2 : goal.bounds-self-index-2
+bounds-self-index-2 c =
+    let s = c.args.self.now in
+    omega (arith, symbols-few (base_of_pieces s).width s.width, s.group, s.short)
+
 pub returns-then-is_some-clause-reads : goal.returns-then-is_some-clause-reads
 returns-then-is_some-clause-reads c =
     let s = c.args.self.now in
     let k = s.kept in
-    let base = s.encoding.now in
+    let base = base_of_pieces s in
     let byte = c.args.byte in
     let is = is-kept s (omega arith) (omega arith) in
     elim c.then-is_some.branch [
@@ -26,8 +37,8 @@ returns-then-is_some-clause-reads c =
           subst (λ (p : BufferDecoder). ReadsOn base k p.kept (byte ∷ []) []) (sym w.self-is)
           (take-ignored base k is byte (sym c.is_some.ensures ∙ w.if-is_some.false)
           c.pieces.ensures.held
-          (ap is_ignored (sym w.interpret_byte.ensures) ∙ sym w.is_ignored.ensures
-          ∙ w.if-is_ignored.true))
+          (ap is_ignored (sym (rw w.by_ref.ensures at w.interpret_byte.ensures))
+          ∙ sym w.is_ignored.ensures ∙ w.if-is_ignored.true))
     ]
 
 pub returns-then-index-self-clause-reads : goal.returns-then-index-self-clause-reads
@@ -35,18 +46,18 @@ returns-then-index-self-clause-reads c =
     let s = c.args.self.now in
     let k = s.kept in
     let few = c.if-index-self.true in
-    take-held s.encoding.now k
+    take-held (base_of_pieces s) k
     (is-kept s (omega arith) (omega arith)) c.args.byte
     (sym c.is_some.ensures ∙ c.if-is_some.false)
-    (ap is_ignored (sym c.interpret_byte.ensures) ∙ sym c.is_ignored.ensures
-    ∙ c.if-is_ignored.false)
+    (ap is_ignored (sym (rw c.by_ref.ensures at c.interpret_byte.ensures))
+    ∙ sym c.is_ignored.ensures ∙ c.if-is_ignored.false)
     (k.count + 1) refl c.pieces.ensures.held (omega (arith, s.group, few))
 
 pub judge-judged-requires-clause-room : goal.judge-judged-requires-clause-room
 judge-judged-requires-clause-room c =
     let s = c.args.self.now in
     let whole =
-    most-whole s.encoding.now s.width s.kept (sym c.is_some.ensures ∙ c.if-is_some.false)
+    most-whole (base_of_pieces s) s.width s.kept (sym c.is_some.ensures ∙ c.if-is_some.false)
     (omega (arith, s.group, s.short, c.if-index-self.false)) in
     omega (arith, whole, c.requires.room)
 
@@ -54,7 +65,7 @@ pub returns-in-Ok-clause-within : goal.returns-in-Ok-clause-within
 returns-in-Ok-clause-within c =
     let s = c.args.self.now in
     let whole =
-    most-whole s.encoding.now s.width s.kept (sym c.is_some.ensures ∙ c.if-is_some.false)
+    most-whole (base_of_pieces s) s.width s.kept (sym c.is_some.ensures ∙ c.if-is_some.false)
     (omega (arith, s.group, s.short, c.if-index-self.false)) in
     omega (arith, c.in-Ok.ensures.few, c.in-Ok.ensures.len, whole, c.requires.room)
 
@@ -64,11 +75,11 @@ returns-in-Ok-clause-reads c =
     let bytes = take c.in-Ok.written c.judge-judged.new.output in
     let size =
     length-take-le c.in-Ok.written c.judge-judged.new.output (returns-in-Ok-clause-within c) in
-    take-sound s.encoding.now s.kept
+    take-sound (base_of_pieces s) s.kept
     (is-kept s (omega arith) (omega arith)) c.args.byte
     (sym c.is_some.ensures ∙ c.if-is_some.false)
-    (ap is_ignored (sym c.interpret_byte.ensures) ∙ sym c.is_ignored.ensures
-    ∙ c.if-is_ignored.false)
+    (ap is_ignored (sym (rw c.by_ref.ensures at c.interpret_byte.ensures))
+    ∙ sym c.is_ignored.ensures ∙ c.if-is_ignored.false)
     s.size (omega (arith, s.short, c.if-index-self.false)) c.pieces.ensures.group s.group bytes
     c.in-Ok.ensures.sound (omega (arith, size, c.in-Ok.ensures.few)) c.is_final-is_final.result
     c.is_final-is_final.ensures
@@ -76,20 +87,25 @@ returns-in-Ok-clause-reads c =
 pub returns-in-Err-clause-reads : goal.returns-in-Err-clause-reads
 returns-in-Err-clause-reads c =
     let s = c.args.self.now in
-    take-faulty s.encoding.now s.kept
+    take-faulty (base_of_pieces s) s.kept
     (is-kept s (omega arith) (omega arith)) c.args.byte
     (sym c.is_some.ensures ∙ c.if-is_some.false)
-    (ap is_ignored (sym c.interpret_byte.ensures) ∙ sym c.is_ignored.ensures
-    ∙ c.if-is_ignored.false)
+    (ap is_ignored (sym (rw c.by_ref.ensures at c.interpret_byte.ensures))
+    ∙ sym c.is_ignored.ensures ∙ c.if-is_ignored.false)
     s.size (omega (arith, s.short, c.if-index-self.false)) c.pieces.ensures.group s.group
     c.in-Err.error c.in-Err.ensures.fault
+
+pub invariant_of-self-then-index-self-clause-fault_inside :
+    goal.invariant_of-self-then-index-self-clause-fault_inside
+invariant_of-self-then-index-self-clause-fault_inside c =
+    no-fault-inside c.args.self.now.kept _ (sym c.is_some.ensures ∙ c.if-is_some.false)
 
 pub invariant_of-self-then-index-self-clause-inside :
     goal.invariant_of-self-then-index-self-clause-inside
 invariant_of-self-then-index-self-clause-inside c =
     let s = c.args.self.now in
     inside-more s.kept.count s.kept.len s.kept.positions
-    (omega (arith, symbols-few s.encoding.now.width s.width, s.group, s.short)) s.inside
+    (omega (arith, symbols-few (base_of_pieces s).width s.width, s.group, s.short)) s.inside
 
 pub invariant_of-self-in-Err-clause-fault_inside :
     goal.invariant_of-self-in-Err-clause-fault_inside
@@ -99,7 +115,7 @@ invariant_of-self-in-Err-clause-fault_inside c =
     let size : s.size ≡ k.count + 1 = omega (arith, s.short, c.if-index-self.false) in
     let below =
     inside-more k.count k.len k.positions
-    (omega (arith, symbols-few s.encoding.now.width s.width, s.group, s.short)) s.inside in
+    (omega (arith, symbols-few (base_of_pieces s).width s.width, s.group, s.short)) s.inside in
     All-contains (λ p. p < k.len + 1) (take s.size (set k.positions k.count k.len))
     c.in-Err.error.position
     (subst (λ n. All (λ p. p < k.len + 1) (take n (set k.positions k.count k.len))) (sym size)

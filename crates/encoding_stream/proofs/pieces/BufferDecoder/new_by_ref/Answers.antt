@@ -1,0 +1,29 @@
+use Rattle.std.proofs.Common.{◌<◌, sym, subst}
+use Rattle.encoding_stream.specs.Specified.{IsBuiltAgain}
+use Rattle.encoding_stream.proofs.SizeLemmas.{symbols-some}
+use Rattle.encoding_stream.proofs.pieces.BufferDecoder.new_by_ref.Goals as goal
+
+pub invariant_of-result-clause-specified : goal.invariant_of-result-clause-specified
+invariant_of-result-clause-specified c =
+    subst IsBuiltAgain (sym c.lend.ensures) (record {
+      is_built = c.specification_again.ensures c.args.encoding.now c.group_len.ensures.base;
+    })
+
+pub invariant_of-result-clause-width : goal.invariant_of-result-clause-width
+invariant_of-result-clause-width c = rw c.lend.ensures c.group_len.ensures.width
+
+pub invariant_of-result-clause-group : goal.invariant_of-result-clause-group
+invariant_of-result-clause-group c = rw c.lend.ensures c.group_len.ensures.value
+
+pub invariant_of-result-clause-short : goal.invariant_of-result-clause-short
+invariant_of-result-clause-short c =
+    subst (λ n. 0 < n) (sym c.group_len.ensures.value)
+    (symbols-some c.args.encoding.now.width c.group_len.ensures.width)
+
+pub returns-clause-nothing : goal.returns-clause-nothing
+returns-clause-nothing c =
+    (c.pieces.ensures.nothing c.args.encoding.now c.group_len.ensures.base).0
+
+pub returns-clause-no_bytes : goal.returns-clause-no_bytes
+returns-clause-no_bytes c =
+    (c.pieces.ensures.nothing c.args.encoding.now c.group_len.ensures.base).1
