@@ -1,6 +1,6 @@
 //! Texts in lines.
 
-ghost use Rattle.std.specs.Prelude.{◌≡◌, ℕ, ◌+◌, ◌*◌, ◌<◌, ◌≤◌, List, ◌++◌, length, flat_map, IsSome};
+ghost use Rattle.std.specs.Prelude.{◌≡◌, ℕ, ◌+◌, ◌*◌, ◌<◌, ◌≤◌, List, ◌++◌, length, flat_map, IsSome, IsTrue};
 ghost use Rattle.data_encoding_meaning.specs.text.Bits.{runs};
 ghost use Rattle.data_encoding_meaning.specs.text.Lengths.{alignment};
 ghost use Rattle.data_encoding_meaning.specs.text.Text.{padded_text, text_of};
@@ -38,7 +38,7 @@ impl EncodingRef<'_> {
         if !input.is_empty() && input.len() <= line_bytes {
             self.encode_line::<G>(input, output);
         } else if has_lanes()
-            && line_bytes / 8 >= G::BYTES
+            && are_long::<G>(line_bytes)
             && input.len() >= line_bytes + MOST_AHEAD
         {
             self.encode_long_lines::<G>(input, output);
@@ -138,6 +138,15 @@ impl EncodingRef<'_> {
     }
 }
 
+// Whether lines of this many bytes are encoded where they stand: those of at least eight groups. Of
+// nine to twelve groups of one bit a symbol, a second turn would write mostly what the first wrote.
+#[inline(always)]
+fn are_long<G: GroupSize>(line_bytes: usize) -> bool
+    ensures { IsTrue result → 8 * G.BYTES ≤ line_bytes }
+{
+    line_bytes / 8 >= G::BYTES && (G::WIDTH != 1 || line_bytes == 8 || line_bytes >= 13)
+}
+
 // Writes the text in lines of `column` characters, the last of which may be shorter, each followed
 // by the separator. Not inlined, so that what its loop needs is in registers.
 #[inline(never)]
@@ -185,7 +194,7 @@ fn copy_line(line: &[u8], output: &mut [u8])
     ensures { output.new ≡ line.now }
 {
     let len = line.len();
-    if !has_lanes() || len < 2 || 64 < len {
+    if !has_lanes() || len < 2 || 128 < len {
         output.copy_from_slice(line);
     } else if len <= 4 {
         copy_ends::<2>(line, output);
@@ -195,22 +204,24 @@ fn copy_line(line: &[u8], output: &mut [u8])
         copy_ends::<8>(line, output);
     } else if len <= 32 {
         copy_ends::<16>(line, output);
-    } else {
+    } else if len <= 64 {
         copy_ends::<32>(line, output);
+    } else {
+        copy_ends::<64>(line, output);
     }
 }
 
-// Two stores for CR LF, and one for LF, take less time than a call that copies any number of bytes.
+// A store for LF, and two for CR LF, take less time than a call that copies any number of bytes.
 #[inline(always)]
 pub(super) fn write_separator(separator: &[u8], output: &mut [u8])
     requires { length output.old ≡ length separator.now }
     ensures { output.new ≡ separator.now }
 {
-    if separator.len() == 2 {
+    if let [only] = separator {
+        output[0] = *only;
+    } else if separator.len() == 2 {
         output[0] = separator[0];
         output[1] = separator[1];
-    } else if let [only] = separator {
-        output[0] = *only;
     } else {
         output.copy_from_slice(separator);
     }

@@ -43,7 +43,8 @@ module _ (n : ℕ) (input output : List ℕ) (enough : n ≤ length input)
   copied : put_chunk end half (chunk end n input) ≡ input
   copied =
       let all = put_chunk end half (chunk end n input) in
-      let long : length (chunk end n input) ≡ n = length-chunk end n input (omega (arith, enough)) in
+      let long : length (chunk end n input) ≡ n =
+      length-chunk end n input (omega (arith, enough)) in
       sym (take_all (length half) all
       (omega (arith, length-put_chunk end half (chunk end n input))))
       ∙ take_more_put_chunk end half (chunk end n input) (length half)
