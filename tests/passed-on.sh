@@ -25,7 +25,7 @@ made() {
 asked() {
     {
         code "$1" '\b(reserve|reserve_exact|with_capacity|resize|zeros|extend_from_slice|from_str|from_slice|push_str|to_vec|collect|clone|try_clone|vec!|format!)[(\[]|text\.push\(' |
-            grep -vE ': ?(pub(\(crate\))? )?fn |try_extend_from_slice|u8x[0-9]+::from_slice'
+            grep -vE ': ?(pub(\(crate\))? )?fn |try_extend_from_slice|(u8x[0-9]+|Simd::<u8, N>)::from_slice'
         code "$1" '^ *let (mut )?(blocks_)?len\b' |
             grep -E '^data_encoding/src/(encode/append|encoder|decode).rt:'
         code "$1" '^ *let (mut )?\(?(count|more|read|rest|written)\b' |

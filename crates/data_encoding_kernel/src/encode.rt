@@ -5,7 +5,7 @@ ghost use Rattle.data_encoding_meaning.specs.text.Base.{group_bytes};
 ghost use Rattle.data_encoding_kernel.specs.Tables.{IsTextBy};
 
 use crate::group_size::GroupSize;
-use crate::lanes::affine_symbols::{AffineSymbols, LONG_DATA_LEN, affine_symbols_of};
+use crate::lanes::affine_symbols::{AffineSymbols, LONG_DATA_LEN, affine_symbols_of, may_be_sums};
 use crate::lanes::encode::{EightByRows, EncodeEight, encode_four, encode_four_octal, encode_two};
 use crate::platform::has_lanes;
 use crate::words::encode_group;
@@ -31,7 +31,7 @@ pub fn encode_plain<G: GroupSize>(
     if input.len() < 10 * G::BYTES - 2 {
         return encode_short::<G>(symbols, order, input, output);
     }
-    if G::WIDTH == 6 && input.len() >= LONG_DATA_LEN {
+    if G::WIDTH == 6 && input.len() >= LONG_DATA_LEN && may_be_sums(symbols) {
         return encode_long::<G>(symbols, order, input, output);
     }
     encode_eights::<EightByRows, G>(EightByRows, symbols, order, input, output);

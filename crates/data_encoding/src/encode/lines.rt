@@ -1,6 +1,6 @@
 //! Texts in lines.
 
-ghost use Rattle.std.specs.Prelude.{◌≡◌, ℕ, ◌+◌, ◌<◌, ◌≤◌, List, ◌++◌, length, flat_map, IsSome};
+ghost use Rattle.std.specs.Prelude.{◌≡◌, ℕ, ◌+◌, ◌*◌, ◌<◌, ◌≤◌, List, ◌++◌, length, flat_map, IsSome, IsTrue};
 ghost use Rattle.data_encoding_meaning.specs.text.Bits.{runs};
 ghost use Rattle.data_encoding_meaning.specs.text.Lengths.{alignment};
 ghost use Rattle.data_encoding_meaning.specs.text.Text.{padded_text, text_of};
@@ -9,6 +9,7 @@ use crate::encode::ENCODE_LIMIT;
 use crate::encoding::EncodingRef;
 use data_encoding_kernel::group_size::GroupSize;
 use data_encoding_kernel::platform::has_lanes;
+use std::simd::prelude::*;
 
 // The greatest length of a block of lines, without their separators. A block has at least four
 // lines.
@@ -37,7 +38,7 @@ impl EncodingRef<'_> {
         if !input.is_empty() && input.len() <= line_bytes {
             self.encode_line::<G>(input, output);
         } else if has_lanes()
-            && line_bytes / 8 >= G::BYTES
+            && are_long::<G>(line_bytes)
             && input.len() >= line_bytes + MOST_AHEAD
         {
             self.encode_long_lines::<G>(input, output);
@@ -137,8 +138,18 @@ impl EncodingRef<'_> {
     }
 }
 
+// Whether lines of this many bytes are encoded where they stand: those of at least eight groups. Of
+// nine to twelve groups of one bit a symbol, a second turn would write mostly what the first wrote.
+#[inline(always)]
+fn are_long<G: GroupSize>(line_bytes: usize) -> bool
+    ensures { IsTrue result → 8 * G.BYTES ≤ line_bytes }
+{
+    line_bytes / 8 >= G::BYTES && (G::WIDTH != 1 || line_bytes == 8 || line_bytes >= 13)
+}
+
 // Writes the text in lines of `column` characters, the last of which may be shorter, each followed
-// by the separator.
+// by the separator. Not inlined, so that what its loop needs is in registers.
+#[inline(never)]
 fn wrap(column: usize, separator: &[u8], text: &[u8], output: &mut [u8])
     requires some { 0 < column }
     requires few { column < 256 }
@@ -149,26 +160,55 @@ fn wrap(column: usize, separator: &[u8], text: &[u8], output: &mut [u8])
     ensures { output.new ≡ flat_map (λ line. line ++ separator.now) (runs column text.now) }
 {
     let line_len = column + separator.len();
-    for index in 0..text.len().div_ceil(column) {
+    let count = text.len() / column;
+    for index in 0..count {
         let read = index * column;
-        let read_end = text.len().min(read + column);
         let written = index * line_len;
-        let written_end = output.len().min(written + line_len);
         write_line(
-            &text[read..read_end],
+            &text[read..read + column],
             separator,
-            &mut output[written..written_end],
+            &mut output[written..written + line_len],
         );
+    }
+    let read = count * column;
+    if read < text.len() {
+        write_line(&text[read..], separator, &mut output[count * line_len..]);
     }
 }
 
 // Writes a line, followed by the separator.
+#[inline(always)]
 fn write_line(line: &[u8], separator: &[u8], output: &mut [u8])
     requires exact { length output.old ≡ length (line.now ++ separator.now) }
     ensures { output.new ≡ line.now ++ separator.now }
 {
-    output[..line.len()].copy_from_slice(line);
+    copy_line(line, &mut output[..line.len()]);
     write_separator(separator, &mut output[line.len()..]);
+}
+
+// Copies a line. Two copies of constant length take less time than a call that copies any number of
+// bytes.
+#[inline(always)]
+fn copy_line(line: &[u8], output: &mut [u8])
+    requires exact { length output.old ≡ length line.now }
+    ensures { output.new ≡ line.now }
+{
+    let len = line.len();
+    if !has_lanes() || len < 2 || 128 < len {
+        output.copy_from_slice(line);
+    } else if len <= 4 {
+        copy_ends::<2>(line, output);
+    } else if len <= 8 {
+        copy_ends::<4>(line, output);
+    } else if len <= 16 {
+        copy_ends::<8>(line, output);
+    } else if len <= 32 {
+        copy_ends::<16>(line, output);
+    } else if len <= 64 {
+        copy_ends::<32>(line, output);
+    } else {
+        copy_ends::<64>(line, output);
+    }
 }
 
 // A store for LF, and two for CR LF, take less time than a call that copies any number of bytes.
@@ -185,4 +225,19 @@ pub(super) fn write_separator(separator: &[u8], output: &mut [u8])
     } else {
         output.copy_from_slice(separator);
     }
+}
+
+// Copies the first and the last N bytes, which are all. They may overlap.
+#[inline(always)]
+fn copy_ends<const N: usize>(input: &[u8], output: &mut [u8])
+    requires enough { N ≤ length input.now }
+    requires few { length input.now ≤ 2 * N }
+    requires exact { length output.old ≡ length input.now }
+    ensures { output.new ≡ input.now }
+{
+    let end = input.len() - N;
+    let first = Simd::<u8, N>::from_slice(&input[..N]);
+    let last = Simd::<u8, N>::from_slice(&input[end..]);
+    first.copy_to_slice(&mut output[..N]);
+    last.copy_to_slice(&mut output[end..]);
 }

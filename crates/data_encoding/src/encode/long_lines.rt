@@ -11,7 +11,7 @@ use crate::encode::lines::write_separator;
 use crate::encoding::EncodingRef;
 use data_encoding_kernel::group_size::GroupSize;
 use data_encoding_kernel::lanes::affine_symbols::{
-    AffineSymbols, LONG_DATA_LEN, affine_symbols_of,
+    AffineSymbols, LONG_DATA_LEN, affine_symbols_of, may_be_sums,
 };
 use data_encoding_kernel::lanes::encode::{
     EightByRows, EncodeEight, encode_four, encode_four_octal, encode_two,
@@ -30,7 +30,7 @@ impl EncodingRef<'_> {
         ensures { output.new ≡ text_of self.now input.now }
     {
         let symbols = &self.fields.symbols;
-        if G::WIDTH == 6 && input.len() >= LONG_DATA_LEN {
+        if G::WIDTH == 6 && input.len() >= LONG_DATA_LEN && may_be_sums(symbols) {
             if let Some(affine) = affine_symbols_of(symbols) {
                 self.encode_long_lines_by_sums::<G>(symbols, &affine, input, output);
                 return;

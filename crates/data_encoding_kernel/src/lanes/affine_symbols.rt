@@ -37,6 +37,15 @@ fn each_value() -> u8x64
     ])
 }
 
+/// Returns `false` only if the search would find no form. Three symbols tell most tables that have
+/// none, so that data does not pay for a search in vain.
+// No clause: what asks is proved for both answers.
+#[inline(always)]
+pub fn may_be_sums(symbols: &[u8; 256]) -> bool {
+    let number = symbols[32].wrapping_sub(32);
+    number == symbols[0] || number == symbols[48].wrapping_sub(48)
+}
+
 /// Returns the symbols as sums, if the search finds such a form.
 #[inline(never)]
 pub fn affine_symbols_of(symbols: &[u8; 256]) -> Option<AffineSymbols>
