@@ -168,7 +168,8 @@ pub fn one_layout()
 
 /// A decoding of a piece that stops at a fault can be resumed: what was not read, followed by the
 /// next piece, has the meaning and the fault of the whole, if what was read may be followed, as at
-/// `join_decode`.
+/// `join_decode`. A piece without a fault was read whole: of it and the next, `join_decode` and
+/// `join_fault` say the same.
 pub fn resume()
     ensures { Resume }
 {}
