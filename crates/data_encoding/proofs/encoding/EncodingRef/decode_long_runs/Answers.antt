@@ -7,3 +7,20 @@ overflow_mul-SYMBOLS g c =
     record {
       fits = omega (arith, c.SYMBOLS.ensures, (IsSmall-group g.G.GroupSize.is_group).few_symbols);
     }
+
+pub decode_runs_by_turns-requires : goal.decode_runs_by_turns-requires
+decode_runs_by_turns-requires g c = record {
+  reads = c.requires.reads;
+  held = c.requires.held;
+  limit = c.requires.limit;
+  exact = c.requires.exact;
+  so_far = c.requires.so_far;
+  front = c.requires.front;
+}
+
+pub returns : goal.returns
+returns g c = record {
+  so_far = c.decode_runs_by_turns.ensures.so_far;
+  front = c.decode_runs_by_turns.ensures.front;
+  further = c.decode_runs_by_turns.ensures.further;
+}
