@@ -1,4 +1,4 @@
-use Rattle.std.proofs.Common.{arith}
+use Rattle.std.proofs.Common.{ℕ, arith, length-drop}
 use Rattle.data_encoding_meaning.proofs.digits.SizeLemmas.{IsSmall-group}
 use Rattle.data_encoding.proofs.encoding.EncodingRef.decode_long_runs.Goals as goal
 
@@ -24,3 +24,10 @@ returns g c = record {
   front = c.decode_runs_by_turns.ensures.front;
   further = c.decode_runs_by_turns.ensures.further;
 }
+
+pub overflow_sub-input : goal.overflow_sub-input
+overflow_sub-input g c = c.requires.so_far.within
+
+pub overflow_sub-input-else-not-has_lanes : goal.overflow_sub-input-else-not-has_lanes
+overflow_sub-input-else-not-has_lanes g c =
+    omega (arith, length-drop {A = ℕ}, c.requires.front.within)

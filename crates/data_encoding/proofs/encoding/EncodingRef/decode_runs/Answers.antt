@@ -1,4 +1,4 @@
-use Rattle.std.proofs.Common.{Ok, sym, ap, ◌∙◌, arith}
+use Rattle.std.proofs.Common.{ℕ, Ok, sym, ap, ◌∙◌, arith, length-drop}
 use Rattle.std.proofs.lemmas.List.{take_rest}
 use Rattle.data_encoding_meaning.proofs.digits.SizeLemmas.{IsSmall-group}
 use Rattle.data_encoding_meaning.proofs.lists.PartLemmas.{length-rest}
@@ -62,4 +62,17 @@ returns-else-packs g c = record {
   so_far = c.decode_runs_one_by_one-at.ensures.so_far;
   front = c.decode_runs_one_by_one-at.ensures.front;
   further = omega arith;
+}
+
+pub overflow_sub-input : goal.overflow_sub-input
+overflow_sub-input g c = c.decode_long_runs-at.ensures.so_far.within
+
+pub overflow_sub-input-then-has_lanes-2 : goal.overflow_sub-input-then-has_lanes-2
+overflow_sub-input-then-has_lanes-2 g c =
+    omega (arith, length-drop {A = ℕ}, c.decode_long_runs-at.ensures.front.within)
+
+pub is_broken_next-requires : goal.is_broken_next-requires
+is_broken_next-requires g c = record {
+  limit = c.requires.limit;
+  within = omega (arith, length-drop {A = ℕ}, c.decode_runs_one_by_one-at.ensures.front.within);
 }

@@ -75,3 +75,26 @@ returns-after-loop g c = record {
   front = c.loop.invariant.front;
   further = c.loop.invariant.further;
 }
+
+pub is_short_run-requires : goal.is_short_run-requires
+is_short_run-requires g c = record {
+  limit = c.requires.limit;
+  within = omega (arith, length-drop {A = ℕ}, c.decode_run_by_turns-next.ensures.front.within);
+}
+
+pub overflow_sub-input : goal.overflow_sub-input
+overflow_sub-input g c = c.loop.invariant.so_far.within
+
+pub overflow_sub-input-in-loop : goal.overflow_sub-input-in-loop
+overflow_sub-input-in-loop g c =
+    omega (arith, length-drop {A = ℕ}, c.loop.invariant.front.within)
+
+pub overflow_sub-most : goal.overflow_sub-most
+overflow_sub-most g c = c.loop.invariant.so_far.within
+
+pub overflow_sub-most-in-loop : goal.overflow_sub-most-in-loop
+overflow_sub-most-in-loop g c =
+    omega (arith, length-drop {A = ℕ}, c.loop.invariant.front.within)
+
+pub overflow_sub-next : goal.overflow_sub-next
+overflow_sub-next g c = c.decode_run_by_turns-next.ensures.further

@@ -1,4 +1,4 @@
-use Rattle.std.proofs.Common.{Ok, sym, ap, ◌∙◌, arith}
+use Rattle.std.proofs.Common.{ℕ, Ok, sym, ap, ◌∙◌, arith, length-drop}
 use Rattle.data_encoding.proofs.encoding.EncodingRef.decode_runs_like.Goals as goal
 
 pub decode_run_by_turns-at-requires : goal.decode_run_by_turns-at-requires
@@ -40,3 +40,14 @@ returns-after-loop g c = record {
   front = c.loop.invariant.front;
   further = c.loop.invariant.further;
 }
+
+pub overflow_add-end : goal.overflow_add-end
+overflow_add-end g c =
+    record { fits = omega (arith, length-drop {A = ℕ}, c.loop.invariant.front.within) }
+
+pub overflow_add-end-in-loop : goal.overflow_add-end-in-loop
+overflow_add-end-in-loop g c =
+    record { fits = omega (arith, length-drop {A = ℕ}, c.loop.invariant.front.within) }
+
+pub bounds-input-end : goal.bounds-input-end
+bounds-input-end g c = omega arith

@@ -109,3 +109,6 @@ returns-in_default-decode_front-clause-kept c =
     let written = c.args.stop.written in
     take-put_mid_below written (length c.args.output.now - written) c.args.output.now
     c.decode_front.new.output written (omega arith) c.requires.fits
+
+pub returns-else-matches-clause-kept : goal.returns-else-matches-clause-kept
+returns-else-matches-clause-kept c = refl
