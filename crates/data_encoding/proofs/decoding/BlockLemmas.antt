@@ -544,6 +544,28 @@ packed-many {base} {text} {start} {packed} {written} {bytes} c =
       length-append (kept base (take c.read text)) part,
     )
 
+-- what is packed stays so with other bytes after what was written
+pub packing-kept : {base : Base} {text room : List ℕ} {sizes : Sizes} {at : Packing}
+    {output : List ℕ} (is : IsPacking base text room at output)
+    → IsUnderWay base text sizes is.packed.read at.written false output
+    → (rest : List ℕ)
+    → length rest ≡ length (take (length output - at.written) (drop at.written output))
+    → IsPacking base text room at (rewritten at.written output rest)
+packing-kept is s rest rest_len =
+    let p = is.packed in
+    record {
+      ordered = is.ordered;
+      within = is.within;
+      packed = record {
+        read = p.read;
+        after = p.after;
+        few = p.few;
+        within = p.within;
+        are = p.are;
+        so_far = (after_none s rest rest_len).so_far;
+      };
+    }
+
 -- how many bytes of a block are not decoded
 pub packing-len : {base : Base} {text room : List ℕ} {at : Packing} {output : List ℕ}
     → IsPacking base text room at output

@@ -1,5 +1,5 @@
 use Rattle.std.proofs.Common.{◌≡◌, ◌+◌, ◌*◌, ◌^◌, ◌<◌, ◌≤◌, ◌∷◌, [], ◌++◌, length, map, take, slice_index, refl, sym, ap, ◌∙◌, subst, arith}
-use Rattle.std.proofs.lemmas.List.{take_more, length-take-le, length-map, map-append}
+use Rattle.std.proofs.lemmas.List.{take_all, take_more, length-take-le, length-map, map-append}
 use Rattle.std.proofs.lemmas.Nat.{le_or_l, le_or_r, or_lt}
 use borrow.Author.Count.{below_more}
 use Rattle.data_encoding_kernel.specs.Words.{weight, word_of}
@@ -72,5 +72,50 @@ loop-index-preserved g c =
       small = omega (
         arith,
         shifted-small entry c.weight_at.result c.entry_of-entry.type_inv fits,
+      );
+    }
+
+pub bounds-input-index : goal.bounds-input-index
+bounds-input-index g c = omega (arith, c.loop-index.invariant.within, c.if-index-input.false)
+
+pub weight_at-requires-clause-fits : goal.weight_at-requires-clause-fits
+weight_at-requires-clause-fits g c =
+    let group = IsGroup-same c.WIDTH-width.ensures refl c.SYMBOLS-count.ensures
+    g.G.GroupSize.is_group in
+    omega (arith, (IsSmall-group group).few_bits)
+
+pub overflow_shl-word : goal.overflow_shl-word
+overflow_shl-word g c =
+    let group = IsGroup-same c.WIDTH-width.ensures refl c.SYMBOLS-count.ensures
+    g.G.GroupSize.is_group in
+    omega (arith, (IsSmall-group group).few_bits, c.weight_at.ensures.inside)
+
+pub returns-then-index-input : goal.returns-then-index-input
+returns-then-index-input g c =
+    let all = take_all c.loop-index.index c.args.input.now (omega (arith, c.if-index-input.true)) in
+    record {
+      word = λ h. rw all at (c.loop-index.invariant.so_far (λ k less. h k (omega arith)));
+      entries = (
+        λ low k less. c.loop-index.invariant.only low k (omega arith),
+        λ h. c.loop-index.invariant.all (λ k less. h k (omega arith)),
+      );
+    }
+
+pub returns-after-loop-index : goal.returns-after-loop-index
+returns-after-loop-index g c =
+    let end : c.loop-index.index ≡ length c.args.input.now =
+    omega (
+      arith,
+      c.loop-index-test.false,
+      c.loop-index.invariant.within,
+      c.SYMBOLS-count.ensures,
+      c.requires.few,
+    ) in
+    let all = take_all c.loop-index.index c.args.input.now (omega (arith, end)) in
+    record {
+      word = λ h. rw all at (c.loop-index.invariant.so_far (λ k less. h k (omega arith)));
+      entries = (
+        λ low k less. c.loop-index.invariant.only low k (omega arith),
+        λ h. c.loop-index.invariant.all (λ k less. h k (omega arith)),
       );
     }

@@ -1,4 +1,4 @@
-use Rattle.std.proofs.Common.{arith}
+use Rattle.std.proofs.Common.{ℕ, arith, length-drop}
 use Rattle.data_encoding_meaning.proofs.digits.SizeLemmas.{IsSmall-group}
 use Rattle.data_encoding.proofs.encoding.EncodingRef.decode_long_runs.Goals as goal
 
@@ -7,3 +7,27 @@ overflow_mul-SYMBOLS g c =
     record {
       fits = omega (arith, c.SYMBOLS.ensures, (IsSmall-group g.G.GroupSize.is_group).few_symbols);
     }
+
+pub decode_runs_by_turns-requires : goal.decode_runs_by_turns-requires
+decode_runs_by_turns-requires g c = record {
+  reads = c.requires.reads;
+  held = c.requires.held;
+  limit = c.requires.limit;
+  exact = c.requires.exact;
+  so_far = c.requires.so_far;
+  front = c.requires.front;
+}
+
+pub returns : goal.returns
+returns g c = record {
+  so_far = c.decode_runs_by_turns.ensures.so_far;
+  front = c.decode_runs_by_turns.ensures.front;
+  further = c.decode_runs_by_turns.ensures.further;
+}
+
+pub overflow_sub-input : goal.overflow_sub-input
+overflow_sub-input g c = c.requires.so_far.within
+
+pub overflow_sub-input-else-not-has_lanes : goal.overflow_sub-input-else-not-has_lanes
+overflow_sub-input-else-not-has_lanes g c =
+    omega (arith, length-drop {A = ℕ}, c.requires.front.within)

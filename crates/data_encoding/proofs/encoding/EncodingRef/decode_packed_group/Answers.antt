@@ -4,8 +4,8 @@ use Rattle.data_encoding_meaning.proofs.decoding.GroupJudgementLemmas.{few-bits}
 use Rattle.data_encoding_meaning.proofs.digits.SizeLemmas.{IsGroup-same}
 use Rattle.data_encoding_meaning.proofs.lists.PartLemmas.{IsWhole-same}
 use Rattle.data_encoding_meaning.specs.decoding.Decoding.{IsDecodedGroup}
-use Rattle.data_encoding.proofs.decoding.StepLemmas.{after_none, final-not, under_way}
-use Rattle.data_encoding.proofs.decoding.BlockLemmas.{packed-group, packed-group_room, packing-group, packing-len}
+use Rattle.data_encoding.proofs.decoding.StepLemmas.{final-not, under_way, written-few}
+use Rattle.data_encoding.proofs.decoding.BlockLemmas.{packed-group, packed-group_room, packing-group, packing-kept, packing-len}
 use Rattle.data_encoding.proofs.encoding.EncodingRef.decode_packed_group.Given.{Over}
 use Rattle.data_encoding.proofs.encoding.EncodingRef.decode_packed_group.Goals as goal
 use Rattle.data_encoding.proofs.encoding.EncodingRef.decode_packed_group.Goals.{After-SYMBOLS, After-WIDTH, else-count-SYMBOLS-via-then-count-SYMBOLS+else-not-self, else-count-SYMBOLS-via-else-count-SYMBOLS}
@@ -47,23 +47,15 @@ decode_group-requires-clause-room g c whole =
     (under_way g.G.GroupSize.is_group c.requires.width c.requires.exact p.so_far)
     (enough g before))
 
+pub returns-in-Err-clause-packing : goal.returns-in-Err-clause-packing
+returns-in-Err-clause-packing g c =
+    packing-kept c.requires.packing (under_way g.G.GroupSize.is_group c.requires.width
+    c.requires.exact c.requires.packing.packed.so_far) _ c.decode_group.auto.output
+
 pub returns-then-not-self-clause-packing : goal.returns-then-not-self-clause-packing
 returns-then-not-self-clause-packing g c =
-    let is = c.requires.packing in
-    let p = is.packed in
-    record {
-      ordered = is.ordered;
-      within = is.within;
-      packed = record {
-        read = p.read;
-        after = p.after;
-        few = p.few;
-        within = p.within;
-        are = p.are;
-        so_far = (after_none (under_way g.G.GroupSize.is_group c.requires.width
-            c.requires.exact p.so_far) _ c.decode_group.auto.output).so_far;
-      };
-    }
+    packing-kept c.requires.packing (under_way g.G.GroupSize.is_group c.requires.width
+    c.requires.exact c.requires.packing.packed.so_far) _ c.decode_group.auto.output
 
 pub overflow_mul-result : goal.overflow_mul-result
 overflow_mul-result g c =
@@ -99,3 +91,28 @@ returns-clause-packing g c =
       packed = rw (c.SYMBOLS-3.ensures, ← (drop-drop g.G.GroupSize.SYMBOLS c.args.at.first block))
           next;
     }
+
+pub decode_group-requires-clause-few : goal.decode_group-requires-clause-few
+decode_group-requires-clause-few g c =
+    omega (arith, len g (goal.at.decode_group-requires-clause-few g c).After-SYMBOLS)
+
+pub overflow_add-group : goal.overflow_add-group
+overflow_add-group g c = record { fits = omega (arith, c.SYMBOLS.ensures, c.requires.whole) }
+
+pub overflow_add-result : goal.overflow_add-result
+overflow_add-result g c =
+    let s = under_way g.G.GroupSize.is_group c.requires.width c.requires.exact
+    c.requires.packing.packed.so_far in
+    let few = few-bits g.G.GroupSize.is_group c.WIDTH.ensures c.in-Ok.count
+    (omega (
+      arith,
+      len g (goal.at.overflow_add-result g c).After-SYMBOLS,
+      c.in-Ok.ensures.sound.within,
+    )) in
+    record { fits = omega (arith, few, written-few s, c.requires.limit) }
+
+pub overflow_add-result-2 : goal.overflow_add-result-2
+overflow_add-result-2 g c = record { fits = omega (arith, c.SYMBOLS-3.ensures, c.requires.whole) }
+
+pub slice_bounds-decode_group-count : goal.slice_bounds-decode_group-count
+slice_bounds-decode_group-count g c = c.requires.packing.packed.so_far.fits

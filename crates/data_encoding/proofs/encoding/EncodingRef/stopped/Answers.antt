@@ -1,5 +1,6 @@
 use Rattle.std.proofs.Common.{◌≡◌, ◌-◌, true, length, drop, refl, ◌∙◌, arith, inl, inr}
 use Rattle.std.proofs.lemmas.List.{length-drop, take_rest}
+use Rattle.std.proofs.lemmas.Slice.{take-put_mid_below}
 use Rattle.data_encoding_meaning.specs.declared.error.DecodeKind.{DecodeKind}
 use Rattle.data_encoding_meaning.specs.declared.error.DecodeKind.TheVariants.{Length}
 use Rattle.data_encoding_meaning.specs.decoding.Fault.{position_of}
@@ -96,3 +97,18 @@ pub overflow_add-written : goal.overflow_add-written
 overflow_add-written c =
     let left = length-rest c.args.stop.written c.args.output.now in
     record { fits = omega (arith, c.in-Some.ensures.run.0, left) }
+
+pub returns-in-Some-clause-kept : goal.returns-in-Some-clause-kept
+returns-in-Some-clause-kept c =
+    let written = c.args.stop.written in
+    take-put_mid_below written (length c.args.output.now - written) c.args.output.now
+    c.decode_front.new.output written (omega arith) c.requires.fits
+
+pub returns-in_default-decode_front-clause-kept : goal.returns-in_default-decode_front-clause-kept
+returns-in_default-decode_front-clause-kept c =
+    let written = c.args.stop.written in
+    take-put_mid_below written (length c.args.output.now - written) c.args.output.now
+    c.decode_front.new.output written (omega arith) c.requires.fits
+
+pub returns-else-matches-clause-kept : goal.returns-else-matches-clause-kept
+returns-else-matches-clause-kept c = refl
