@@ -1,7 +1,5 @@
 use Rattle.std.proofs.Common.{ℕ, Ok, sym, ap, ◌∙◌, arith, length-drop}
-use Rattle.std.proofs.lemmas.List.{take_rest}
 use Rattle.data_encoding_meaning.proofs.digits.SizeLemmas.{IsSmall-group}
-use Rattle.data_encoding_meaning.proofs.lists.PartLemmas.{length-rest}
 use Rattle.data_encoding.proofs.encoding.EncodingRef.decode_runs.Goals as goal
 
 pub overflow_mul-SYMBOLS : goal.overflow_mul-SYMBOLS
@@ -13,7 +11,7 @@ overflow_mul-SYMBOLS g c =
 pub is_padded_next-requires : goal.is_padded_next-requires
 is_padded_next-requires g c = record {
   limit = c.requires.limit;
-  within = omega (arith, length-rest c.args.read c.args.input.now, c.ignored_front.ensures.within);
+  within = omega (arith, length-drop {A = ℕ}, c.requires.front.within);
 }
 
 pub decode_long_runs-at-requires : goal.decode_long_runs-at-requires
@@ -23,7 +21,7 @@ decode_long_runs-at-requires g c = record {
   limit = c.requires.limit;
   exact = c.requires.exact;
   so_far = c.requires.so_far;
-  front = rw take_rest at (c.ignored_front.ensures.front c.args.self.now c.requires.reads.holds);
+  front = c.requires.front;
 }
 
 pub decode_runs_one_by_one-at-requires : goal.decode_runs_one_by_one-at-requires
@@ -39,7 +37,7 @@ decode_runs_one_by_one-at-requires g c = record {
 pub returns-then-is_padded_next : goal.returns-then-is_padded_next
 returns-then-is_padded_next g c = record {
   so_far = c.requires.so_far;
-  front = rw take_rest at (c.ignored_front.ensures.front c.args.self.now c.requires.reads.holds);
+  front = c.requires.front;
   further = omega arith;
 }
 
