@@ -69,6 +69,23 @@ done)
 holds 'the calls for this processor' "$room/processors" "$([ -n "$missing" ] || echo wide)"
 holds 'the calls for each processor' env DE_CPU=baseline "$room/processors"
 
+# The words of a status, which has no character and no number.
+cat >"$room/words.c" <<'END'
+#include "data_encoding.h"
+#include <stdio.h>
+
+int main(void) {
+    int status;
+    for (status = DE_INVALID_LENGTH; status <= DE_UNDEFINED; status++)
+        puts(de_status_text((de_status)status));
+    return 0;
+}
+END
+"$cc" "${strict[@]}" "$room/words.c" "$lib/libdata_encoding.a" -o "$room/words"
+is 'the words of docs/FORMATS.md' "$(printed | sed -e 's/ at N$//' -e 's/ of N$/ of a group/' \
+    -e "s/^'c' has \(.*\)/\1 of a character/" -e "s/^'c' is undefined$/undefined character/")" \
+    "$("$room/words")"
+
 program 'two threads' "$cc" "${strict[@]}" tests/c/threads.c "$lib/libdata_encoding.a" -pthread
 begin 'the program of speed' "$cc" -O2 "${strict[@]}" tests/c/speed.c "$lib/libdata_encoding.a" \
     -o "$room/speed"

@@ -96,6 +96,17 @@ block() {
         !fenced && /^#+ / { under = $0; sub(/^#+ /, "", under) }' "$1"
 }
 
+# printed: what docs/FORMATS.md says is printed of each fault of a text and of each refusal of a
+# specification, a line each, with N for a number.
+printed() {
+    sed -nE 's/^\| [^|]* \| `([^`]* at N)` \| .*/\1/p; s/^\| [^|]* \| `([^`]*)` \|$/\1/p' docs/FORMATS.md
+}
+
+# without_number: standard input, with N for a number at the end of a line.
+without_number() {
+    sed -E 's/[0-9]+$/N/'
+}
+
 finish() {
     echo "$passed passed, $failed failed, $skipped skipped"
     [ "$failed" = 0 ]

@@ -179,7 +179,7 @@ is 'the table of README.md has each encoding, canonical or not' \
     "$(for name in $(basecode list); do
         echo "$name $(basecode canonical "$name" | sed 's/true/yes/; s/false/no/')"
     done)" \
-    "$(sed -n 's/^| \([A-Z0-9_]*\) | .* | \(yes\|no\) | [a-z]* *| [0-9]* *|$/\1 \2/p' README.md)"
+    "$(sed -n 's/^| \([A-Z0-9_]*\) | .* | \(yes\|no\) | [a-z]* *| [0-9]*\(, lowercase\)\? *|$/\1 \2/p' README.md)"
 
 [ "$passed" -ge 20 ] || fail 'the pages have fewer than 20 examples'
 finish

@@ -20,6 +20,7 @@ fi
 source=$PWD/bindings/javascript
 page=$PWD/docs/JAVASCRIPT.md
 readme=$PWD/README.md
+words=$(printed)
 cp -r "$source/tests" "$package"
 cd "$room" || exit 1
 
@@ -135,6 +136,32 @@ for file in package/src/*; do
     [ "${file##*/}" = module.js ] ||
         holds "the same: ${file##*/}" cmp "$file" "package/memory64/${file##*/}"
 done
+
+cat >words.mjs <<'END_OF_WORDS'
+import { BASE64, Encoding } from "./package/src/index.js";
+
+const binary = { symbols: "01" };
+for (const call of [
+  ...["Zm9vY", "Zm9v!m9v", "Zm9vZh==", "Zm9v===="].map((text) => () => BASE64.decode(text)),
+  ...[
+    { symbols: "abc" },
+    { symbols: "\u00e9" },
+    { symbols: "cc" },
+    { ...binary, padding: "=" },
+    { ...binary, wrap: { width: 256, separator: "\n" } },
+    { ...binary, wrap: { width: 9, separator: "\n" } },
+    { ...binary, translate: { from: "a", to: "01" } },
+    { ...binary, translate: { from: "a", to: "c" } },
+  ].map((asked) => () => new Encoding(asked)),
+]) {
+  try {
+    call();
+  } catch (error) {
+    console.log(error.message);
+  }
+}
+END_OF_WORDS
+is 'the words of docs/FORMATS.md' "$words" "$(node "${flags[@]}" words.mjs | without_number)"
 
 # What the module gives, and that it asks for nothing.
 cat >module.mjs <<'END_OF_MODULE'

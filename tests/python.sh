@@ -37,6 +37,7 @@ fi
 
 find_library "$@"
 version=$(sed -n 's/^## //p' CHANGELOG.md | head -n 1)
+words=$(printed)
 mkdir "$room/bindings"
 cp -r bindings/python "$room/bindings"
 rm -rf "$room/bindings/python"/{build,src/*.egg-info}
@@ -126,6 +127,31 @@ for other in $(pythons); do
         rm -r older site-older
     fi
 done
+
+cat >words.py <<'END'
+from data_encoding import BASE64, DecodeError, Encoding
+
+for text in ("Zm9vY", "Zm9v!m9v", "Zm9vZh==", "Zm9v===="):
+    try:
+        BASE64.decode(text)
+    except DecodeError as error:
+        print(error)
+for asked in (
+    {"symbols": "abc"},
+    {"symbols": "\u00e9"},
+    {"symbols": "cc"},
+    {"symbols": "01", "padding": "="},
+    {"symbols": "01", "wrap": (256, "\n")},
+    {"symbols": "01", "wrap": (9, "\n")},
+    {"symbols": "01", "translate": ("a", "01")},
+    {"symbols": "01", "translate": ("a", "c")},
+):
+    try:
+        Encoding(**asked)
+    except ValueError as error:
+        print(error)
+END
+is 'the words of docs/FORMATS.md' "$words" "$("$python" words.py | without_number)"
 
 # Where the characters of a str are not found, a text is copied.
 cp -r bindings/python copying

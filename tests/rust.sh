@@ -182,6 +182,46 @@ is 'what the program of README.md prints' SGVsbG8= "$(cat "$room/said")"
 holds 'the program of docs/RUST.md' cargo_in "$room/program" run --quiet
 is 'what the program of docs/RUST.md prints' $'SGVsbG8=\n220644==\ninvalid symbol at 5' \
     "$(cat "$room/said")"
+cat >"$room/program/examples/words.rs" <<'END'
+use data_encoding::{Specification, BASE64};
+
+fn refused(symbols: &str, change: impl FnOnce(&mut Specification)) {
+    let mut specification = Specification::new();
+    specification.symbols.push_str(symbols);
+    change(&mut specification);
+    println!("{}", specification.encoding().unwrap_err());
+}
+
+fn wrapped(width: usize) {
+    refused("01", |it| {
+        it.wrap.width = width;
+        it.wrap.separator.push('-');
+    });
+}
+
+fn translated(to: &str) {
+    refused("01", |it| {
+        it.translate.from.push('a');
+        it.translate.to.push_str(to);
+    });
+}
+
+fn main() {
+    for text in ["Zm9vY", "Zm9v!m9v", "Zm9vZh==", "Zm9v===="] {
+        println!("{}", BASE64.decode(text.as_bytes()).unwrap_err());
+    }
+    for symbols in ["abc", "\u{e9}", "cc"] {
+        refused(symbols, |_| {});
+    }
+    refused("01", |it| it.padding = Some('='));
+    wrapped(256);
+    wrapped(9);
+    translated("01");
+    translated("c");
+}
+END
+holds 'the words of faults and refusals' cargo_in "$room/program" run --quiet --example words
+is 'the words of docs/FORMATS.md' "$(printed)" "$(without_number <"$room/said")"
 is 'the one data-encoding of the program' 1 \
     "$(grep -c '^name = "data-encoding"' "$room/program/Cargo.lock")"
 

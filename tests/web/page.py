@@ -230,7 +230,10 @@ class Sides(Page):
             self.assertEqual(said["Padding"], padding or "none")
             self.assertEqual(said["Canonical"], canonical)
             self.assertEqual(said.get("Ordered", ""), ordered)
-            self.assertIn(f"RFC {rfc}" if rfc else "DNSCurve", said["Stated by"])
+            number, _, case = rfc.partition(", ")
+            self.assertIn(f"RFC {number}" if rfc else "DNSCurve", said["Stated by"])
+            if case == "lowercase":
+                self.assertIn("in lower case", said["Stated by"])
             if name != "BASE32_DNSCURVE":
                 self.assertEqual(said["Symbols"], symbols)
             self.assertEqual("Also reads" in said, " as " in reads)

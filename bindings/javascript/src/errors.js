@@ -27,15 +27,26 @@ export class DecodeError extends Error {
   }
 }
 
+const ESCAPES = { "\0": "0", "\t": "t", "\n": "n", "\r": "r", "'": "'", "\\": "\\" };
+
+/** The ASCII character between quotes, as Rust writes a `char` for debugging. */
+function quoted(character) {
+  if (Object.hasOwn(ESCAPES, character)) {
+    return `'\\${ESCAPES[character]}'`;
+  }
+  const isControl = character < " " || character === "\x7f";
+  return isControl ? `'\\u{${character.charCodeAt(0).toString(16)}}'` : `'${character}'`;
+}
+
 const REFUSALS = {
   "symbol-count": () => "invalid number of symbols",
   "not-ascii": () => "non-ascii character",
-  duplicate: (character) => `${JSON.stringify(character)} has conflicting definitions`,
+  duplicate: (character) => `${quoted(character)} has conflicting definitions`,
   "extra-padding": () => "unnecessary padding",
   "wrap-length": () => "invalid wrap width or separator length",
   "wrap-width": (multiple) => `wrap width not a multiple of ${multiple}`,
   "translate-length": () => "translate from/to length mismatch",
-  undefined: (character) => `${JSON.stringify(character)} is undefined`,
+  undefined: (character) => `${quoted(character)} is undefined`,
 };
 
 /** There is no encoding as it is asked for. */

@@ -63,14 +63,14 @@ test("why a specification is refused, and where", () => {
     [{ symbols: "" }, "symbol-count", "symbols", "invalid number of symbols"],
     [{ symbols: "a\u00e9" }, "symbol-count", "symbols", "invalid number of symbols"],
     [{ symbols: "ab\u00e9" }, "not-ascii", "symbols", "non-ascii character"],
-    [{ symbols: "aa" }, "duplicate", "symbols", '"a" has conflicting definitions'],
+    [{ symbols: "aa" }, "duplicate", "symbols", "'a' has conflicting definitions"],
     [{ ...binary, padding: "=" }, "extra-padding", "padding", "unnecessary padding"],
-    [{ ...octal, padding: "7" }, "duplicate", "padding", '"7" has conflicting definitions'],
+    [{ ...octal, padding: "7" }, "duplicate", "padding", "'7' has conflicting definitions"],
     [{ ...octal, padding: "\u20ac" }, "not-ascii", "padding", "non-ascii character"],
     [{ ...octal, padding: "\u{1f600}" }, "not-ascii", "padding", "non-ascii character"],
     [{ ...binary, ignore: "\u00e9" }, "not-ascii", "ignore", "non-ascii character"],
     [{ ...binary, ignore: "\ud800" }, "not-ascii", "ignore", "non-ascii character"],
-    [{ ...binary, ignore: " 1" }, "duplicate", "ignore", '"1" has conflicting definitions'],
+    [{ ...binary, ignore: " 1" }, "duplicate", "ignore", "'1' has conflicting definitions"],
     [{ ...binary, wrap: { width: 9, separator: "\n" } }, "wrap-width", "wrap",
       "wrap width not a multiple of 8"],
     [{ ...binary, wrap: { width: 256, separator: "\n" } }, "wrap-length", "wrap",
@@ -78,13 +78,13 @@ test("why a specification is refused, and where", () => {
     [{ ...binary, wrap: { width: 1e300, separator: "\n" } }, "wrap-length", "wrap",
       "invalid wrap width or separator length"],
     [{ ...binary, wrap: { width: 8, separator: "0" } }, "duplicate", "wrap",
-      '"0" has conflicting definitions'],
+      "'0' has conflicting definitions"],
     [{ ...binary, translate: { from: "a", to: "01" } }, "translate-length", "translate",
       "translate from/to length mismatch"],
     [{ ...binary, translate: { from: "a", to: "\n" } }, "undefined", "translate",
-      '"\\n" is undefined'],
+      "'\\n' is undefined"],
     [{ ...binary, translate: { from: "0", to: "1" } }, "duplicate", "translate",
-      '"0" has conflicting definitions'],
+      "'0' has conflicting definitions"],
   ]) {
     assert.throws(() => new Encoding(asked), (error) => {
       assert.ok(error instanceof SpecificationError);
@@ -92,6 +92,13 @@ test("why a specification is refused, and where", () => {
       assert.deepEqual([error.kind, error.field, error.message], [kind, field, message]);
       return true;
     });
+  }
+  for (const [character, quoted] of [
+    ["\0", "'\\0'"], ["\t", "'\\t'"], ["\r", "'\\r'"], ["\x1b", "'\\u{1b}'"], [" ", "' '"],
+    ["'", "'\\''"], ['"', "'\"'"], ["\\", "'\\\\'"], ["~", "'~'"], ["\x7f", "'\\u{7f}'"],
+  ]) {
+    assert.throws(() => new Encoding({ ...binary, translate: { from: "a", to: character } }),
+      { message: `${quoted} is undefined`, detail: character });
   }
   assert.throws(() => new Encoding({ symbols: "abca" }), { detail: "a" });
   const nine = { width: 9, separator: "-" };

@@ -463,15 +463,15 @@ class Encodings(unittest.TestCase):
     def test_specifications(self) -> None:
         for arguments, text in (
             ({"symbols": "abc"}, "invalid number of symbols"),
-            ({"symbols": "aa"}, "conflicting definitions of a character 'a'"),
+            ({"symbols": "aa"}, "'a' has conflicting definitions"),
             ({"symbols": "01", "padding": "="}, "unnecessary padding"),
             ({"symbols": "a\u00e9"}, "invalid number of symbols"),
             ({"symbols": "01", "ignore": "\u00e9"}, "non-ascii character"),
             ({"symbols": "01", "ignore": "\ud800"}, "non-ascii character"),
             ({"symbols": "01234567", "padding": "\u20ac"}, "non-ascii character"),
-            ({"symbols": "01", "translate": ("a", "b")}, "undefined character 'b'"),
+            ({"symbols": "01", "translate": ("a", "b")}, "'b' is undefined"),
             ({"symbols": "01", "translate": ("a", "01")}, "translate from/to length mismatch"),
-            ({"symbols": "01", "wrap": (9, "\n")}, "wrap width not a multiple of a group of 8"),
+            ({"symbols": "01", "wrap": (9, "\n")}, "wrap width not a multiple of 8"),
             ({"symbols": "01", "wrap": (256, "\n")}, "invalid wrap width or separator length"),
             ({"symbols": "01", "wrap": (2**64 + 8, "\n")},
              "invalid wrap width or separator length"),
@@ -482,6 +482,16 @@ class Encodings(unittest.TestCase):
             with self.assertRaises(ValueError) as caught:
                 Encoding(**arguments)  # type: ignore[arg-type]
             self.assertEqual(str(caught.exception), text)
+
+    def test_quoted(self) -> None:
+        for character, text in (
+            ("\0", r"'\0'"), ("\t", r"'\t'"), ("\n", r"'\n'"), ("\r", r"'\r'"), (" ", "' '"),
+            ("\x1b", r"'\u{1b}'"), ("'", r"'\''"), ('"', "'\"'"), ("\\", r"'\\'"), ("~", "'~'"),
+            ("\x7f", r"'\u{7f}'"),
+        ):
+            with self.assertRaises(ValueError) as caught:
+                Encoding("01", translate=("a", character))
+            self.assertEqual(str(caught.exception), f"{text} is undefined")
 
     def test_types(self) -> None:
         for arguments, text in (

@@ -10,6 +10,7 @@
 #include "data_encoding.h"
 
 #include <stdint.h>
+#include <stdio.h>
 #include <string.h>
 
 /* What is written up to this length is written on the stack first. */
@@ -809,23 +810,37 @@ static PyObject *encoder_finish(PyObject *self, PyObject *held) {
                            : refused(status);
 }
 
+/* The room for a character that is quoted: '\u{7f}' and the end. */
+enum { QUOTED = 9 };
+
+/* Writes the ASCII character between quotes, as Rust writes a `char` for debugging. */
+static void quote(char quoted[QUOTED], unsigned char character) {
+    static const char escaped[] = "\0\t\n\r'\\";
+    static const char letters[] = "0tnr'\\";
+    const char *found = memchr(escaped, character, sizeof escaped - 1);
+    if (found != NULL) {
+        snprintf(quoted, QUOTED, "'\\%c'", letters[found - escaped]);
+    } else if (character < ' ' || character == 0x7f) {
+        snprintf(quoted, QUOTED, "'\\u{%x}'", (unsigned)character);
+    } else {
+        snprintf(quoted, QUOTED, "'%c'", character);
+    }
+}
+
 /* Raises why there is no such encoding. */
 static PyObject *refused_specification(de_status status, size_t detail) {
-    const char *text = de_status_text(status);
-    char character = (char)detail;
-    PyObject *name;
-    if (status == DE_WRAP_WIDTH) {
-        return PyErr_Format(PyExc_ValueError, "%s of %zu", text, detail);
-    }
-    if (status != DE_DUPLICATE && status != DE_UNDEFINED) {
+    char name[QUOTED];
+    quote(name, (unsigned char)detail);
+    switch (status) {
+    case DE_DUPLICATE:
+        return PyErr_Format(PyExc_ValueError, "%s has conflicting definitions", name);
+    case DE_WRAP_WIDTH:
+        return PyErr_Format(PyExc_ValueError, "wrap width not a multiple of %zu", detail);
+    case DE_UNDEFINED:
+        return PyErr_Format(PyExc_ValueError, "%s is undefined", name);
+    default:
         return refused(status);
     }
-    name = PyUnicode_DecodeASCII(&character, 1, NULL);
-    if (name != NULL) {
-        PyErr_Format(PyExc_ValueError, "%s %R", text, name);
-        Py_DECREF(name);
-    }
-    return NULL;
 }
 
 /* A new object of the type, with these tables. */
