@@ -11,11 +11,7 @@ slice_bounds-encode_mut-end-2 c =
 pub encode_mut-requires-clause-exact : goal.encode_mut-requires-clause-exact
 encode_mut-requires-clause-exact c =
     let len = c.encode_len-len.ensures.length c.args.input.now refl in
-    omega (
-      arith,
-      len,
-      length-take-le c.encode_len-len.result c.args.output.now (omega (arith, len, c.requires.room)),
-    )
+    omega (arith, len, slice_bounds-encode_mut-end-2 c)
 
 pub returns-clause-text : goal.returns-clause-text
 returns-clause-text c =
