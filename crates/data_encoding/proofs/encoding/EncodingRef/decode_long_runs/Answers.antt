@@ -9,21 +9,10 @@ overflow_mul-SYMBOLS g c =
     }
 
 pub decode_runs_by_turns-requires : goal.decode_runs_by_turns-requires
-decode_runs_by_turns-requires g c = record {
-  reads = c.requires.reads;
-  held = c.requires.held;
-  limit = c.requires.limit;
-  exact = c.requires.exact;
-  so_far = c.requires.so_far;
-  front = c.requires.front;
-}
+decode_runs_by_turns-requires g c = c.requires
 
 pub returns : goal.returns
-returns g c = record {
-  so_far = c.decode_runs_by_turns.ensures.so_far;
-  front = c.decode_runs_by_turns.ensures.front;
-  further = c.decode_runs_by_turns.ensures.further;
-}
+returns g c = c.decode_runs_by_turns.ensures
 
 pub overflow_sub-input : goal.overflow_sub-input
 overflow_sub-input g c = c.requires.so_far.within

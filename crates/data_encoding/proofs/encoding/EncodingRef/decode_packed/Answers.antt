@@ -1,4 +1,4 @@
-use Rattle.std.proofs.Common.{Ok, refl, sym, ap, ◌∙◌, arith}
+use Rattle.std.proofs.Common.{Ok, sym, ap, ◌∙◌, arith}
 use Rattle.data_encoding.proofs.encoding.EncodingRef.decode_packed.Goals as goal
 
 pub decode_packed_run-now-requires : goal.decode_packed_run-now-requires
@@ -52,9 +52,4 @@ returns-then-now-first g c = record {
 }
 
 pub returns-after-loop : goal.returns-after-loop
-returns-after-loop g c = record {
-  packing = c.loop.invariant.packing;
-  start = c.loop.invariant.start;
-  read = c.loop.invariant.read;
-  end = c.loop.invariant.end;
-}
+returns-after-loop g c = c.loop.invariant

@@ -42,11 +42,7 @@ returns-then-is_padded_next g c = record {
 }
 
 pub returns-then-is_short : goal.returns-then-is_short
-returns-then-is_short g c = record {
-  so_far = c.decode_long_runs-at.ensures.so_far;
-  front = c.decode_long_runs-at.ensures.front;
-  further = c.decode_long_runs-at.ensures.further;
-}
+returns-then-is_short g c = c.decode_long_runs-at.ensures
 
 pub returns-then-packs : goal.returns-then-packs
 returns-then-packs g c = record {

@@ -42,11 +42,7 @@ loop-preserved g c = record {
 }
 
 pub returns-then-input-at : goal.returns-then-input-at
-returns-then-input-at g c = record {
-  so_far = c.loop.invariant.so_far;
-  front = c.loop.invariant.front;
-  further = c.loop.invariant.further;
-}
+returns-then-input-at g c = c.loop.invariant
 
 pub returns-then-is_short_run : goal.returns-then-is_short_run
 returns-then-is_short_run g c = record {
@@ -70,11 +66,7 @@ returns-then-at-eq0-2 g c = record {
 }
 
 pub returns-after-loop : goal.returns-after-loop
-returns-after-loop g c = record {
-  so_far = c.loop.invariant.so_far;
-  front = c.loop.invariant.front;
-  further = c.loop.invariant.further;
-}
+returns-after-loop g c = c.loop.invariant
 
 pub is_short_run-requires : goal.is_short_run-requires
 is_short_run-requires g c = record {

@@ -21,11 +21,7 @@ loop-preserved g c = record {
 }
 
 pub returns-then-end-input : goal.returns-then-end-input
-returns-then-end-input g c = record {
-  so_far = c.loop.invariant.so_far;
-  front = c.loop.invariant.front;
-  further = c.loop.invariant.further;
-}
+returns-then-end-input g c = c.loop.invariant
 
 pub returns-then-at-end : goal.returns-then-at-end
 returns-then-at-end g c = record {
@@ -35,11 +31,7 @@ returns-then-at-end g c = record {
 }
 
 pub returns-after-loop : goal.returns-after-loop
-returns-after-loop g c = record {
-  so_far = c.loop.invariant.so_far;
-  front = c.loop.invariant.front;
-  further = c.loop.invariant.further;
-}
+returns-after-loop g c = c.loop.invariant
 
 pub overflow_add-end : goal.overflow_add-end
 overflow_add-end g c =

@@ -37,8 +37,4 @@ returns-then-at-eq0 g c = record {
 }
 
 pub returns-after-loop : goal.returns-after-loop
-returns-after-loop g c = record {
-  so_far = c.loop.invariant.so_far;
-  front = c.loop.invariant.front;
-  further = c.loop.invariant.further;
-}
+returns-after-loop g c = c.loop.invariant
