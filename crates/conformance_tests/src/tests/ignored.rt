@@ -80,20 +80,23 @@ pub(super) fn compare_ignored(comparison: &mut Comparison<'_>) -> Result<(), Dif
     Ok(())
 }
 
-// Compares the texts with a faulty byte at any position but this one.
+// Compares the text unchanged, and with a faulty byte at any position but this one.
 fn compare_faults_beside(
     comparison: &mut Comparison<'_>,
     text: &mut [u8],
     ignored: usize,
 ) -> Result<(), Differs> {
+    comparison.compare(text)?;
     for position in 0..text.len() {
         if position == ignored {
             continue;
         }
         let own = text[position];
         for byte in [b'!', b'=', 200] {
-            text[position] = byte;
-            comparison.compare(text)?;
+            if byte != own {
+                text[position] = byte;
+                comparison.compare(text)?;
+            }
         }
         text[position] = own;
     }
@@ -101,7 +104,7 @@ fn compare_faults_beside(
 }
 
 // Compares texts of a symbol that end with this much padding, with an ignored byte at any position,
-// and a faulty one at any other.
+// and beside it none that is faulty, or one at any other.
 fn compare_faults_of(
     comparison: &mut Comparison<'_>,
     symbol: u8,
@@ -121,7 +124,7 @@ fn compare_faults_of(
 }
 
 // Texts of up to two groups and one byte, of symbols without bits and with all, in which one byte
-// is ignored and another is faulty.
+// is ignored, and none or another is faulty.
 pub(super) fn compare_faults(comparison: &mut Comparison<'_>) -> Result<(), Differs> {
     let judge = comparison.judge;
     let [zero, _, last] = telling_symbols(judge.symbols);
@@ -129,7 +132,7 @@ pub(super) fn compare_faults(comparison: &mut Comparison<'_>) -> Result<(), Diff
     let most = if judge.padding.is_some() { size } else { 0 };
     for symbol in [zero, last] {
         for len in 0..2 * size + 2 {
-            for padding in 0..=most {
+            for padding in 0..=most.min(len) {
                 compare_faults_of(comparison, symbol, len, padding)?;
             }
         }

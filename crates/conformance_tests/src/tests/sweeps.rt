@@ -359,7 +359,7 @@ fn texts_are_judged_alike_ignoring_a_byte(rt: HostRuntime) -> Result<(), Fail> {
 #[test]
 fn faults_are_judged_alike_ignoring_a_byte(rt: HostRuntime) -> Result<(), Fail> {
     let counts = counts_of(rt.alloc(), Sweep::Faults)?;
-    assert_eq!(rt; counts, (1_574_688, 25_186_920, 20_719_194));
+    assert_eq!(rt; counts, (1_448_396, 23_389_576, 19_184_136));
     Ok(())
 }
 
