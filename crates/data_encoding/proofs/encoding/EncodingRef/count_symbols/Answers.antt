@@ -1,6 +1,6 @@
-use Rattle.std.proofs.Common.{◌≡◌, ◌∙◌, sym, ap, arith}
+use Rattle.std.proofs.Common.{◌≡◌, arith}
 use Rattle.std.proofs.lemmas.Bool.Decides.{nat_tests}
-use Rattle.data_encoding_meaning.specs.text.Base.{group_symbols, is_padded}
+use Rattle.data_encoding_meaning.specs.text.Base.{group_symbols}
 use Rattle.data_encoding_meaning.proofs.decoding.GroupJudgementLemmas.{few-bits, group-short, length-invalid, padding-invalid, symbols-all, symbols-before}
 use Rattle.data_encoding.proofs.tables.TableLemmas.{HoldsValues-seen, IsWidth-seen}
 use Rattle.data_encoding.proofs.encoding.EncodingRef.count_symbols.Goals as goal
@@ -62,16 +62,3 @@ overflow_mul-width g c =
     let few = few-bits g.G.GroupSize.is_group c.WIDTH-width.ensures c.before_padding-count.result
     (omega (arith, c.requires.few, c.before_padding-count.ensures.within)) in
     record { fits = omega (arith, few) }
-
-pub returns-then-not-is_padded-clause-whole : goal.returns-then-not-is_padded-clause-whole
-returns-then-not-is_padded-clause-whole g c =
-    let none = ap is_padded (sym c.self.view_is) ∙ sym c.is_padded.ensures
-    ∙ c.if-not-is_padded.true in
-    λ padded. absurd cc
-
-pub returns-clause-whole : goal.returns-clause-whole
-returns-clause-whole g c = λ _. omega (arith, c.SYMBOLS.ensures)
-
-pub nonzero_div-trailing : goal.nonzero_div-trailing
-nonzero_div-trailing g c =
-    omega (arith, c.WIDTH-width.ensures, g.G.GroupSize.is_group.is_width.some)

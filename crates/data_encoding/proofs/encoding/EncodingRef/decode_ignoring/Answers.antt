@@ -1,4 +1,4 @@
-use Rattle.std.proofs.Common.{ℕ, ◌∙◌, Ok, sym, ap, subst, arith, length-drop}
+use Rattle.std.proofs.Common.{◌∙◌, Ok, sym, ap, subst, arith}
 use Rattle.data_encoding_meaning.specs.text.Base.{IsWidth}
 use Rattle.data_encoding_meaning.proofs.decoding.IgnoredFrontLemmas.{no_front}
 use Rattle.data_encoding_meaning.proofs.decoding.ProgressLemmas.{begin}
@@ -40,23 +40,3 @@ pub decode_rest-requires-clause-so_far : goal.decode_rest-requires-clause-so_far
 decode_rest-requires-clause-so_far g c =
     begin c.args.self.now (subst IsWidth (sym c.requires.width) g.G.GroupSize.is_group.is_width)
     c.args.input.now c.args.output.now
-
-pub decode_rest-requires-2 : goal.decode_rest-requires-2
-decode_rest-requires-2 g c = record {
-  width = c.requires.width;
-  order = c.requires.order;
-  limit = c.requires.limit;
-  exact = c.requires.exact ∙ ap Ok (sym c.decode_runs_one_by_one-at.auto.output);
-  so_far = c.decode_runs_one_by_one-at.ensures.so_far;
-}
-
-pub overflow_add-at : goal.overflow_add-at
-overflow_add-at g c =
-    record {
-      fits = omega (
-        arith,
-        length-drop {A = ℕ},
-        c.decode_runs_one_by_one-at.ensures.front.within,
-        c.requires.limit,
-      );
-    }

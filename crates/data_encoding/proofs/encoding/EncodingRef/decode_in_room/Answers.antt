@@ -1,4 +1,4 @@
-use Rattle.std.proofs.Common.{◌≡◌, Ok, sym, ap, ◌∙◌, arith}
+use Rattle.std.proofs.Common.{◌≡◌, ◌∙◌, arith}
 use Rattle.data_encoding_meaning.proofs.digits.SizeLemmas.{IsSmall-group}
 use Rattle.data_encoding.specs.Blocks.{HasReached, IsPacking}
 use Rattle.data_encoding.proofs.decoding.BlockLemmas.{packed-nothing}
@@ -88,22 +88,3 @@ returns-clause-front g c = (reached g c).front
 
 pub returns-clause-further : goal.returns-clause-further
 returns-clause-further g c = (reached g c).further
-
-pub pack_next-mixed-requires : goal.pack_next-mixed-requires
-pack_next-mixed-requires g c = record {
-  within = omega (arith, c.min-span.ensures, c.loop.invariant.packing.packed.within);
-  ordered = c.loop.invariant.packing.ordered;
-  few = c.loop.invariant.few;
-  first = c.loop.invariant.end;
-  room = omega (arith, c.min-span.ensures, c.loop.invariant.fits);
-}
-
-pub decode_packed-now-requires-clause-exact : goal.decode_packed-now-requires-clause-exact
-decode_packed-now-requires-clause-exact g c =
-    c.requires.exact ∙ ap Ok (sym c.loop.auto.output)
-
-pub next_len-len-requires : goal.next_len-len-requires
-next_len-len-requires g c = record {
-  limit = c.loop.invariant.limit;
-  fits = omega (arith, c.loop.invariant.fits, c.pack_next-mixed.auto.room);
-}

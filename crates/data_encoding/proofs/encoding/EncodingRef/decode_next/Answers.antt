@@ -120,13 +120,3 @@ overflow_add-stop g c =
 
 pub decode_group-requires-clause-few : goal.decode_group-requires-clause-few
 decode_group-requires-clause-few g c = c.next_group-group.ensures.few
-
-pub decode_group-requires-clause-some : goal.decode_group-requires-clause-some
-decode_group-requires-clause-some g c =
-    some-group c.next_group-group.ensures c.is_empty.ensures c.if-is_empty.false
-
-pub decode_group-requires-clause-order : goal.decode_group-requires-clause-order
-decode_group-requires-clause-order g c = c.requires.order
-
-pub is_end-requires-clause-width : goal.is_end-requires-clause-width
-is_end-requires-clause-width g c = c.requires.width

@@ -1,7 +1,6 @@
 use Rattle.std.proofs.Common.{◌≡◌, ℕ, ◌+◌, ◌-◌, ◌*◌, refl, ap, arith, length-drop}
 use Rattle.std.proofs.Math.Nat.{mul-mod_left, zero-mod}
 use Rattle.data_encoding.proofs.decoding.StepLemmas.{after_none, after_run, room-next_run, under_way, written-few}
-use Rattle.data_encoding_meaning.proofs.decoding.IgnoredFrontLemmas.{no_front}
 use Rattle.data_encoding_meaning.proofs.digits.SizeLemmas.{IsGroup-same}
 use Rattle.data_encoding_meaning.proofs.lists.PartLemmas.{length-rest}
 use Rattle.data_encoding.proofs.encoding.EncodingRef.decode_run_after_ignored.Goals as goal
@@ -81,18 +80,3 @@ slice_bounds-decode_run-count g c = omega (arith, length-drop {A = ℕ}, c.requi
 
 pub slice_bounds-decode_run-count-2 : goal.slice_bounds-decode_run-count-2
 slice_bounds-decode_run-count-2 g c = c.requires.so_far.fits
-
-pub returns-then-count-eq0-clause-front : goal.returns-then-count-eq0-clause-front
-returns-then-count-eq0-clause-front g c = c.requires.front
-
-pub returns-then-count-eq0-clause-past : goal.returns-then-count-eq0-clause-past
-returns-then-count-eq0-clause-past g c = λ less. absurd (omega (arith, less))
-
-pub returns-clause-front : goal.returns-clause-front
-returns-clause-front g c = no_front _ _
-
-pub returns-clause-further : goal.returns-clause-further
-returns-clause-further g c = omega arith
-
-pub returns-clause-past : goal.returns-clause-past
-returns-clause-past g c = λ _. omega arith

@@ -1,5 +1,4 @@
-use Rattle.std.proofs.Common.{◌≡◌, ◌*◌, true, false, sym, ◌∙◌, subst, arith}
-use Rattle.std.proofs.lemmas.Nat.{mul-le}
+use Rattle.std.proofs.Common.{◌≡◌, ◌*◌, true, false, sym, ◌∙◌, subst}
 use Rattle.data_encoding.specs.Encoding.{base_of_tables}
 use Rattle.data_encoding_meaning.specs.text.Lengths.{most_bytes}
 use Rattle.data_encoding.specs.PlainTables.{plain_tables}
@@ -24,12 +23,3 @@ returns c =
     rw (← c.self.view_is)
     (sym (most_bytes-by seen c.args.len false
     (sym c.is_padded.ensures ∙ c.if-is_padded.false)))
-
-pub whole_groups-requires : goal.whole_groups-requires
-whole_groups-requires c = c.self.invariant.is_width
-
-pub overflow_mul-result-2 : goal.overflow_mul-result-2
-overflow_mul-result-2 c =
-    let most = mul-le c.self.inside.fields.now.width c.args.len 6 c.args.len
-    c.self.invariant.is_width.few (omega arith) in
-    record { fits = omega (arith, most, c.requires.limit) }

@@ -1,6 +1,5 @@
 use Rattle.std.proofs.Common.{◌≡◌, length, take, sym, ◌∙◌, subst, arith, length-take-le}
 use Rattle.std.proofs.lemmas.List.{take_all}
-use Rattle.data_encoding_meaning.proofs.digits.SizeLemmas.{IsSmall-group}
 use Rattle.data_encoding_meaning.specs.decoding.Decoding.{IsGathered}
 use Rattle.data_encoding_meaning.proofs.decoding.GatherLemmas.{gathered-plain}
 use Rattle.data_encoding.proofs.tables.TableLemmas.{HoldsValues-seen}
@@ -33,11 +32,3 @@ returns g c =
       | else-rest-count w ↦ rw (w.bytes-is, c.SYMBOLS-count.ensures)
     ] in
     rw same at whole
-
-pub shared_ref_as_front-result : goal.shared_ref_as_front-result
-shared_ref_as_front-result g c =
-    let few = (IsSmall-group g.G.GroupSize.is_group).few_symbols in
-    omega (arith, c.gather-gathered.ensures.few, few)
-
-pub slice_bounds-bytes-end : goal.slice_bounds-bytes-end
-slice_bounds-bytes-end g c = sym (length-take-le _ c.args.rest.now (omega arith))
