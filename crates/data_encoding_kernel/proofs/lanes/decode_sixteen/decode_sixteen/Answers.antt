@@ -9,15 +9,21 @@ use Rattle.data_encoding_kernel.proofs.lanes.decode_sixteen.decode_sixteen.Goals
 pub returns-then-count-SYMBOLS-clause-run : goal.returns-then-count-SYMBOLS-clause-run
 returns-then-count-SYMBOLS-clause-run g c = λ values held base reads.
     let none : c.count_below-count.result / g.G.GroupSize.SYMBOLS ≡ 0 =
-        div-eq_of_lt (omega (arith, c.SYMBOLS-2.ensures, c.if-count-SYMBOLS.true)) in
+    div-eq_of_lt (omega (arith, c.SYMBOLS-2.ensures, c.if-count-SYMBOLS.true)) in
     rw none
     (run-none base reads.holds.is_width c.args.input.now c.args.output.now c.args.output.now)
 
 pub store_two-requires : goal.store_two-requires
 store_two-requires g c =
     let group = g.G.GroupSize.is_group in
-    let eight : g.G.GroupSize.SYMBOLS ≡ 8 = omega (arith, symbols-are group, c.SYMBOLS.ensures,
-        c.SYMBOLS-3.ensures, c.if-SYMBOLS-eq2.false, c.if-SYMBOLS-eq4.false) in
+    let eight : g.G.GroupSize.SYMBOLS ≡ 8 = omega (
+      arith,
+      symbols-are group,
+      c.SYMBOLS.ensures,
+      c.SYMBOLS-3.ensures,
+      c.if-SYMBOLS-eq2.false,
+      c.if-SYMBOLS-eq4.false,
+    ) in
     record {
       exact = c.requires.exact
           ∙ ap (λ s. 16 / s * g.G.GroupSize.BYTES) (sym group.has_symbols ∙ eight);
@@ -29,7 +35,7 @@ returns-then-SYMBOLS-eq4-clause-run g c = λ values held base reads.
     let bytes = g.G.GroupSize.BYTES in
     let whole = IsWhole-group g.G.GroupSize.WIDTH bytes g.G.GroupSize.SYMBOLS group in
     let four : g.G.GroupSize.SYMBOLS ≡ 4 =
-        omega (arith, c.SYMBOLS-3.ensures, c.if-SYMBOLS-eq4.true) in
+    omega (arith, c.SYMBOLS-3.ensures, c.if-SYMBOLS-eq4.true) in
     let long = c.requires.symbols ∙ ap (λ s. 4 * s) (sym four) in
     let found = words-found 4 whole.is_width whole.some_symbols c.WIDTH.ensures four
     (λ values. g.L.LookUp.holds values c.args.look_up.now) c.args.order c.args.input.now
@@ -51,8 +57,14 @@ returns-else-SYMBOLS-eq4-clause-run g c = λ values held base reads.
     let group = g.G.GroupSize.is_group in
     let bytes = g.G.GroupSize.BYTES in
     let whole = IsWhole-group g.G.GroupSize.WIDTH bytes g.G.GroupSize.SYMBOLS group in
-    let eight : g.G.GroupSize.SYMBOLS ≡ 8 = omega (arith, symbols-are group, c.SYMBOLS.ensures,
-        c.SYMBOLS-3.ensures, c.if-SYMBOLS-eq2.false, c.if-SYMBOLS-eq4.false) in
+    let eight : g.G.GroupSize.SYMBOLS ≡ 8 = omega (
+      arith,
+      symbols-are group,
+      c.SYMBOLS.ensures,
+      c.SYMBOLS-3.ensures,
+      c.if-SYMBOLS-eq2.false,
+      c.if-SYMBOLS-eq4.false,
+    ) in
     let long = c.requires.symbols ∙ ap (λ s. 2 * s) (sym eight) in
     let found = words-found 2 whole.is_width whole.some_symbols c.WIDTH-else-SYMBOLS-eq4.ensures
     eight (λ values. g.L.LookUp.holds values c.args.look_up.now) c.args.order c.args.input.now
