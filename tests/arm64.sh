@@ -92,9 +92,11 @@ else
         "LDSHARED=$cc -shared" "CFLAGS=-idirafter $headers" "DATA_ENCODING_DIR=$arm" \
         _PYTHON_HOST_PLATFORM=linux-aarch64 \
         "$python" setup.py build_ext --inplace
-    holds 'the tests of the package for Python' quietly "${emulated[@]}" \
-        -E "PYTHONHOME=$arm_root/usr" -E "PYTHONPATH=$room/python/src" \
-        -E PYTHONDONTWRITEBYTECODE=1 "$arm_root/usr/bin/python3.11" \
-        bindings/python/tests/test_data_encoding.py
+    for tests in test_data_encoding test_compat; do
+        holds "the package for Python, $tests" quietly "${emulated[@]}" \
+            -E "PYTHONHOME=$arm_root/usr" -E "PYTHONPATH=$room/python/src" \
+            -E PYTHONDONTWRITEBYTECODE=1 "$arm_root/usr/bin/python3.11" \
+            "bindings/python/tests/$tests.py"
+    done
 fi
 finish

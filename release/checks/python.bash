@@ -74,7 +74,9 @@ python ['Requires-Python: >=3.9']" "$(wheel_facts \
                 -E PYTHONDONTWRITEBYTECODE=1 "$ARM64_ROOT/usr/bin/python3.11" "$@"
         }
         is 'the program of README.md, in Python, aarch64' SGVsbG8= "$(arm_python hello.py 2>&1)"
-        holds 'the tests of the package, aarch64' quietly arm_python \
-            "$pages/bindings/python/tests/test_data_encoding.py"
+        for tests in test_data_encoding test_compat; do
+            holds "the package, aarch64, $tests" quietly arm_python \
+                "$pages/bindings/python/tests/$tests.py"
+        done
     fi
 fi

@@ -60,17 +60,22 @@ fn append_pieces(
     ended
 }
 
-// What is appended for data that comes in pieces.
+// What is appended for data that comes in pieces, to an empty text and to another.
 pub(super) fn appended_pieces(
     alloc: Global,
     encoding: &Encoding,
     pieces: &str,
     is_finalized: bool,
 ) -> Result<String, Fail> {
-    let mut output = String::from_str(alloc, "Result: ")?;
     let pieces = text_of(alloc, pieces)?;
+    let mut output = String::new(alloc);
     append_pieces(encoding, pieces.as_str(), &mut output, is_finalized)?;
-    rest_of(alloc, &output)
+    let mut other = String::from_str(alloc, "Result: ")?;
+    append_pieces(encoding, pieces.as_str(), &mut other, is_finalized)?;
+    if rest_of(alloc, &other)? == output {
+        return Ok(output);
+    }
+    Ok(String::from_str(alloc, "another text after a text")?)
 }
 
 // Encodes data that is cut in two.

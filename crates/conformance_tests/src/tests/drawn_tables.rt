@@ -340,10 +340,10 @@ fn compare_drawn(alloc: Global, draw: &mut Draw, turn: u32) -> Result<(), Fail> 
     compare_lengths(alloc, &specification, draw, turn)
 }
 
-// Compares a table with one exceptional symbol.
+// Compares a table with one exceptional symbol, which is each ASCII byte in both orders.
 fn compare_odd(alloc: Global, draw: &mut Draw, turn: u32) -> Result<(), Fail> {
     let mut specification = Specification::new(alloc);
-    specification.bit_order = order_of(turn);
+    specification.bit_order = order_of(turn.wrapping_add(turn / 128));
     let width = if turn < 256 { 6 } else { turn % 5 + 1 };
     let is_after = turn / 128 % 2 == 0;
     let byte = (turn % 128) as u8;
