@@ -1,4 +1,5 @@
-use Rattle.std.proofs.Common.{◌≡◌, ◌+◌, ◌/◌, false, None, Some, take, drop, length, rules, sym, subst, arith, length-take, length-take-le}
+use Rattle.std.proofs.Common.{◌≡◌, ◌+◌, ◌/◌, ◌%◌, ◌∙◌, false, None, Some, take, drop, length, rules, sym, subst, arith, length-take, length-take-le}
+use Rattle.std.proofs.lemmas.Bool.{false≢true}
 use Rattle.std.proofs.lemmas.List.{take-append-le, take-take}
 use Rattle.data_encoding.specs.Base.{group_symbols}
 use Rattle.data_encoding.specs.Grammar.{Means}
@@ -97,3 +98,42 @@ returns-clause-reads c =
     means
     whole ends)
     few)))
+
+pub returns-then-not-are_whole-clause-all : goal.returns-then-not-are_whole-clause-all
+returns-then-not-are_whole-clause-all c = λ _ _ _ none bytes means.
+    let s = c.args.self.now in
+    let len-is = c.due-len.ensures.len in
+    let read-is =
+    c.in-Ok.ensures.all bytes (rw (sym len-is) at means)
+    ∙ length-take-le c.due-len.result.0 c.args.piece.now c.due-len.ensures.few in
+    absurd (false≢true (sym c.if-not-are_whole.true
+    ∙ c.are_whole.ensures.by_length none
+    (subst (λ n. n % group_symbols (base_of_pieces s).width ≡ 0) (sym read-is)
+    (subst (λ n. c.due-len.result.0 % n ≡ 0) s.group c.due-len.ensures.whole))))
+
+pub returns-clause-all : goal.returns-clause-all
+returns-clause-all c = λ _ _ _ none bytes means.
+    c.in-Ok.ensures.all bytes (rw (sym c.due-len.ensures.len) at means)
+    ∙ length-take-le c.due-len.result.0 c.args.piece.now c.due-len.ensures.few
+    ∙ c.due-len.ensures.len
+
+pub invariant_of-self-2 : goal.invariant_of-self-2
+invariant_of-self-2 c =
+    let s = c.args.self.now in
+    record {
+      specified = s.specified;
+      width = s.width;
+      group = s.group;
+      short = s.short;
+      held = omega (arith, s.held);
+      clear = s.clear;
+      limit = omega (
+        arith,
+        c.requires.limit,
+        c.in-Ok.ensures.read,
+        length-take-le c.due-len.result.0 c.args.piece.now c.due-len.ensures.few,
+        c.due-len.ensures.few,
+      );
+      inside = λ k d at. omega (arith, s.inside k d at);
+      fault_inside = search rules;
+    }
