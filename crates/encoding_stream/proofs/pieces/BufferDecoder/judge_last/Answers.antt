@@ -1,4 +1,5 @@
-use Rattle.std.proofs.Common.{None, Some, arith, refl}
+use Rattle.std.proofs.Common.{◌<◌, None, Some, take, arith, refl}
+use Rattle.std.proofs.lemmas.List.Elements.{All-contains}
 use Rattle.std.proofs.lemmas.Result.{IfErr-weaker, IfOk-weaker}
 use Rattle.encoding_stream.specs.Pieces.{base_of_pieces}
 use Rattle.encoding_stream.proofs.SizeLemmas.{bytes-few, symbols-few}
@@ -51,3 +52,11 @@ returns-clause-fault c =
     (omega (arith, c.if-self-eq0.false)) (omega (arith, few, s.group, s.short))
     (omega (arith, few, s.group, s.short)) text k.len keeps)))
     c.judge.ensures.fault
+
+pub returns-clause-position : goal.returns-clause-position
+returns-clause-position c =
+    let k = c.args.self.now.kept in
+    IfErr-weaker c.judge.result _ _
+    (λ error at. All-contains (λ p. p < k.len) (take k.count k.positions) error.position
+    c.args.self.now.inside at)
+    c.judge.ensures.position
