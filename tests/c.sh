@@ -58,7 +58,7 @@ program 'calls with short enums' "$cc" "${strict[@]}" -fshort-enums tests/c/call
 program 'texts in pieces' "$cc" "${strict[@]}" tests/c/pieces.c "$lib/libdata_encoding.a"
 program 'data in pieces' "$cc" "${strict[@]}" tests/c/blocks.c "$lib/libdata_encoding.a"
 program 'what is written to a bool' "$cc" "${strict[@]}" tests/c/bools.c "$glue"/*.c \
-    "$lib/libdata_encoding.a" -Wl,--wrap=de_numbered_is_canonical,--wrap=de_held_is_canonical
+    "$lib/libdata_encoding.a" -Wl,--wrap=de_numbered_is_canonical,--wrap=de_custom_is_canonical
 
 # Which calls are taken: those for x86-64-v3 are replaced here, by some that say so.
 "$cc" "${strict[@]}" -DDE_WIDE tests/c/processors.c "$glue"/*.c "$lib/libdata_encoding.a" \

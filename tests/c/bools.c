@@ -7,9 +7,9 @@
 #include <string.h>
 
 de_status __real_de_numbered_is_canonical(de_number number, bool *canonical);
-de_status __real_de_held_is_canonical(const unsigned char *held, bool *canonical);
+de_status __real_de_custom_is_canonical(const unsigned char *held, bool *canonical);
 de_status __wrap_de_numbered_is_canonical(de_number number, bool *canonical);
-de_status __wrap_de_held_is_canonical(const unsigned char *held, bool *canonical);
+de_status __wrap_de_custom_is_canonical(const unsigned char *held, bool *canonical);
 
 static int calls;
 
@@ -25,9 +25,9 @@ de_status __wrap_de_numbered_is_canonical(de_number number, bool *canonical) {
     return __real_de_numbered_is_canonical(number, canonical);
 }
 
-de_status __wrap_de_held_is_canonical(const unsigned char *held, bool *canonical) {
+de_status __wrap_de_custom_is_canonical(const unsigned char *held, bool *canonical) {
     is_bool(canonical);
-    return __real_de_held_is_canonical(held, canonical);
+    return __real_de_custom_is_canonical(held, canonical);
 }
 
 int main(void) {

@@ -9,12 +9,12 @@ enum { WIDE = 99 };
 #define STUB(name) de_status de_wide_##name(void) { return WIDE; }
 STUB(numbered_encode)
 STUB(numbered_decode)
-STUB(held_encode)
-STUB(held_decode)
+STUB(custom_encode)
+STUB(custom_decode)
 STUB(numbered_decoder_read)
-STUB(held_decoder_read)
+STUB(custom_decoder_read)
 STUB(numbered_encoder_read)
-STUB(held_encoder_read)
+STUB(custom_encoder_read)
 
 static de_status wanted;
 

@@ -223,7 +223,7 @@ const LAYOUT = 770;
 export function layoutOf(key) {
   const output = machine.reserve(0, LAYOUT);
   needsOk(
-    calls.de_held_layout(key.address, BigInt(output), BigInt(LAYOUT), RESULT_ADDRESS),
+    calls.de_custom_layout(key.address, BigInt(output), BigInt(LAYOUT), RESULT_ADDRESS),
   );
   return machine.part(output, machine.numberIn(RESULT));
 }

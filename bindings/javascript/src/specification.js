@@ -138,7 +138,7 @@ function statusOf(parts) {
     parts.checkTrailingBits,
     parts.concatenate,
   ]);
-  calls.de_held_new(MADE_ADDRESS, FORM_ADDRESS, ...placed(parts.texts));
+  calls.de_custom_new(MADE_ADDRESS, FORM_ADDRESS, ...placed(parts.texts));
   return machine.smallNumberIn(MADE);
 }
 
@@ -180,7 +180,7 @@ export function keyOfLayout(layout) {
   const bytes = bytesOf(layout, "a layout");
   machine.reserve(bytes.length, 0);
   machine.inputPart(bytes.length).set(bytes);
-  calls.de_held_read(MADE_ADDRESS, INPUT, BigInt(bytes.length));
+  calls.de_custom_read(MADE_ADDRESS, INPUT, BigInt(bytes.length));
   return machine.smallNumberIn(MADE) === OK ? new Key(tables()) : undefined;
 }
 

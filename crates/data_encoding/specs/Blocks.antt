@@ -1,7 +1,7 @@
 -- What is packed of a text: its bytes that are not ignored.
 use Rattle.std.specs.Prelude.{◌≡◌, ℕ, ◌+◌, ◌-◌, ◌<◌, ◌≤◌, false, List, length, take, drop, slice_index}
 use Rattle.data_encoding.specs.declared.decode.blocks.Packing.{Packing}
-use Rattle.data_encoding.specs.declared.decode.steps.Reached.{Reached}
+use Rattle.data_encoding.specs.declared.decode.steps.Progress.{Progress}
 use Rattle.data_encoding_meaning.specs.text.Base.{Base, meaning, is_ignored}
 use Rattle.data_encoding_meaning.specs.text.Grammar.{bytes_in, kept}
 use Rattle.data_encoding_meaning.specs.decoding.Decoding.{HasDecodedTo, IsIgnoredFront}
@@ -36,7 +36,7 @@ pub record IsPacking (base : Base) (text room : List ℕ) (at : Packing) (output
       output
 
 -- A text is decoded up to a position, and no less far than up to the start; ignored bytes follow.
-pub record HasReached (base : Base) (text : List ℕ) (start : ℕ) (at : Reached) (output : List ℕ)
+pub record HasReached (base : Base) (text : List ℕ) (start : ℕ) (at : Progress) (output : List ℕ)
     : Type 0 where
   pub further : start ≤ at.read
   pub so_far : HasDecodedTo base text at.read at.written false output

@@ -4,19 +4,19 @@ de_status CALL(numbered_encode)(de_number number, const byte *input, size_t inpu
                                 size_t output_len, size_t *written);
 de_status CALL(numbered_decode)(de_number number, const byte *input, size_t input_len, byte *output,
                                 size_t output_len, de_decoded *decoded);
-de_status CALL(held_encode)(const byte *held, const byte *input, size_t input_len, byte *output,
+de_status CALL(custom_encode)(const byte *held, const byte *input, size_t input_len, byte *output,
                             size_t output_len, size_t *written);
-de_status CALL(held_decode)(const byte *held, const byte *input, size_t input_len, byte *output,
+de_status CALL(custom_decode)(const byte *held, const byte *input, size_t input_len, byte *output,
                             size_t output_len, de_decoded *decoded);
 de_status CALL(numbered_decoder_read)(de_number number, de_decoder *decoder, const byte *input,
                                       size_t input_len, byte *output, size_t output_len,
                                       size_t *written);
-de_status CALL(held_decoder_read)(const byte *held, de_decoder *decoder, const byte *input,
+de_status CALL(custom_decoder_read)(const byte *held, de_decoder *decoder, const byte *input,
                                   size_t input_len, byte *output, size_t output_len,
                                   size_t *written);
 de_status CALL(numbered_encoder_read)(de_number number, de_encoder *encoder, const byte *input,
                                       size_t input_len, byte *output, size_t output_len,
                                       size_t *written);
-de_status CALL(held_encoder_read)(const byte *held, de_encoder *encoder, const byte *input,
+de_status CALL(custom_encoder_read)(const byte *held, de_encoder *encoder, const byte *input,
                                   size_t input_len, byte *output, size_t output_len,
                                   size_t *written);

@@ -34,23 +34,23 @@ struct made {
     byte held[DE_TABLES];
 };
 
-struct made de_held_new(const struct form *form, const byte *symbols, size_t symbols_len,
+struct made de_custom_new(const struct form *form, const byte *symbols, size_t symbols_len,
                         const byte *ignore, size_t ignore_len, const byte *separator,
                         size_t separator_len, const byte *from, size_t from_len, const byte *to,
                         size_t to_len);
-struct made de_held_read(const byte *bytes, size_t len);
-de_status de_held_layout(const byte *held, byte *output, size_t output_len, size_t *written);
-de_status de_held_encode_len(const byte *held, size_t len, size_t *text_len);
-de_status de_held_decode_len(const byte *held, size_t len, size_t *most);
-de_status de_held_is_canonical(const byte *held, bool *canonical);
+struct made de_custom_read(const byte *bytes, size_t len);
+de_status de_custom_layout(const byte *held, byte *output, size_t output_len, size_t *written);
+de_status de_custom_encode_len(const byte *held, size_t len, size_t *text_len);
+de_status de_custom_decode_len(const byte *held, size_t len, size_t *most);
+de_status de_custom_is_canonical(const byte *held, bool *canonical);
 void de_plain_decoder_new(de_decoder *decoder);
 de_status de_numbered_decoder_most(de_number number, const de_decoder *decoder, size_t len,
                                    size_t *most);
 de_status de_numbered_decoder_finish(de_number number, const de_decoder *decoder, byte *output,
                                      size_t output_len, de_decoded *decoded);
-de_status de_held_decoder_most(const byte *held, const de_decoder *decoder, size_t len,
+de_status de_custom_decoder_most(const byte *held, const de_decoder *decoder, size_t len,
                                size_t *most);
-de_status de_held_decoder_finish(const byte *held, const de_decoder *decoder, byte *output,
+de_status de_custom_decoder_finish(const byte *held, const de_decoder *decoder, byte *output,
                                  size_t output_len, de_decoded *decoded);
 
 /* The numbers of a specification that is returned, and the lengths of its texts, which are one
@@ -67,18 +67,18 @@ de_status de_numbered_encode_align(de_number number, size_t *align);
 de_status de_numbered_bit_width(de_number number, size_t *width);
 de_status de_numbered_specification(de_number number, struct form *form,
                                     struct text_lengths *lengths, byte *texts, size_t texts_len);
-de_status de_held_encode_align(const byte *held, size_t *align);
-de_status de_held_bit_width(const byte *held, size_t *width);
-de_status de_held_specification(const byte *held, struct form *form, struct text_lengths *lengths,
+de_status de_custom_encode_align(const byte *held, size_t *align);
+de_status de_custom_bit_width(const byte *held, size_t *width);
+de_status de_custom_specification(const byte *held, struct form *form, struct text_lengths *lengths,
                                 byte *texts, size_t texts_len);
 void de_plain_encoder_new(de_encoder *encoder);
 de_status de_numbered_encoder_most(de_number number, const de_encoder *encoder, size_t len,
                                    size_t *most);
 de_status de_numbered_encoder_finish(de_number number, const de_encoder *encoder, byte *output,
                                      size_t output_len, size_t *written);
-de_status de_held_encoder_most(const byte *held, const de_encoder *encoder, size_t len,
+de_status de_custom_encoder_most(const byte *held, const de_encoder *encoder, size_t len,
                                size_t *most);
-de_status de_held_encoder_finish(const byte *held, const de_encoder *encoder, byte *output,
+de_status de_custom_encoder_finish(const byte *held, const de_encoder *encoder, byte *output,
                                  size_t output_len, size_t *written);
 
 #define CALL(name) de_##name
@@ -286,7 +286,7 @@ de_status de_encoding_new(de_encoding *encoding, const de_specification *asked, 
     form.least_significant_first = asked->least_significant_first;
     form.check_trailing_bits = asked->check_trailing_bits;
     form.concatenate = asked->concatenate;
-    made = de_held_new(&form, symbols, asked->symbols_len, ignore, asked->ignore_len, separator,
+    made = de_custom_new(&form, symbols, asked->symbols_len, ignore, asked->ignore_len, separator,
                        asked->wrap_separator_len, from, asked->translate_from_len, to,
                        asked->translate_to_len);
     if (detail != NULL && (made.status == DE_DUPLICATE || made.status == DE_WRAP_WIDTH ||
@@ -305,7 +305,7 @@ de_status de_encoding_layout(const de_encoding *encoding, void *output, size_t o
     if (!is_held(encoding)) {
         return DE_NO_ENCODING;
     }
-    return de_held_layout(encoding->tables, to, output_len, written);
+    return de_custom_layout(encoding->tables, to, output_len, written);
 }
 
 de_status de_encoding_read(de_encoding *encoding, const void *layout, size_t len) {
@@ -314,7 +314,7 @@ de_status de_encoding_read(de_encoding *encoding, const void *layout, size_t len
     if (encoding == NULL || from == NULL) {
         return DE_NULL_POINTER;
     }
-    made = de_held_read(from, len);
+    made = de_custom_read(from, len);
     return stored(encoding, &made);
 }
 
@@ -325,7 +325,7 @@ de_status de_encoding_encode_len(const de_encoding *encoding, size_t len, size_t
     if (!is_held(encoding)) {
         return DE_NO_ENCODING;
     }
-    return de_held_encode_len(encoding->tables, len, text_len);
+    return de_custom_encode_len(encoding->tables, len, text_len);
 }
 
 de_status de_encoding_encode(const de_encoding *encoding, const void *input, size_t input_len,
@@ -338,7 +338,7 @@ de_status de_encoding_encode(const de_encoding *encoding, const void *input, siz
     if (!is_held(encoding)) {
         return DE_NO_ENCODING;
     }
-    return BY_PROCESSOR(held_encode, input_len)(encoding->tables, from, input_len, to, output_len, written);
+    return BY_PROCESSOR(custom_encode, input_len)(encoding->tables, from, input_len, to, output_len, written);
 }
 
 de_status de_encoding_decode_len(const de_encoding *encoding, size_t len, size_t *most) {
@@ -348,7 +348,7 @@ de_status de_encoding_decode_len(const de_encoding *encoding, size_t len, size_t
     if (!is_held(encoding)) {
         return DE_NO_ENCODING;
     }
-    return de_held_decode_len(encoding->tables, len, most);
+    return de_custom_decode_len(encoding->tables, len, most);
 }
 
 de_status de_encoding_decode(const de_encoding *encoding, const char *input, size_t input_len,
@@ -361,7 +361,7 @@ de_status de_encoding_decode(const de_encoding *encoding, const char *input, siz
     if (!is_held(encoding)) {
         return DE_NO_ENCODING;
     }
-    return BY_PROCESSOR(held_decode, input_len)(encoding->tables, from, input_len, to, output_len, decoded);
+    return BY_PROCESSOR(custom_decode, input_len)(encoding->tables, from, input_len, to, output_len, decoded);
 }
 
 de_status de_encoding_is_canonical(const de_encoding *encoding, bool *canonical) {
@@ -373,7 +373,7 @@ de_status de_encoding_is_canonical(const de_encoding *encoding, bool *canonical)
     if (!is_held(encoding)) {
         return DE_NO_ENCODING;
     }
-    status = de_held_is_canonical(encoding->tables, &answer);
+    status = de_custom_is_canonical(encoding->tables, &answer);
     if (status == DE_OK) {
         *canonical = answer;
     }
@@ -422,7 +422,7 @@ de_status de_encoding_decoder_most(const de_encoding *encoding, const de_decoder
     if (!is_held(encoding)) {
         return DE_NO_ENCODING;
     }
-    return de_held_decoder_most(encoding->tables, decoder, len, most);
+    return de_custom_decoder_most(encoding->tables, decoder, len, most);
 }
 
 de_status de_encoding_decoder_read(const de_encoding *encoding, de_decoder *decoder,
@@ -436,7 +436,7 @@ de_status de_encoding_decoder_read(const de_encoding *encoding, de_decoder *deco
     if (!is_held(encoding)) {
         return DE_NO_ENCODING;
     }
-    return BY_PROCESSOR(held_decoder_read, input_len)(encoding->tables, decoder, from, input_len, to, output_len,
+    return BY_PROCESSOR(custom_decoder_read, input_len)(encoding->tables, decoder, from, input_len, to, output_len,
                                 written);
 }
 
@@ -449,7 +449,7 @@ de_status de_encoding_decoder_finish(const de_encoding *encoding, const de_decod
     if (!is_held(encoding)) {
         return DE_NO_ENCODING;
     }
-    return de_held_decoder_finish(encoding->tables, decoder, to, output_len, decoded);
+    return de_custom_decoder_finish(encoding->tables, decoder, to, output_len, decoded);
 }
 
 de_status de_encode_align(de_number number, size_t *align) {
@@ -515,7 +515,7 @@ de_status de_encoding_specification(const de_encoding *encoding, de_specificatio
     if (!is_held(encoding)) {
         return DE_NO_ENCODING;
     }
-    status = de_held_specification(encoding->tables, &form, &lengths, to, texts_len);
+    status = de_custom_specification(encoding->tables, &form, &lengths, to, texts_len);
     return given_back(status, specification, &form, &lengths, texts);
 }
 
@@ -526,7 +526,7 @@ de_status de_encoding_encode_align(const de_encoding *encoding, size_t *align) {
     if (!is_held(encoding)) {
         return DE_NO_ENCODING;
     }
-    return de_held_encode_align(encoding->tables, align);
+    return de_custom_encode_align(encoding->tables, align);
 }
 
 de_status de_encoding_bit_width(const de_encoding *encoding, size_t *width) {
@@ -536,7 +536,7 @@ de_status de_encoding_bit_width(const de_encoding *encoding, size_t *width) {
     if (!is_held(encoding)) {
         return DE_NO_ENCODING;
     }
-    return de_held_bit_width(encoding->tables, width);
+    return de_custom_bit_width(encoding->tables, width);
 }
 
 de_status de_encoder_new(de_encoder *encoder) {
@@ -581,7 +581,7 @@ de_status de_encoding_encoder_most(const de_encoding *encoding, const de_encoder
     if (!is_held(encoding)) {
         return DE_NO_ENCODING;
     }
-    return de_held_encoder_most(encoding->tables, encoder, len, most);
+    return de_custom_encoder_most(encoding->tables, encoder, len, most);
 }
 
 de_status de_encoding_encoder_read(const de_encoding *encoding, de_encoder *encoder,
@@ -595,7 +595,7 @@ de_status de_encoding_encoder_read(const de_encoding *encoding, de_encoder *enco
     if (!is_held(encoding)) {
         return DE_NO_ENCODING;
     }
-    return BY_PROCESSOR(held_encoder_read, input_len)(encoding->tables, encoder, from, input_len, to, output_len,
+    return BY_PROCESSOR(custom_encoder_read, input_len)(encoding->tables, encoder, from, input_len, to, output_len,
                                 written);
 }
 
@@ -608,5 +608,5 @@ de_status de_encoding_encoder_finish(const de_encoding *encoding, const de_encod
     if (!is_held(encoding)) {
         return DE_NO_ENCODING;
     }
-    return de_held_encoder_finish(encoding->tables, encoder, to, output_len, written);
+    return de_custom_encoder_finish(encoding->tables, encoder, to, output_len, written);
 }

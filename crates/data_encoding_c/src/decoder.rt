@@ -6,19 +6,19 @@ ghost use Rattle.data_encoding.specs.Base.{Base};
 ghost use Rattle.data_encoding.specs.Fields.{IsSpecified};
 ghost use Rattle.data_encoding.specs.Plain.{base_of_plain};
 ghost use Rattle.data_encoding_calls.specs.Calls.{ByNumber};
-ghost use Rattle.data_encoding_calls.specs.Pieces.{EndsText, StandsAfter, TellsRoom};
-ghost use Rattle.data_encoding_calls.specs.Numbered.{EndsTextByNumber, ReadsPieceByHeld, ReadsPieceByNumber};
+ghost use Rattle.data_encoding_calls.specs.Pieces.{EndsText, HasConsumed, TellsRoom};
+ghost use Rattle.data_encoding_calls.specs.Numbered.{EndsTextByNumber, ReadsPieceByCustom, ReadsPieceByNumber};
 
 use data_encoding::PlainEncoding;
 use data_encoding_calls::{
-    Decoded, PlainKept, held_decoder_finish, held_decoder_most, held_decoder_read,
+    Decoded, PlainKept, custom_decoder_finish, custom_decoder_most, custom_decoder_read,
     numbered_decoder_finish, numbered_decoder_most, numbered_decoder_read, plain_decoder_new,
 };
 
 /// Sets what is kept of the empty text, for every encoding.
 #[unsafe(no_mangle)]
 pub extern "C" fn de_plain_decoder_new(decoder: &mut PlainKept)
-    ensures { (base : Base) → IsSpecified base → StandsAfter base decoder.new [] }
+    ensures { (base : Base) → IsSpecified base → HasConsumed base decoder.new [] }
 {
     plain_decoder_new(decoder);
 }
@@ -70,7 +70,7 @@ pub extern "C" fn de_numbered_decoder_finish(
 
 /// Writes the greatest number of bytes that `len` more bytes of the text may complete to `most`.
 #[unsafe(no_mangle)]
-pub extern "C" fn de_held_decoder_most(
+pub extern "C" fn de_custom_decoder_most(
     held: &PlainEncoding,
     decoder: &PlainKept,
     len: usize,
@@ -78,29 +78,29 @@ pub extern "C" fn de_held_decoder_most(
 ) -> u32
     ensures { TellsRoom (base_of_plain held.now) decoder.now len most.old most.new result }
 {
-    held_decoder_most(held, decoder, len, most)
+    custom_decoder_most(held, decoder, len, most)
 }
 
 /// Reads a piece, and writes the bytes of the groups that are then whole to the start of the
 /// output, and their number to `written`.
 #[unsafe(no_mangle)]
-pub extern "C" fn de_held_decoder_read(
+pub extern "C" fn de_custom_decoder_read(
     held: &PlainEncoding,
     decoder: &mut PlainKept,
     piece: &[u8],
     output: &mut [u8],
     written: &mut usize,
 ) -> u32
-    ensures { ReadsPieceByHeld held.now piece.now decoder.old decoder.new output.old output.new
+    ensures { ReadsPieceByCustom held.now piece.now decoder.old decoder.new output.old output.new
         written.old written.new result }
 {
-    held_decoder_read(held, decoder, piece, output, written)
+    custom_decoder_read(held, decoder, piece, output, written)
 }
 
 /// Ends the text: writes the bytes of a last group to the start of the output, and returns the
 /// verdict on the whole text.
 #[unsafe(no_mangle)]
-pub extern "C" fn de_held_decoder_finish(
+pub extern "C" fn de_custom_decoder_finish(
     held: &PlainEncoding,
     decoder: &PlainKept,
     output: &mut [u8],
@@ -109,5 +109,5 @@ pub extern "C" fn de_held_decoder_finish(
     ensures { EndsText (base_of_plain held.now) decoder.now output.old output.new decoded.old
         decoded.new result }
 {
-    held_decoder_finish(held, decoder, output, decoded)
+    custom_decoder_finish(held, decoder, output, decoded)
 }

@@ -8,11 +8,11 @@ ghost use Rattle.data_encoding.specs.Plain.{base_of_plain};
 ghost use Rattle.encoding_stream.specs.Blocks.{HasWritten};
 ghost use Rattle.data_encoding_calls.specs.Blocks.{EndsData, TellsDue};
 ghost use Rattle.data_encoding_calls.specs.Calls.{ByNumber};
-ghost use Rattle.data_encoding_calls.specs.Numbered.{EncodesPieceByHeld, EncodesPieceByNumber, EndsDataByNumber};
+ghost use Rattle.data_encoding_calls.specs.Numbered.{EncodesPieceByCustom, EncodesPieceByNumber, EndsDataByNumber};
 
 use data_encoding::PlainEncoding;
 use data_encoding_calls::{
-    held_encoder_finish, held_encoder_most, held_encoder_read, numbered_encoder_finish,
+    custom_encoder_finish, custom_encoder_most, custom_encoder_read, numbered_encoder_finish,
     numbered_encoder_most, numbered_encoder_read, plain_encoder_new,
 };
 use encoding_stream::KeptData;
@@ -72,7 +72,7 @@ pub extern "C" fn de_numbered_encoder_finish(
 
 /// Writes the length of the text that `len` more bytes of the data complete to `most`.
 #[unsafe(no_mangle)]
-pub extern "C" fn de_held_encoder_most(
+pub extern "C" fn de_custom_encoder_most(
     held: &PlainEncoding,
     encoder: &KeptData,
     len: usize,
@@ -80,29 +80,29 @@ pub extern "C" fn de_held_encoder_most(
 ) -> u32
     ensures { TellsDue (base_of_plain held.now) encoder.now len most.old most.new result }
 {
-    held_encoder_most(held, encoder, len, most)
+    custom_encoder_most(held, encoder, len, most)
 }
 
 /// Reads a piece, and writes the text of the blocks that are then whole to the start of the output,
 /// and its length to `written`.
 #[unsafe(no_mangle)]
-pub extern "C" fn de_held_encoder_read(
+pub extern "C" fn de_custom_encoder_read(
     held: &PlainEncoding,
     encoder: &mut KeptData,
     piece: &[u8],
     output: &mut [u8],
     written: &mut usize,
 ) -> u32
-    ensures { EncodesPieceByHeld held.now piece.now encoder.old encoder.new output.old output.new
+    ensures { EncodesPieceByCustom held.now piece.now encoder.old encoder.new output.old output.new
         written.old written.new result }
 {
-    held_encoder_read(held, encoder, piece, output, written)
+    custom_encoder_read(held, encoder, piece, output, written)
 }
 
 /// Ends the data: writes the text of the bytes held to the start of the output, and its length to
 /// `written`.
 #[unsafe(no_mangle)]
-pub extern "C" fn de_held_encoder_finish(
+pub extern "C" fn de_custom_encoder_finish(
     held: &PlainEncoding,
     encoder: &KeptData,
     output: &mut [u8],
@@ -111,5 +111,5 @@ pub extern "C" fn de_held_encoder_finish(
     ensures { EndsData (base_of_plain held.now) encoder.now output.old output.new written.old
         written.new result }
 {
-    held_encoder_finish(held, encoder, output, written)
+    custom_encoder_finish(held, encoder, output, written)
 }

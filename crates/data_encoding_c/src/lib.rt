@@ -4,9 +4,9 @@
 //! `include/data_encoding.h` states the conditions on pointers.
 #![tactic(auto)]
 
+mod custom;
 mod decoder;
 mod encoder;
 mod facts;
-mod held;
 mod names;
 mod numbered;

@@ -14,13 +14,13 @@ use Rattle.encoding_stream.specs.declared.pieces.Kept.{Kept}
 use Rattle.encoding_stream.specs.Pieces.{most_completed, verdict_of, Keeps}
 use Rattle.encoding_stream.specs.Reading.{HasLastBytes}
 use Rattle.data_encoding_calls.specs.declared.pieces.PlainKept.{PlainKept}
-use Rattle.data_encoding_calls.specs.Pieces.{fault_told, kept_told, kept_with, piece_status, Places, ReadsPiece, StandsAfter}
+use Rattle.data_encoding_calls.specs.Pieces.{fault_told, kept_told, kept_with, piece_status, Places, ReadsPiece, HasConsumed}
 use Rattle.data_encoding_calls.specs.Status.{ok, short_buffer, status_of_kind, too_long}
 
 -- if no decoder continues, it was given no text
 pub none-stands : (base : Base) (plain : PlainKept) (found : Option BufferDecoder)
-    → found ≡ None → ((text : List ℕ) → StandsAfter base plain text → IsSome found)
-    → (text : List ℕ) → StandsAfter base plain text → ⊥
+    → found ≡ None → ((text : List ℕ) → HasConsumed base plain text → IsSome found)
+    → (text : List ℕ) → HasConsumed base plain text → ⊥
 none-stands base plain found is law text stands =
     let none : IsSome {T = BufferDecoder} None = subst IsSome is (law text stands) in
     absurd (cc none)
@@ -47,7 +47,7 @@ fault-inside len verdict error is inside =
 
 -- a decoder that continues keeps what the caller does
 pub stands-kept : (base : Base) (plain : PlainKept) (kept : Kept) (text : List ℕ)
-    → kept_told plain ≡ Some kept → (stands : StandsAfter base plain text)
+    → kept_told plain ≡ Some kept → (stands : HasConsumed base plain text)
     → (stands.kept ≡ kept) × Keeps base kept text
 stands-kept base plain kept text told stands =
     let same : stands.kept ≡ kept = one-kept (sym stands.told ∙ told) in
@@ -85,7 +85,7 @@ piece-short base kept len room few misses =
 -- a piece that was refused
 pub refuses : (base : Base) (piece : List ℕ) (places : Places) (answer : ℕ)
     → (answer ≡ ok → ⊥)
-    → ((text : List ℕ) (stands : StandsAfter base places.decoder text)
+    → ((text : List ℕ) (stands : HasConsumed base places.decoder text)
     → answer ≡ piece_status base stands.kept (length piece) (length places.output))
     → ReadsPiece base piece places places answer
 refuses base piece places answer refused status = record {
@@ -167,11 +167,11 @@ copied-front written last copied output few inside is =
 -- What the end of a kept text leaves in an output, whatever the verdict.
 pub record EndsKept (base : Base) (plain : PlainKept) (old new : List ℕ) (read written : ℕ)
     (verdict : Result (Unit {0}) DecodeError) : Type 0 where
-  pub verdict_is : (text : List ℕ) → StandsAfter base plain text
+  pub verdict_is : (text : List ℕ) → HasConsumed base plain text
       → verdict ≡ verdict_of (fault_of base text)
-  pub bytes : (text : List ℕ) → StandsAfter base plain text
+  pub bytes : (text : List ℕ) → HasConsumed base plain text
       → sound_bytes base text ≡ whole_bytes base text ++ take written new
-  pub read_is : (text : List ℕ) → StandsAfter base plain text → read ≡ length text
+  pub read_is : (text : List ℕ) → HasConsumed base plain text → read ≡ length text
   pub within : written ≤ length new
   pub after : drop written new ≡ drop written old
   pub len : length new ≡ length old

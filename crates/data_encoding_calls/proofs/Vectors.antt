@@ -33,10 +33,10 @@ use Rattle.data_encoding_calls.specs.Blocks.{if_kept, last_text, DataPlaces, Enc
 use Rattle.data_encoding_calls.specs.Blocks.{piece_status as data_status}
 use Rattle.data_encoding_calls.specs.Calls.{decode_len_status, decode_status, encode_len_status, encode_status, front_status, over, status_by_len, status_of_len, ByNumber, Decodes, Encodes, HasStopped, TellsCanonical, TellsMost, TellsTextLength, WritesFront}
 use Rattle.data_encoding_calls.specs.Facts.{texts_of, AsksFor, GivesBack, SpecificationPlaces, TellsAlignment, TellsWidth}
-use Rattle.data_encoding_calls.specs.Held.{fields_asked, order_asked, padding_asked, Makes, MakesOfLayout}
+use Rattle.data_encoding_calls.specs.Custom.{fields_asked, order_asked, padding_asked, Makes, MakesOfLayout}
 use Rattle.data_encoding_calls.specs.Names.{FindsNumber, WritesName}
-use Rattle.data_encoding_calls.specs.Numbered.{DecodesByNumber, EncodesByNumber, EncodesPieceByHeld, EncodesPieceByNumber, EndsDataByNumber, EndsTextByNumber, GivesBackByHeld, GivesBackByNumber, ReadsPieceByHeld, ReadsPieceByNumber}
-use Rattle.data_encoding_calls.specs.Pieces.{fault_at_position, fault_told, kept_told, kept_with, kind_told, length_status, piece_status, EndsText, MayBeGiven, Places, ReadsPiece, StandsAfter, TellsRoom}
+use Rattle.data_encoding_calls.specs.Numbered.{DecodesByNumber, EncodesByNumber, EncodesPieceByCustom, EncodesPieceByNumber, EndsDataByNumber, EndsTextByNumber, GivesBackByCustom, GivesBackByNumber, ReadsPieceByCustom, ReadsPieceByNumber}
+use Rattle.data_encoding_calls.specs.Pieces.{fault_at_position, fault_told, kept_told, kept_with, kind_told, length_status, piece_status, EndsText, MayBeGiven, Places, ReadsPiece, HasConsumed, TellsRoom}
 use Rattle.data_encoding_calls.proofs.NumberLemmas.{by-known, by-unknown}
 use Rattle.data_encoding_calls.specs.Status.{detail_of_refusal, no_decoder, no_encoder, no_encoding, ok, short_buffer, status_of_fault, status_of_kind, status_of_refusal, too_long, unknown_encoding}
 
@@ -481,7 +481,7 @@ numbers_given = (
 -- the decoder of a caller that was told that text
 decoder_stands :
     Has base64_mime_fields (λ base.
-    StandsAfter base plain_so_far (codes "SGVsbG" ++ 13 ∷ 10 ∷ []))
+    HasConsumed base plain_so_far (codes "SGVsbG" ++ 13 ∷ 10 ∷ []))
 decoder_stands = record {
   kept = kept_so_far;
   told = refl;
@@ -531,7 +531,7 @@ no_piece_read base fits = record {
   status = λ text stands.
       sym fits ∙ ap (λ kept. piece_status base kept 0 3) (same-kept stands.told);
   stands = λ _ text stands.
-      subst (λ those. StandsAfter base plain_so_far those) (sym (append-nil text)) stands;
+      subst (λ those. HasConsumed base plain_so_far those) (sym (append-nil text)) stands;
   decodes = λ _ text stands.
       ap (λ those. whole_bytes base those) (append-nil text)
       ∙ sym (append-nil (whole_bytes base text));
@@ -700,10 +700,10 @@ no_number plain kept decoded form lengths = (
 -- a caller holds BASE64
 done_by_held :
     Has base64_fields (λ base. (held : PlainEncoding) → base_of_plain held ≡ base
-    → ReadsPieceByHeld held (codes "8=") plain_of_none plain_of_none (codes "...") (codes "...")
+    → ReadsPieceByCustom held (codes "8=") plain_of_none plain_of_none (codes "...") (codes "...")
     7 7 no_decoder
-    × EncodesPieceByHeld held [] data_so_far data_so_far (codes "....") (codes "....") 7 0 ok
-    × GivesBackByHeld held lines_form lines_form (places_of lines_form []).lengths
+    × EncodesPieceByCustom held [] data_so_far data_so_far (codes "....") (codes "....") 7 0 ok
+    × GivesBackByCustom held lines_form lines_form (places_of lines_form []).lengths
     (places_of lines_form []).lengths [] [] short_buffer)
 done_by_held held is = (
   (numbers_refused (base_of_plain held)).0,
@@ -925,9 +925,9 @@ plain_of_fault = record plain_so_far { fault = 7; fault_position = 4 }
 
 -- eight bytes were told, within the limit; after a fault nothing is held
 stands_told : (base : Base) (text : List ℕ)
-    → ((stands : StandsAfter base plain_so_far text) → (stands.kept ≡ kept_so_far)
+    → ((stands : HasConsumed base plain_so_far text) → (stands.kept ≡ kept_so_far)
     × (stands.kept.len ≡ length text) × (length text ≤ 2305843009213693951))
-    × (StandsAfter base plain_of_fault text → ⊥)
+    × (HasConsumed base plain_of_fault text → ⊥)
 stands_told base text = (
   λ stands. (sym (same-kept stands.told), stands.keeps.counted, stands.limit),
   λ stands. two-zero (subst (λ kept. IsSome kept.fault → kept.count ≡ 0)
@@ -954,7 +954,7 @@ piece_told :
     → (ReadsPiece base (codes "8=") (places_so_far 7) new answer
     → (answer ≡ ok) × (length new.output ≡ 3))
     × (ReadsPiece base (codes "8=") (places_so_far 7) new ok
-    → StandsAfter base new.decoder (codes "SGVsbG" ++ 13 ∷ 10 ∷ codes "8=")
+    → HasConsumed base new.decoder (codes "SGVsbG" ++ 13 ∷ 10 ∷ codes "8=")
     × (take new.written new.output ≡ codes "lo") × (new.written ≤ length new.output)
     × (drop 3 new.output ≡ []))
     × (ReadsPiece base (codes "8=") places_of_none new no_decoder → new ≡ places_of_none))
@@ -1075,11 +1075,11 @@ eighteen_told plain kept decoded form lengths answer = (
 -- by an encoding that a caller holds, a call that refuses changes nothing
 held_told : (held : PlainEncoding) (plain : PlainKept) (kept : KeptData) (form : Form)
     (lengths : TextLengths) (output : List ℕ) (written : ℕ)
-    → (ReadsPieceByHeld held [] plain_of_none plain (codes "...") output 7 written no_decoder
+    → (ReadsPieceByCustom held [] plain_of_none plain (codes "...") output 7 written no_decoder
     → output ≡ codes "...")
-    × (EncodesPieceByHeld held [] whole_block kept (codes "...") output 7 written no_encoder
+    × (EncodesPieceByCustom held [] whole_block kept (codes "...") output 7 written no_encoder
     → output ≡ codes "...")
-    × (GivesBackByHeld held lines_form form lengths lengths (codes "...") output short_buffer
+    × (GivesBackByCustom held lines_form form lengths lengths (codes "...") output short_buffer
     → output ≡ codes "...")
 held_told held plain kept form lengths output written = (
   λ reads. ap (λ places. places.output) (reads.refused never-nineteen),

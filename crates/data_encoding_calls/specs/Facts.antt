@@ -7,7 +7,7 @@ use Rattle.data_encoding.specs.Lengths.{alignment}
 use Rattle.data_encoding_calls.specs.declared.facts.TextLengths.{TextLengths}
 use Rattle.data_encoding_calls.specs.declared.make.Form.{Form}
 use Rattle.data_encoding_calls.specs.Calls.{front_status, over}
-use Rattle.data_encoding_calls.specs.Held.{fields_asked}
+use Rattle.data_encoding_calls.specs.Custom.{fields_asked}
 use Rattle.data_encoding_calls.specs.Status.{ok}
 
 -- A call wrote the number of bytes of data in a block.

@@ -1,7 +1,7 @@
 pub mod Status
 pub mod Pieces
 pub mod Calls
-pub mod Held
+pub mod Custom
 pub mod Facts
 pub mod Blocks
 pub mod Names

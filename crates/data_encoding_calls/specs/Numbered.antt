@@ -37,9 +37,9 @@ EndsDataByNumber number kept output_old output_new written_old written_new answe
     (λ base. EndsData base kept output_old output_new written_old written_new answer)
 
 -- A call read a piece of a text by the encoding that the caller holds.
-abbrev pub ReadsPieceByHeld : PlainEncoding → List ℕ → PlainKept → PlainKept
+abbrev pub ReadsPieceByCustom : PlainEncoding → List ℕ → PlainKept → PlainKept
     → List ℕ → List ℕ → ℕ → ℕ → ℕ → Type 0
-ReadsPieceByHeld held piece decoder_old decoder_new output_old output_new written_old written_new
+ReadsPieceByCustom held piece decoder_old decoder_new output_old output_new written_old written_new
     answer =
     ReadsPiece (base_of_plain held) piece
     (record { decoder = decoder_old; output = output_old; written = written_old })
@@ -57,9 +57,9 @@ ReadsPieceByNumber number piece decoder_old decoder_new output_old output_new wr
     (record { decoder = decoder_new; output = output_new; written = written_new }) answer)
 
 -- A call read a piece of data by the encoding that the caller holds.
-abbrev pub EncodesPieceByHeld : PlainEncoding → List ℕ → KeptData → KeptData
+abbrev pub EncodesPieceByCustom : PlainEncoding → List ℕ → KeptData → KeptData
     → List ℕ → List ℕ → ℕ → ℕ → ℕ → Type 0
-EncodesPieceByHeld held piece encoder_old encoder_new output_old output_new written_old
+EncodesPieceByCustom held piece encoder_old encoder_new output_old output_new written_old
     written_new answer =
     EncodesPiece (base_of_plain held) piece
     (record { encoder = encoder_old; output = output_old; written = written_old })
@@ -77,9 +77,9 @@ EncodesPieceByNumber number piece encoder_old encoder_new output_old output_new 
     (record { encoder = encoder_new; output = output_new; written = written_new }) answer)
 
 -- A call wrote the specification of the encoding that the caller holds.
-abbrev pub GivesBackByHeld : PlainEncoding → Form → Form → TextLengths → TextLengths
+abbrev pub GivesBackByCustom : PlainEncoding → Form → Form → TextLengths → TextLengths
     → List ℕ → List ℕ → ℕ → Type 0
-GivesBackByHeld held form_old form_new lengths_old lengths_new texts_old texts_new answer =
+GivesBackByCustom held form_old form_new lengths_old lengths_new texts_old texts_new answer =
     GivesBack (base_of_plain held)
     (record { form = form_old; lengths = lengths_old; texts = texts_old })
     (record { form = form_new; lengths = lengths_new; texts = texts_new }) answer

@@ -56,7 +56,7 @@ pub record MayBeGiven (base : Base) (plain : PlainKept) : Type 0 where
   pub passes : MayBeKept base kept
 
 -- The caller's decoder was given this text.
-pub record StandsAfter (base : Base) (plain : PlainKept) (text : List ℕ) : Type 0 where
+pub record HasConsumed (base : Base) (plain : PlainKept) (text : List ℕ) : Type 0 where
   pub kept : Kept
   pub told : kept_told plain ≡ Some kept
   pub keeps : Keeps base kept text
@@ -76,9 +76,9 @@ piece_status base kept len room =
 
 -- A call wrote how many bytes this many more bytes of the text may complete, or refused.
 pub record TellsRoom (base : Base) (plain : PlainKept) (len old new answer : ℕ) : Type 0 where
-  pub status : (text : List ℕ) (stands : StandsAfter base plain text)
+  pub status : (text : List ℕ) (stands : HasConsumed base plain text)
       → answer ≡ length_status stands.kept len
-  pub value : answer ≡ ok → (text : List ℕ) (stands : StandsAfter base plain text)
+  pub value : answer ≡ ok → (text : List ℕ) (stands : HasConsumed base plain text)
       → new ≡ most_completed base stands.kept len
   pub refused : (answer ≡ ok → ⊥) → new ≡ old
 
@@ -92,14 +92,14 @@ pub record Places : Type 0 where
 -- A call read a piece and wrote the bytes of the groups that are then whole to the start of the
 -- output, or refused and changed nothing.
 pub record ReadsPiece (base : Base) (piece : List ℕ) (old new : Places) (answer : ℕ) : Type 0 where
-  pub status : (text : List ℕ) (stands : StandsAfter base old.decoder text)
+  pub status : (text : List ℕ) (stands : HasConsumed base old.decoder text)
       → answer ≡ piece_status base stands.kept (length piece) (length old.output)
-  pub stands : answer ≡ ok → (text : List ℕ) → StandsAfter base old.decoder text
-      → StandsAfter base new.decoder (text ++ piece)
-  pub decodes : answer ≡ ok → (text : List ℕ) → StandsAfter base old.decoder text
+  pub stands : answer ≡ ok → (text : List ℕ) → HasConsumed base old.decoder text
+      → HasConsumed base new.decoder (text ++ piece)
+  pub decodes : answer ≡ ok → (text : List ℕ) → HasConsumed base old.decoder text
       → whole_bytes base (text ++ piece) ≡ whole_bytes base text ++ take new.written new.output
   pub within : answer ≡ ok → new.written ≤ length new.output
-  pub after : answer ≡ ok → (text : List ℕ) (stands : StandsAfter base old.decoder text)
+  pub after : answer ≡ ok → (text : List ℕ) (stands : HasConsumed base old.decoder text)
       → drop (most_completed base stands.kept (length piece)) new.output
       ≡ drop (most_completed base stands.kept (length piece)) old.output
   pub len : length new.output ≡ length old.output
@@ -109,15 +109,15 @@ pub record ReadsPiece (base : Base) (piece : List ℕ) (old new : Places) (answe
 -- text, or refused and changed nothing.
 pub record EndsText (base : Base) (plain : PlainKept) (output_old output_new : List ℕ)
     (decoded_old decoded_new : Decoded) (answer : ℕ) : Type 0 where
-  pub verdict : (answer ≡ short_buffer → ⊥) → (text : List ℕ) → StandsAfter base plain text
+  pub verdict : (answer ≡ short_buffer → ⊥) → (text : List ℕ) → HasConsumed base plain text
       → answer ≡ status_of_fault (fault_of base text)
-  pub bytes : (answer ≡ short_buffer → ⊥) → (text : List ℕ) → StandsAfter base plain text
+  pub bytes : (answer ≡ short_buffer → ⊥) → (text : List ℕ) → HasConsumed base plain text
       → sound_bytes base text
       ≡ whole_bytes base text ++ take decoded_new.written output_new
   pub position : (answer ≡ short_buffer → ⊥) → (text : List ℕ) (error : DecodeError)
-      → StandsAfter base plain text → fault_of base text ≡ Some error
+      → HasConsumed base plain text → fault_of base text ≡ Some error
       → decoded_new.position ≡ error.position
-  pub read : (answer ≡ short_buffer → ⊥) → (text : List ℕ) → StandsAfter base plain text
+  pub read : (answer ≡ short_buffer → ⊥) → (text : List ℕ) → HasConsumed base plain text
       → decoded_new.read ≡ length text
   pub end : answer ≡ ok → decoded_new.position ≡ decoded_new.read
   pub given : (answer ≡ no_decoder → ⊥) → MayBeGiven base plain
@@ -125,7 +125,7 @@ pub record EndsText (base : Base) (plain : PlainKept) (output_old output_new : L
       → decoded_new.read ≡ plain.len
   pub inside : (answer ≡ no_decoder → ⊥) → (answer ≡ short_buffer → ⊥) → (answer ≡ ok → ⊥)
       → decoded_new.position < decoded_new.read
-  pub within : (answer ≡ short_buffer → ⊥) → (text : List ℕ) → StandsAfter base plain text
+  pub within : (answer ≡ short_buffer → ⊥) → (text : List ℕ) → HasConsumed base plain text
       → decoded_new.written ≤ length output_new
   pub after : drop decoded_new.written output_new ≡ drop decoded_new.written output_old
   pub len : length output_new ≡ length output_old

@@ -6,8 +6,8 @@ ghost use Rattle.data_encoding.specs.Base.{Base};
 ghost use Rattle.data_encoding.specs.Fields.{IsSpecified};
 ghost use Rattle.data_encoding.specs.Plain.{base_of_plain};
 ghost use Rattle.data_encoding_calls.specs.Calls.{ByNumber};
-ghost use Rattle.data_encoding_calls.specs.Pieces.{EndsText, StandsAfter, TellsRoom};
-ghost use Rattle.data_encoding_calls.specs.Numbered.{EndsTextByNumber, ReadsPieceByHeld, ReadsPieceByNumber};
+ghost use Rattle.data_encoding_calls.specs.Pieces.{EndsText, HasConsumed, TellsRoom};
+ghost use Rattle.data_encoding_calls.specs.Numbered.{EndsTextByNumber, ReadsPieceByCustom, ReadsPieceByNumber};
 
 use crate::convert::Decoded;
 use crate::pieces::{PlainKept, finish_by, most_by, read_by};
@@ -17,7 +17,7 @@ use data_encoding::{PlainEncoding, predefined_numbered};
 
 /// Sets what is kept of the empty text, for every encoding.
 pub fn plain_decoder_new(decoder: &mut PlainKept)
-    ensures { (base : Base) → IsSpecified base → StandsAfter base decoder.new [] }
+    ensures { (base : Base) → IsSpecified base → HasConsumed base decoder.new [] }
 {
     pieces();
     *decoder = PlainKept {
@@ -78,7 +78,7 @@ pub fn numbered_decoder_finish(
 }
 
 /// Writes the greatest number of bytes that `len` more bytes of the text may complete to `most`.
-pub fn held_decoder_most(
+pub fn custom_decoder_most(
     held: &PlainEncoding,
     decoder: &PlainKept,
     len: usize,
@@ -91,14 +91,14 @@ pub fn held_decoder_most(
 
 /// Reads a piece, and writes the bytes of the groups that are then whole to the start of the
 /// output, and their number to `written`.
-pub fn held_decoder_read(
+pub fn custom_decoder_read(
     held: &PlainEncoding,
     decoder: &mut PlainKept,
     piece: &[u8],
     output: &mut [u8],
     written: &mut usize,
 ) -> u32
-    ensures { ReadsPieceByHeld held.now piece.now decoder.old decoder.new output.old output.new
+    ensures { ReadsPieceByCustom held.now piece.now decoder.old decoder.new output.old output.new
         written.old written.new result }
 {
     read_by(&held.by_ref(), decoder, piece, output, written)
@@ -106,7 +106,7 @@ pub fn held_decoder_read(
 
 /// Ends the text: writes the bytes of a last group to the start of the output, and returns the
 /// verdict on the whole text.
-pub fn held_decoder_finish(
+pub fn custom_decoder_finish(
     held: &PlainEncoding,
     decoder: &PlainKept,
     output: &mut [u8],

@@ -8,7 +8,7 @@ ghost use Rattle.data_encoding.specs.Plain.{base_of_plain};
 ghost use Rattle.encoding_stream.specs.Blocks.{HasWritten};
 ghost use Rattle.data_encoding_calls.specs.Blocks.{EndsData, TellsDue};
 ghost use Rattle.data_encoding_calls.specs.Calls.{ByNumber};
-ghost use Rattle.data_encoding_calls.specs.Numbered.{EncodesPieceByHeld, EncodesPieceByNumber, EndsDataByNumber};
+ghost use Rattle.data_encoding_calls.specs.Numbered.{EncodesPieceByCustom, EncodesPieceByNumber, EndsDataByNumber};
 
 use crate::blocks::{due_by, end_by, take_by};
 use crate::status::UNKNOWN_ENCODING;
@@ -74,7 +74,7 @@ pub fn numbered_encoder_finish(
 }
 
 /// Writes the length of the text that `len` more bytes of the data complete to `most`.
-pub fn held_encoder_most(
+pub fn custom_encoder_most(
     held: &PlainEncoding,
     encoder: &KeptData,
     len: usize,
@@ -87,14 +87,14 @@ pub fn held_encoder_most(
 
 /// Reads a piece, and writes the text of the blocks that are then whole to the start of the output,
 /// and its length to `written`.
-pub fn held_encoder_read(
+pub fn custom_encoder_read(
     held: &PlainEncoding,
     encoder: &mut KeptData,
     piece: &[u8],
     output: &mut [u8],
     written: &mut usize,
 ) -> u32
-    ensures { EncodesPieceByHeld held.now piece.now encoder.old encoder.new output.old output.new
+    ensures { EncodesPieceByCustom held.now piece.now encoder.old encoder.new output.old output.new
         written.old written.new result }
 {
     take_by(&held.by_ref(), encoder, piece, output, written)
@@ -102,7 +102,7 @@ pub fn held_encoder_read(
 
 /// Ends the data: writes the text of the bytes held to the start of the output, and its length to
 /// `written`.
-pub fn held_encoder_finish(
+pub fn custom_encoder_finish(
     held: &PlainEncoding,
     encoder: &KeptData,
     output: &mut [u8],

@@ -6,8 +6,8 @@ ghost use Rattle.data_encoding.specs.Plain.{base_of_plain};
 ghost use Rattle.data_encoding.specs.Specification.{fields_of_bytes};
 ghost use Rattle.data_encoding_calls.specs.Calls.{ByNumber};
 ghost use Rattle.data_encoding_calls.specs.Facts.{texts_of, GivesBack, TellsAlignment, TellsWidth};
-ghost use Rattle.data_encoding_calls.specs.Held.{fields_asked};
-ghost use Rattle.data_encoding_calls.specs.Numbered.{GivesBackByHeld, GivesBackByNumber};
+ghost use Rattle.data_encoding_calls.specs.Custom.{fields_asked};
+ghost use Rattle.data_encoding_calls.specs.Numbered.{GivesBackByCustom, GivesBackByNumber};
 
 use crate::make::Form;
 use crate::status::{OK, SHORT_BUFFER, UNKNOWN_ENCODING};
@@ -51,7 +51,7 @@ pub fn numbered_encode_align(number: u32, align: &mut usize) -> u32
 
 /// Writes the number of bytes in a block, which is a whole group of symbols or a whole line, to
 /// `align`.
-pub fn held_encode_align(held: &PlainEncoding, align: &mut usize) -> u32
+pub fn custom_encode_align(held: &PlainEncoding, align: &mut usize) -> u32
     ensures { TellsAlignment (base_of_plain held.now) align.new result }
 {
     *align = held.by_ref().encode_align();
@@ -71,7 +71,7 @@ pub fn numbered_bit_width(number: u32, width: &mut usize) -> u32
 }
 
 /// Writes the number of bits of a symbol to `width`.
-pub fn held_bit_width(held: &PlainEncoding, width: &mut usize) -> u32
+pub fn custom_bit_width(held: &PlainEncoding, width: &mut usize) -> u32
     ensures { TellsWidth (base_of_plain held.now) width.new result }
 {
     *width = held.by_ref().bit_width();
@@ -97,13 +97,13 @@ pub fn numbered_specification(
 
 /// Writes the specification of the encoding: its texts one after another to the start of the
 /// output, their lengths, and its numbers.
-pub fn held_specification(
+pub fn custom_specification(
     held: &PlainEncoding,
     form: &mut Form,
     lengths: &mut TextLengths,
     texts: &mut [u8],
 ) -> u32
-    ensures { GivesBackByHeld held.now form.old form.new lengths.old lengths.new
+    ensures { GivesBackByCustom held.now form.old form.new lengths.old lengths.new
         texts.old texts.new result }
 {
     specification_by(&held.by_ref(), form, lengths, texts)

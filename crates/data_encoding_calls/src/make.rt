@@ -3,7 +3,7 @@
 ghost use Rattle.std.specs.Prelude.{◌≡◌};
 ghost use Rattle.data_encoding.specs.Fields.{base_of};
 ghost use Rattle.data_encoding.specs.Plain.{base_of_plain};
-ghost use Rattle.data_encoding_calls.specs.Held.{Makes, fields_asked, order_asked, padding_asked};
+ghost use Rattle.data_encoding_calls.specs.Custom.{Makes, fields_asked, order_asked, padding_asked};
 
 use crate::status::{OK, detail_of_refusal, status_of_refusal};
 use data_encoding::{BitOrder, Encoding, PlainEncoding, SpecificationParts, hexlower};
@@ -46,7 +46,7 @@ pub struct Made {
 }
 
 /// Returns the encoding that is asked for, or the reason why there is none.
-pub fn held_new(
+pub fn custom_new(
     form: &Form,
     symbols: &[u8],
     ignore: &[u8],

@@ -2,7 +2,7 @@
 
 ghost use Rattle.std.specs.Prelude.{◌≡◌, ℕ, List, IfSome, IsSome, Some};
 ghost use Rattle.encoding_stream.specs.Pieces.{base_of_pieces, kept_by};
-ghost use Rattle.data_encoding_calls.specs.Pieces.{kept_told, kind_told, EndsText, MayBeGiven, ReadsPiece, StandsAfter, TellsRoom};
+ghost use Rattle.data_encoding_calls.specs.Pieces.{kept_told, kind_told, EndsText, MayBeGiven, ReadsPiece, HasConsumed, TellsRoom};
 
 use crate::convert::Decoded;
 use crate::status::{NO_DECODER, OK, SHORT_BUFFER, TOO_LONG, status_of_kind};
@@ -100,7 +100,7 @@ fn decoder_of<'a>(encoding: &EncodingRef<'a>, plain: &PlainKept) -> Option<Buffe
     ensures base { IfSome result (λ decoder. base_of_pieces decoder ≡ encoding.now) }
     ensures kept { IfSome result (λ decoder. kept_told plain.now ≡ Some (kept_by decoder)) }
     ensures given { IsSome result → MayBeGiven encoding.now plain.now }
-    ensures stands { (text : List ℕ) → StandsAfter encoding.now plain.now text → IsSome result }
+    ensures stands { (text : List ℕ) → HasConsumed encoding.now plain.now text → IsSome result }
 {
     BufferDecoder::resumed_by_ref(encoding, kept_of(plain)?)
 }

@@ -4,7 +4,7 @@
 ghost use Rattle.data_encoding.specs.Layout.{layout};
 ghost use Rattle.data_encoding.specs.Plain.{base_of_plain};
 ghost use Rattle.data_encoding_calls.specs.Calls.{WritesFront};
-ghost use Rattle.data_encoding_calls.specs.Held.{MakesOfLayout};
+ghost use Rattle.data_encoding_calls.specs.Custom.{MakesOfLayout};
 
 use crate::make::{Made, accepted, refused};
 use crate::status::{NO_ENCODING, OK, SHORT_BUFFER};
@@ -13,7 +13,7 @@ use data_encoding::{Encoding, PlainEncoding};
 
 /// Writes the layout of the encoding to the start of the output, and its length, at most 770, to
 /// `written`.
-pub fn held_layout(held: &PlainEncoding, output: &mut [u8], written: &mut usize) -> u32
+pub fn custom_layout(held: &PlainEncoding, output: &mut [u8], written: &mut usize) -> u32
     ensures { WritesFront (layout (base_of_plain held.now)) output.old output.new written.old
         written.new result }
 {
@@ -28,7 +28,7 @@ pub fn held_layout(held: &PlainEncoding, output: &mut [u8], written: &mut usize)
 }
 
 /// Returns the encoding with this layout, if the bytes are one.
-pub fn held_read(bytes: &[u8]) -> Made
+pub fn custom_read(bytes: &[u8]) -> Made
     ensures { MakesOfLayout bytes.now result }
 {
     one_layout();

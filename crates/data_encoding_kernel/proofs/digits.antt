@@ -15,4 +15,4 @@ pub mod FrontWordLemmas
 pub mod GatherRowLemmas
 pub mod GatherStoreLemmas
 pub mod AffineLemmas
-pub mod AffineSymbolLemmas
+pub mod OffsetAlphabetLemmas

@@ -4,6 +4,6 @@ pub mod Lanes
 pub mod Pairs
 pub mod Values
 pub mod Affine
-pub mod AffineSymbols
+pub mod OffsetAlphabet
 pub mod Runs
 pub mod Ignore

@@ -7,7 +7,7 @@ use crate::group_size::GroupSize;
 use crate::lanes::look_up::LookUp;
 use crate::order::ConstantOrder;
 use crate::platform::has_lanes;
-use crate::turn::{DecodeTurn, Few, Lanes};
+use crate::turn::{DecodeTurn, EightGroups, SixteenSymbols};
 use crate::words::{decode_symbols, entry_of};
 use data_encoding_meaning::encoding::BitOrder;
 
@@ -129,7 +129,12 @@ fn decode_by_few<L: LookUp, O: ConstantOrder, G: GroupSize>(
     if input.len() < 16 || entry_of(values, input[15]) >= 128 {
         return 0;
     }
-    decode_whole_turns::<Few<L>, G>(&Few { look_up: *look_up }, O::ORDER, input, output)
+    decode_whole_turns::<SixteenSymbols<L>, G>(
+        &SixteenSymbols { look_up: *look_up },
+        O::ORDER,
+        input,
+        output,
+    )
 }
 
 // By as many turns of eight groups, and then by those of sixteen symbols. Returns how many bytes
@@ -189,8 +194,8 @@ fn decode_by_eights<L: LookUp, O: ConstantOrder, G: GroupSize>(
         output.new }
     ensures within { result ≤ len }
 {
-    let lanes = Lanes { look_up: *look_up };
-    let at = decode_turns::<Lanes<L>, G>(&lanes, O::ORDER, count, input, output);
+    let lanes = EightGroups { look_up: *look_up };
+    let at = decode_turns::<EightGroups<L>, G>(&lanes, O::ORDER, count, input, output);
     if at < len { at } else { len }
 }
 
@@ -232,9 +237,9 @@ pub fn decode_by_turns<L: LookUp, O: ConstantOrder, G: GroupSize>(
         output.new }
     ensures within { result ≤ len }
 {
-    let lanes = Lanes { look_up: *look_up };
+    let lanes = EightGroups { look_up: *look_up };
     let count = count_turns::<G>(input.len(), len, output.len());
-    let read = decode_turns::<Lanes<L>, G>(&lanes, O::ORDER, count, input, output);
+    let read = decode_turns::<EightGroups<L>, G>(&lanes, O::ORDER, count, input, output);
     if read < len { read } else { len }
 }
 

@@ -5,8 +5,10 @@ ghost use Rattle.data_encoding_meaning.specs.text.Base.{group_bytes};
 ghost use Rattle.data_encoding_kernel.specs.Tables.{IsTextBy};
 
 use crate::group_size::GroupSize;
-use crate::lanes::affine_symbols::{AffineSymbols, LONG_DATA_LEN, affine_symbols_of, may_be_sums};
 use crate::lanes::encode::{EightByRows, EncodeEight, encode_four, encode_four_octal, encode_two};
+use crate::lanes::offset_alphabet::{
+    LONG_DATA_LEN, OffsetAlphabet, may_have_offsets, offset_alphabet_of,
+};
 use crate::platform::has_lanes;
 use crate::words::encode_group;
 use data_encoding_meaning::encoding::BitOrder;
@@ -31,7 +33,7 @@ pub fn encode_plain<G: GroupSize>(
     if input.len() < 10 * G::BYTES - 2 {
         return encode_short::<G>(symbols, order, input, output);
     }
-    if G::WIDTH == 6 && input.len() >= LONG_DATA_LEN && may_be_sums(symbols) {
+    if G::WIDTH == 6 && input.len() >= LONG_DATA_LEN && may_have_offsets(symbols) {
         return encode_long::<G>(symbols, order, input, output);
     }
     encode_eights::<EightByRows, G>(EightByRows, symbols, order, input, output);
@@ -45,8 +47,10 @@ fn encode_long<G: GroupSize>(symbols: &[u8; 256], order: BitOrder, input: &[u8],
     requires exact { length output.old ≡ (8 * length input.now + (G.WIDTH - 1)) / G.WIDTH }
     ensures { IsTextBy symbols.now G.WIDTH order input.now output.new }
 {
-    match affine_symbols_of(symbols) {
-        Some(affine) => encode_eights::<AffineSymbols, G>(affine, symbols, order, input, output),
+    match offset_alphabet_of(symbols) {
+        Some(alphabet) => encode_eights::<OffsetAlphabet, G>(
+            alphabet, symbols, order, input, output,
+        ),
         None => encode_eights::<EightByRows, G>(EightByRows, symbols, order, input, output),
     }
 }

@@ -35,11 +35,11 @@ pub trait DecodeTurn {
 /// Eight groups in lanes, up to the first byte that is refused. The look-up is held by value, so
 /// that it stays in registers.
 #[derive(Clone, Copy, Drop)]
-pub struct Lanes<L> {
+pub struct EightGroups<L> {
     pub look_up: L,
 }
 
-impl<L: LookUp> DecodeTurn for Lanes<L> {
+impl<L: LookUp> DecodeTurn for EightGroups<L> {
     ghost number = { λ width. 8 };
 
     ghost holds = { λ values lanes. L.holds values lanes.look_up };
@@ -57,11 +57,11 @@ impl<L: LookUp> DecodeTurn for Lanes<L> {
 
 /// The groups of sixteen symbols in lanes, up to the first byte that is none.
 #[derive(Clone, Copy, Drop)]
-pub struct Few<L> {
+pub struct SixteenSymbols<L> {
     pub look_up: L,
 }
 
-impl<L: LookUp> DecodeTurn for Few<L> {
+impl<L: LookUp> DecodeTurn for SixteenSymbols<L> {
     ghost number = { λ width. 16 / group_symbols width };
 
     ghost holds = { λ values few. L.holds values few.look_up };
@@ -78,7 +78,7 @@ impl<L: LookUp> DecodeTurn for Few<L> {
 }
 
 // Four groups or none, word by word, by the table itself: what a platform without vectors takes for
-// `Few`.
+// `SixteenSymbols`.
 impl DecodeTurn for [u8; 256] {
     ghost number = { λ width. 4 };
 

@@ -27,7 +27,7 @@ use Rattle.encoding_stream.specs.declared.kept_data.KeptData.{KeptData}
 use Rattle.encoding_stream.specs.declared.pieces.Kept.{Kept}
 use Rattle.encoding_stream.specs.declared.watch.Watch.{Watch}
 use Rattle.encoding_stream.specs.Appending.{AppendsDecoded, IsAsBefore}
-use Rattle.encoding_stream.specs.Decoder.{base_of_decoder, decoder_len, FinishesWith, StandsAfter, AppendsFinished, AppendsPushed}
+use Rattle.encoding_stream.specs.Decoder.{base_of_decoder, decoder_len, FinishesWith, HasConsumed, AppendsFinished, AppendsPushed}
 use Rattle.encoding_stream.specs.Encoded.{EncodesAll, EncodesFront, ReadsMore, Succeeds, WritesText}
 use Rattle.encoding_stream.specs.Printed.{printed_stream_fault}
 use Rattle.encoding_stream.specs.Blocks.{after_blocks, base_of_blocks, blocks_len, data_kept, held_data, piece_text, text_of_blocks, EncodesOn, EndsBlocks, HasWritten}
@@ -276,7 +276,7 @@ ends_judged = (λ _ _. (refl, refl), λ _ _. refl, refl, refl)
 
 pushed_by : (base : Base) (text : List ℕ) → Keeps base kept_so_far text
     → (decoder : Decoder) → base_of_decoder decoder ≡ base → decoder.pieces.kept ≡ kept_so_far
-    → StandsAfter decoder text × (decoder_len decoder ≡ 8)
+    → HasConsumed decoder text × (decoder_len decoder ≡ 8)
 pushed_by base text keeps decoder is kept_is = (
   subst (λ kept. Keeps (base_of_decoder decoder) kept text) (sym kept_is)
       (subst (λ those. Keeps those kept_so_far text) (sym is) keeps),
@@ -329,7 +329,7 @@ appended_more = record { bytes = codes "lo"; decoded = refl; appended = refl }
 pushed_so_far :
     Has base64_mime_fields (λ base. (decoder : Decoder) → base_of_decoder decoder ≡ base
     → decoder.pieces.kept ≡ kept_so_far
-    → StandsAfter decoder (codes "SGVsbG" ++ 13 ∷ 10 ∷ []) × (decoder_len decoder ≡ 8))
+    → HasConsumed decoder (codes "SGVsbG" ++ 13 ∷ 10 ∷ []) × (decoder_len decoder ≡ 8))
 pushed_so_far = pushed_by _ _ kept_of_text.0
 
 -- the verdict of that decoder
@@ -614,7 +614,7 @@ encoded_on_told new text on = on (codes "hello") (codes "aGVs") data_written
 keeps_told : (base : Base) (text : List ℕ) → Keeps base kept_so_far text → length text ≡ 8
 keeps_told base text keeps = sym keeps.counted
 
-stands_told : (decoder : Decoder) (text : List ℕ) → StandsAfter decoder text
+stands_told : (decoder : Decoder) (text : List ℕ) → HasConsumed decoder text
     → decoder_len decoder ≡ length text
 stands_told decoder text stands = stands.counted
 
@@ -800,7 +800,7 @@ is_kept_told base kept is = (is.keeps.counted, omega (arith, is.keeps.counted, i
 pushed_bytes : (decoder : Decoder) (output : List ℕ)
     → whole_bytes (base_of_decoder decoder) [] ≡ []
     → whole_bytes (base_of_decoder decoder) (codes "SGVs") ≡ codes "Hel"
-    → StandsAfter decoder [] → AppendsPushed decoder (codes "SGVs") (codes "> ") output
+    → HasConsumed decoder [] → AppendsPushed decoder (codes "SGVs") (codes "> ") output
     → (output ≡ codes "> Hel") × (output ≡ codes "> Hel")
 pushed_bytes decoder output none some stands pushed =
     let done = pushed.bytes [] stands in (
@@ -813,7 +813,7 @@ pushed_bytes decoder output none some stands pushed =
 
 pushed_told :
     Has base64_fields (λ base. (decoder : Decoder) (output : List ℕ)
-    → base_of_decoder decoder ≡ base → StandsAfter decoder []
+    → base_of_decoder decoder ≡ base → HasConsumed decoder []
     → AppendsPushed decoder (codes "SGVs") (codes "> ") output
     → (output ≡ codes "> Hel") × (output ≡ codes "> Hel"))
 pushed_told decoder output is = pushed_bytes decoder output
@@ -823,7 +823,7 @@ pushed_told decoder output is = pushed_bytes decoder output
 finished_bytes : (decoder : Decoder) (output : List ℕ)
     → whole_bytes (base_of_decoder decoder) (codes "SGVsbG8") ≡ codes "Hel"
     → sound_bytes (base_of_decoder decoder) (codes "SGVsbG8") ≡ codes "Hello"
-    → StandsAfter decoder (codes "SGVsbG8")
+    → HasConsumed decoder (codes "SGVsbG8")
     → AppendsFinished decoder (codes "> Hel") output
     → (output ≡ codes "> Hello") × (output ≡ codes "> Hello")
 finished_bytes decoder output whole sound stands finished =
@@ -837,7 +837,7 @@ finished_bytes decoder output whole sound stands finished =
 
 finished_told :
     Has base64_nopad_fields (λ base. (decoder : Decoder) (output : List ℕ)
-    → base_of_decoder decoder ≡ base → StandsAfter decoder (codes "SGVsbG8")
+    → base_of_decoder decoder ≡ base → HasConsumed decoder (codes "SGVsbG8")
     → AppendsFinished decoder (codes "> Hel") output
     → (output ≡ codes "> Hello") × (output ≡ codes "> Hello"))
 finished_told decoder output is = finished_bytes decoder output

@@ -20,8 +20,8 @@ decoder_len decoder = decoder.pieces.kept.len
 -- The decoder was pushed this text. It keeps the length of the text, and the first fault of its
 -- whole groups or, if they have none, the bytes after them with their positions, and whether a
 -- group was final.
-abbrev pub StandsAfter : Decoder → List ℕ → Type 0
-StandsAfter decoder text = Keeps (base_of_decoder decoder) decoder.pieces.kept text
+abbrev pub HasConsumed : Decoder → List ℕ → Type 0
+HasConsumed decoder text = Keeps (base_of_decoder decoder) decoder.pieces.kept text
 
 -- If the decoder was pushed a text, this is the verdict on the text.
 abbrev pub FinishesWith : Decoder → Result (Unit {0}) DecodeError → Type 0
@@ -30,21 +30,21 @@ FinishesWith decoder verdict = HasVerdict (base_of_decoder decoder) decoder.piec
 -- A piece was pushed, and the bytes of the groups that are then whole were appended to an output.
 pub record AppendsPushed (decoder : Decoder) (piece output_old output_new : List ℕ) : Type 0 where
   -- for any output
-  pub bytes : (text : List ℕ) → StandsAfter decoder text
+  pub bytes : (text : List ℕ) → HasConsumed decoder text
       → AppendsDecoded (whole_bytes (base_of_decoder decoder) text)
       (whole_bytes (base_of_decoder decoder) (text ++ piece)) output_old output_new
   -- for an output that ends with the bytes of the groups before
-  pub decoded : (before text : List ℕ) → StandsAfter decoder text
+  pub decoded : (before text : List ℕ) → HasConsumed decoder text
       → HasDecoded (base_of_decoder decoder) before text output_old
       → HasDecoded (base_of_decoder decoder) before (text ++ piece) output_new
 
 -- The text was ended, and the bytes of its last group were appended to an output.
 pub record AppendsFinished (decoder : Decoder) (output_old output_new : List ℕ) : Type 0 where
   -- for any output
-  pub bytes : (text : List ℕ) → StandsAfter decoder text
+  pub bytes : (text : List ℕ) → HasConsumed decoder text
       → AppendsDecoded (whole_bytes (base_of_decoder decoder) text)
       (sound_bytes (base_of_decoder decoder) text) output_old output_new
   -- for an output that ends with the bytes of the groups before
-  pub decoded : (before text : List ℕ) → StandsAfter decoder text
+  pub decoded : (before text : List ℕ) → HasConsumed decoder text
       → HasDecoded (base_of_decoder decoder) before text output_old
       → output_new ≡ before ++ sound_bytes (base_of_decoder decoder) text

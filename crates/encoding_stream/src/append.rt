@@ -107,14 +107,14 @@ fn append_chunk<A: Allocator + Copy>(
         → CompletesNothing (base_of_pieces pieces.old) text chunk.now → IsOk result }
 {
     if pieces.most(chunk.len() + rest) <= output.capacity() - output.len() {
-        append_within(pieces, chunk, output);
+        append_in_place(pieces, chunk, output);
         return Ok(());
     }
     append_copied::<A, ROOM>(pieces, chunk, rest, output)
 }
 
 // Reads a piece, and appends what is decoded, for which the output has room.
-fn append_within<A: Allocator + Copy>(
+fn append_in_place<A: Allocator + Copy>(
     pieces: &mut BufferDecoder<'_>,
     piece: &[u8],
     output: &mut Vec<u8, A>,

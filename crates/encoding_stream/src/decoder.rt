@@ -31,13 +31,13 @@ impl<'a> Decoder<'a> {
     ghost use Rattle.std.specs.Prelude.{◌≡◌, ℕ, ◌+◌, ◌≤◌, List, [], ◌++◌, length, vec_capacity, IfErr, IfOk, IsOk, OnErr, OnOk};
     ghost use Rattle.data_encoding.specs.Fields.{IsSpecified};
     ghost use Rattle.data_encoding.specs.Pieces.{whole_bytes};
-    ghost use Rattle.encoding_stream.specs.Decoder.{base_of_decoder, decoder_len, AppendsFinished, AppendsPushed, FinishesWith, StandsAfter};
+    ghost use Rattle.encoding_stream.specs.Decoder.{base_of_decoder, decoder_len, AppendsFinished, AppendsPushed, FinishesWith, HasConsumed};
     ghost use Rattle.encoding_stream.specs.Reading.{CompletesNothing, HasNoLastBytes};
 
     /// Returns a decoder that was pushed nothing.
     pub fn new(encoding: &'a Encoding) -> Decoder<'a>
         ensures base { base_of_decoder result ≡ encoding.now }
-        ensures nothing { StandsAfter result [] }
+        ensures nothing { HasConsumed result [] }
         ensures no_bytes { whole_bytes encoding.now [] ≡ [] }
         ensures specified { IsSpecified encoding.now }
     {
@@ -49,7 +49,7 @@ impl<'a> Decoder<'a> {
     /// Returns how many bytes were pushed.
     pub fn len(&self) -> usize
         ensures value { result ≡ decoder_len self.now }
-        ensures pushed { (text : List ℕ) → StandsAfter self.now text → result ≡ length text }
+        ensures pushed { (text : List ℕ) → HasConsumed self.now text → result ≡ length text }
     {
         self.pieces.kept.len
     }
@@ -65,14 +65,14 @@ impl<'a> Decoder<'a> {
         ensures base { base_of_decoder self.new ≡ base_of_decoder self.old }
         ensures len { OnOk result (decoder_len self.new
             ≡ decoder_len self.old + length piece.now) }
-        ensures stands { OnOk result ((text : List ℕ) → StandsAfter self.old text
-            → StandsAfter self.new (text ++ piece.now)) }
+        ensures stands { OnOk result ((text : List ℕ) → HasConsumed self.old text
+            → HasConsumed self.new (text ++ piece.now)) }
         ensures appends { OnOk result (AppendsPushed self.old piece.now output.old.items
             output.new.items) }
         ensures unchanged { OnErr result ((self.new ≡ self.old)
             × (output.new.items ≡ output.old.items)) }
         ensures capacity { OnErr result (vec_capacity output.new ≡ vec_capacity output.old) }
-        ensures no_group { (text : List ℕ) → StandsAfter self.old text
+        ensures no_group { (text : List ℕ) → HasConsumed self.old text
             → CompletesNothing (base_of_decoder self.old) text piece.now → IsOk result }
     {
         if self.pieces.most(piece.len()) <= output.capacity() - output.len() {
@@ -97,7 +97,7 @@ impl<'a> Decoder<'a> {
         ensures unchanged { IfErr result (λ decoder. (decoder ≡ self.entry)
             × (output.new.items ≡ output.old.items)) }
         ensures capacity { OnErr result (vec_capacity output.new ≡ vec_capacity output.old) }
-        ensures no_bytes { (text : List ℕ) → StandsAfter self.entry text
+        ensures no_bytes { (text : List ℕ) → HasConsumed self.entry text
             → HasNoLastBytes (base_of_decoder self.entry) text → IsOk result }
     {
         match append_last(&self.pieces, output) {

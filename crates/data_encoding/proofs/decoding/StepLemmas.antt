@@ -14,7 +14,7 @@ use Rattle.data_encoding_meaning.specs.declared.error.GroupFault.{GroupFault}
 use Rattle.data_encoding_meaning.specs.text.Base.{Base, IsWidth, group_bytes, group_symbols, is_padded, meaning, IsGroup}
 use Rattle.data_encoding_meaning.specs.decoding.Decoding.{HasFault, HasNoLastRun, HasRoom, IsDecoded, IsDecodedGroup, IsGathered, IsLastRun, IsIgnoredFront, run_bytes, valid_front, HasDecodedTo}
 use Rattle.data_encoding_kernel.specs.Runs.{IsRun}
-use Rattle.data_encoding.specs.declared.decode.steps.Reached.{Reached}
+use Rattle.data_encoding.specs.declared.decode.steps.Progress.{Progress}
 use Rattle.data_encoding.specs.Steps.{HasStopped}
 use Rattle.data_encoding_meaning.specs.decoding.Fault.{position_of}
 use Rattle.data_encoding_meaning.specs.text.Grammar.{Positioned, bytes_in, kept, kept_from}
@@ -420,7 +420,7 @@ some-group {group} is empty_is some =
     grind (arith, nat_tests)
 
 -- How far a run of this many bytes brings a decoding: it has whole groups, or none.
-pub record HasTurned (base : Base) (text : List ℕ) (sizes : Sizes) (at next : Reached)
+pub record HasTurned (base : Base) (text : List ℕ) (sizes : Sizes) (at next : Progress)
     (output : List ℕ) : Type 0 where
   pub so_far : HasDecodedTo base text next.read next.written false output
   pub front : IsIgnoredFront base (drop next.read text) next.ignored
@@ -430,7 +430,7 @@ pub record HasTurned (base : Base) (text : List ℕ) (sizes : Sizes) (at next : 
   pub before : HasDecodedTo base text at.read at.written false output
 
 -- A run of so many groups at the start of what follows ignored bytes, up to a position.
-module _ {base : Base} {text : List ℕ} {sizes : Sizes} (at : Reached) {output : List ℕ}
+module _ {base : Base} {text : List ℕ} {sizes : Sizes} (at : Progress) {output : List ℕ}
     (s : IsUnderWay base text sizes at.read at.written false output)
     (front : IsIgnoredFront base (drop at.read text) at.ignored) (most : ℕ) {count : ℕ}
     {new old : List ℕ}
@@ -470,7 +470,7 @@ module _ {base : Base} {text : List ℕ} {sizes : Sizes} (at : Reached) {output 
         let next = after_run s front new_len whole_run (omega (arith, is)) in
         (next.so_far.within, written-few next)
 
-  pub turned : (len : ℕ) → len ≡ count * sizes.symbols → 0 < sizes.symbols → (next : Reached)
+  pub turned : (len : ℕ) → len ≡ count * sizes.symbols → 0 < sizes.symbols → (next : Progress)
       → (len ≡ 0 → next ≡ at) → (0 < len → next.read ≡ at.read + at.ignored + len)
       → (0 < len → next.written ≡ at.written + len / sizes.symbols * sizes.bytes)
       → (0 < len → IsIgnoredFront base (drop next.read text) next.ignored)

@@ -11,7 +11,7 @@ ghost use Rattle.data_encoding_kernel.specs.Tables.{HoldsValues, Reads};
 ghost use Rattle.data_encoding.specs.Blocks.{EndsBefore, HasReached, IsPacking};
 
 use crate::decode::DECODE_LIMIT;
-use crate::decode::steps::Reached;
+use crate::decode::steps::Progress;
 use crate::encoding::{BitOrder, EncodingRef, IGNORED};
 use data_encoding_kernel::decode::decode_run_within;
 use data_encoding_kernel::group_size::GroupSize;
@@ -50,10 +50,10 @@ impl EncodingRef<'_> {
     #[inline(never)]
     pub(crate) fn decode_by_blocks<L: LookUp, O: ConstantOrder, G: GroupSize>(
         &self,
-        at: Reached,
+        at: Progress,
         input: &[u8],
         output: &mut [u8],
-    ) -> Reached
+    ) -> Progress
         requires width { self.now.width ≡ G.WIDTH }
         requires order { self.now.order ≡ O.ORDER }
         requires limit { length input.now ≤ DECODE_LIMIT }
@@ -78,11 +78,11 @@ impl EncodingRef<'_> {
     #[inline(never)]
     fn decode_in_room<L: LookUp, O: ConstantOrder, G: GroupSize>(
         &self,
-        at: Reached,
+        at: Progress,
         input: &[u8],
         room: &mut [u8],
         output: &mut [u8],
-    ) -> Reached
+    ) -> Progress
         requires width { self.now.width ≡ G.WIDTH }
         requires order { self.now.order ≡ O.ORDER }
         requires limit { length input.now ≤ DECODE_LIMIT }
@@ -298,7 +298,7 @@ fn next_len(len: usize, room_len: usize) -> usize
 // How far a text is decoded after a block. If nothing of the block is left, what follows is ignored
 // up to where it was packed.
 #[inline(always)]
-fn after_blocks(ignored: &IgnoredBytes, values: &[u8; 256], now: Packing, input: &[u8]) -> Reached
+fn after_blocks(ignored: &IgnoredBytes, values: &[u8; 256], now: Packing, input: &[u8]) -> Progress
     requires within { now.read ≤ length input.now }
     requires ordered { now.first ≤ now.end }
     ensures { (base : Base) → HoldsValues base values.now → HoldsIgnored base ignored.now
@@ -308,7 +308,7 @@ fn after_blocks(ignored: &IgnoredBytes, values: &[u8; 256], now: Packing, input:
     let left = now.end - now.first;
     let read = span_before(ignored, values, &input[..now.read], left);
     let skipped = if left == 0 { now.read - read } else { 0 };
-    Reached {
+    Progress {
         read,
         written: now.written,
         ignored: skipped,

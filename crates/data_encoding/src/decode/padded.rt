@@ -7,7 +7,7 @@ ghost use Rattle.data_encoding_kernel.specs.Tables.{Reads};
 
 use crate::decode::DECODE_LIMIT;
 use crate::decode::next_group::starts_whole;
-use crate::decode::steps::{Reached, ignored_front};
+use crate::decode::steps::{Progress, ignored_front};
 use crate::encoding::{EncodingRef, PADDING};
 use data_encoding_kernel::group_size::GroupSize;
 use data_encoding_kernel::order::ConstantOrder;
@@ -20,10 +20,10 @@ impl EncodingRef<'_> {
     pub(crate) fn decode_padded<O: ConstantOrder, G: GroupSize>(
         &self,
         values: &[u8; 256],
-        at: Reached,
+        at: Progress,
         input: &[u8],
         output: &mut [u8],
-    ) -> Reached
+    ) -> Progress
         requires reads { Reads self.now values.now G.WIDTH O.ORDER }
         requires limit { length input.now ≤ DECODE_LIMIT }
         requires exact { decoded_len self.now (length input.now) ≡ Ok (length output.old) }
@@ -51,10 +51,10 @@ impl EncodingRef<'_> {
     fn decode_padded_group<O: ConstantOrder, G: GroupSize>(
         &self,
         values: &[u8; 256],
-        at: Reached,
+        at: Progress,
         input: &[u8],
         output: &mut [u8],
-    ) -> Reached
+    ) -> Progress
         requires reads { Reads self.now values.now G.WIDTH O.ORDER }
         requires limit { length input.now ≤ DECODE_LIMIT }
         requires exact { decoded_len self.now (length input.now) ≡ Ok (length output.old) }
@@ -78,7 +78,7 @@ impl EncodingRef<'_> {
             Err(_) => return at,
         };
         let read = at.read + at.ignored + G::SYMBOLS;
-        Reached {
+        Progress {
             read,
             written: at.written + G::WIDTH * count / 8,
             ignored: ignored_front(values, &input[read..]),
@@ -88,7 +88,7 @@ impl EncodingRef<'_> {
 
 /// Returns whether the next group ends in padding.
 #[inline(always)]
-pub(crate) fn is_padded_next<G: GroupSize>(values: &[u8; 256], at: Reached, input: &[u8]) -> bool
+pub(crate) fn is_padded_next<G: GroupSize>(values: &[u8; 256], at: Progress, input: &[u8]) -> bool
     requires limit { length input.now ≤ DECODE_LIMIT }
     requires within { at.read + at.ignored ≤ length input.now }
     ensures { IsTrue result → at.read + at.ignored + G.SYMBOLS ≤ length input.now }

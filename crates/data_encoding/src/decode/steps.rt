@@ -33,14 +33,14 @@ pub(crate) enum Step {
 
 // How far a text was read and its output written, and how many ignored bytes follow.
 #[derive(Clone, Copy, Drop)]
-pub(crate) struct Reached {
+pub(crate) struct Progress {
     pub(crate) read: usize,
     pub(crate) written: usize,
     pub(crate) ignored: usize,
 }
 
 // Nothing is read.
-pub(crate) const START: Reached = Reached {
+pub(crate) const START: Progress = Progress {
     read: 0,
     written: 0,
     ignored: 0,
@@ -67,7 +67,7 @@ impl EncodingRef<'_> {
         ensures { HasEnded self.now input.now output.new stop.new result }
     {
         let mut is_short = false;
-        let mut at = reached_at(values, stop.read, stop.written, input);
+        let mut at = progress_at(values, stop.read, stop.written, input);
         while at.read + at.ignored < input.len() {
             at = self.decode_runs::<L, O, G>(values, look_up, &mut is_short, at, input, output);
             if is_short {
@@ -79,7 +79,7 @@ impl EncodingRef<'_> {
                 continue;
             }
             match self.decode_next::<G>(O::ORDER, self.fields.ignores, at, input, output, stop) {
-                Step::More => at = reached_at(values, stop.read, stop.written, input),
+                Step::More => at = progress_at(values, stop.read, stop.written, input),
                 Step::Ended => return true,
                 Step::Faulty => return false,
             }
@@ -98,10 +98,10 @@ impl EncodingRef<'_> {
         values: &[u8; 256],
         look_up: &L,
         is_short: &mut bool,
-        at: Reached,
+        at: Progress,
         input: &[u8],
         output: &mut [u8],
-    ) -> Reached
+    ) -> Progress
         requires reads { Reads self.now values.now G.WIDTH O.ORDER }
         requires held { L.holds values.now look_up.now }
         requires limit { length input.now ≤ DECODE_LIMIT }
@@ -145,10 +145,10 @@ impl EncodingRef<'_> {
         look_up: &L,
         packs: bool,
         is_short: &mut bool,
-        at: Reached,
+        at: Progress,
         input: &[u8],
         output: &mut [u8],
-    ) -> Reached
+    ) -> Progress
         requires reads { Reads self.now values.now G.WIDTH O.ORDER }
         requires held { L.holds values.now look_up.now }
         requires limit { length input.now ≤ DECODE_LIMIT }
@@ -174,10 +174,10 @@ impl EncodingRef<'_> {
         look_up: &L,
         packs: bool,
         is_short: &mut bool,
-        at: Reached,
+        at: Progress,
         input: &[u8],
         output: &mut [u8],
-    ) -> Reached
+    ) -> Progress
         requires reads { Reads self.now values.now G.WIDTH O.ORDER }
         requires held { L.holds values.now look_up.now }
         requires limit { length input.now ≤ DECODE_LIMIT }
@@ -225,10 +225,10 @@ impl EncodingRef<'_> {
         values: &[u8; 256],
         look_up: &L,
         len: usize,
-        at: Reached,
+        at: Progress,
         input: &[u8],
         output: &mut [u8],
-    ) -> Reached
+    ) -> Progress
         requires reads { Reads self.now values.now G.WIDTH O.ORDER }
         requires held { L.holds values.now look_up.now }
         requires limit { length input.now ≤ DECODE_LIMIT }
@@ -264,10 +264,10 @@ impl EncodingRef<'_> {
         look_up: &L,
         len: usize,
         most: usize,
-        at: Reached,
+        at: Progress,
         input: &[u8],
         output: &mut [u8],
-    ) -> Reached
+    ) -> Progress
         requires reads { Reads self.now values.now G.WIDTH O.ORDER }
         requires held { L.holds values.now look_up.now }
         requires limit { length input.now ≤ DECODE_LIMIT }
@@ -301,10 +301,10 @@ impl EncodingRef<'_> {
         values: &[u8; 256],
         look_up: &L,
         most: usize,
-        at: Reached,
+        at: Progress,
         input: &[u8],
         output: &mut [u8],
-    ) -> Reached
+    ) -> Progress
         requires reads { Reads self.now values.now G.WIDTH O.ORDER }
         requires held { L.holds values.now look_up.now }
         requires limit { length input.now ≤ DECODE_LIMIT }
@@ -338,10 +338,10 @@ impl EncodingRef<'_> {
         &self,
         values: &[u8; 256],
         look_up: &L,
-        at: Reached,
+        at: Progress,
         input: &[u8],
         output: &mut [u8],
-    ) -> Reached
+    ) -> Progress
         requires reads { Reads self.now values.now G.WIDTH O.ORDER }
         requires held { L.holds values.now look_up.now }
         requires limit { length input.now ≤ DECODE_LIMIT }
@@ -365,7 +365,7 @@ impl EncodingRef<'_> {
         if count == 0 {
             return at;
         }
-        Reached {
+        Progress {
             read: start + count * G::SYMBOLS,
             written: at.written + count * G::BYTES,
             ignored: 0,
@@ -379,7 +379,7 @@ impl EncodingRef<'_> {
         &self,
         order: BitOrder,
         ignores: bool,
-        at: Reached,
+        at: Progress,
         input: &[u8],
         output: &mut [u8],
         stop: &mut Stop,
@@ -449,14 +449,14 @@ impl EncodingRef<'_> {
 
 // That so much of a text was read and written, and how many ignored bytes follow.
 #[inline(always)]
-fn reached_at(values: &[u8; 256], read: usize, written: usize, input: &[u8]) -> Reached
+fn progress_at(values: &[u8; 256], read: usize, written: usize, input: &[u8]) -> Progress
     requires within { read ≤ length input.now }
     ensures read { result.read ≡ read }
     ensures written { result.written ≡ written }
     ensures front { (base : Base) → HoldsValues base values.now
         → IsIgnoredFront base (drop read input.now) result.ignored }
 {
-    Reached {
+    Progress {
         read,
         written,
         ignored: ignored_front(values, &input[read..]),
@@ -465,7 +465,7 @@ fn reached_at(values: &[u8; 256], read: usize, written: usize, input: &[u8]) -> 
 
 // How far a text is decoded after a run of this length, which is that of whole groups.
 #[inline(always)]
-fn after_run<G: GroupSize>(values: &[u8; 256], len: usize, at: Reached, input: &[u8]) -> Reached
+fn after_run<G: GroupSize>(values: &[u8; 256], len: usize, at: Progress, input: &[u8]) -> Progress
     requires read { at.read + at.ignored + len ≤ length input.now }
     requires limit { length input.now ≤ DECODE_LIMIT }
     requires written { at.written + len / G.SYMBOLS * G.BYTES ≤ DECODE_LIMIT }
@@ -479,7 +479,7 @@ fn after_run<G: GroupSize>(values: &[u8; 256], len: usize, at: Reached, input: &
         return at;
     }
     let read = at.read + at.ignored + len;
-    Reached {
+    Progress {
         read,
         written: at.written + len / G::SYMBOLS * G::BYTES,
         ignored: ignored_front(values, &input[read..]),
@@ -490,7 +490,7 @@ fn after_run<G: GroupSize>(values: &[u8; 256], len: usize, at: Reached, input: &
 // text goes on: it has fewer than six groups, and so many bytes are left that the room of a block
 // is worth its time; or it has fewer than sixteen, and ends within a group.
 #[inline(always)]
-fn is_short_run<G: GroupSize>(values: &[u8; 256], len: usize, at: Reached, input: &[u8]) -> bool
+fn is_short_run<G: GroupSize>(values: &[u8; 256], len: usize, at: Progress, input: &[u8]) -> bool
     requires limit { length input.now ≤ DECODE_LIMIT }
     requires within { at.read + at.ignored ≤ length input.now }
 {
@@ -504,7 +504,7 @@ fn is_short_run<G: GroupSize>(values: &[u8; 256], len: usize, at: Reached, input
 // Whether bytes are ignored within the next group, and more follow than are too few for a block. If
 // one of these has no meaning, there is a fault soon, and no block is worth its time.
 #[inline(always)]
-fn is_broken_next<G: GroupSize>(values: &[u8; 256], at: Reached, input: &[u8]) -> bool
+fn is_broken_next<G: GroupSize>(values: &[u8; 256], at: Progress, input: &[u8]) -> bool
     requires limit { length input.now ≤ DECODE_LIMIT }
     requires within { at.read + at.ignored ≤ length input.now }
 {

@@ -1,7 +1,7 @@
 //! Texts in lines of at least eight groups.
 
 ghost use Rattle.std.specs.Prelude.{◌≡◌, ◌+◌, ◌-◌, ◌*◌, ◌/◌, ◌≤◌, length, take, IsSome};
-ghost use Rattle.data_encoding_kernel.specs.AffineSymbols.{HoldsAffineSymbols};
+ghost use Rattle.data_encoding_kernel.specs.OffsetAlphabet.{HoldsOffsetAlphabet};
 ghost use Rattle.data_encoding_kernel.specs.Tables.{HoldsSymbols, IsTextBy};
 ghost use Rattle.data_encoding_meaning.specs.text.Lengths.{alignment};
 ghost use Rattle.data_encoding_meaning.specs.text.Text.{text_of};
@@ -10,11 +10,11 @@ use crate::encode::ENCODE_LIMIT;
 use crate::encode::lines::write_separator;
 use crate::encoding::EncodingRef;
 use data_encoding_kernel::group_size::GroupSize;
-use data_encoding_kernel::lanes::affine_symbols::{
-    AffineSymbols, LONG_DATA_LEN, affine_symbols_of, may_be_sums,
-};
 use data_encoding_kernel::lanes::encode::{
     EightByRows, EncodeEight, encode_four, encode_four_octal, encode_two,
+};
+use data_encoding_kernel::lanes::offset_alphabet::{
+    LONG_DATA_LEN, OffsetAlphabet, may_have_offsets, offset_alphabet_of,
 };
 use data_encoding_meaning::encoding::BitOrder;
 
@@ -30,9 +30,9 @@ impl EncodingRef<'_> {
         ensures { output.new ≡ text_of self.now input.now }
     {
         let symbols = &self.fields.symbols;
-        if G::WIDTH == 6 && input.len() >= LONG_DATA_LEN && may_be_sums(symbols) {
-            if let Some(affine) = affine_symbols_of(symbols) {
-                self.encode_long_lines_by_sums::<G>(symbols, &affine, input, output);
+        if G::WIDTH == 6 && input.len() >= LONG_DATA_LEN && may_have_offsets(symbols) {
+            if let Some(alphabet) = offset_alphabet_of(symbols) {
+                self.encode_long_lines_by_offsets::<G>(symbols, &alphabet, input, output);
                 return;
             }
         }
@@ -41,23 +41,23 @@ impl EncodingRef<'_> {
 
     // Not inlined, so that each loop over lines is small.
     #[inline(never)]
-    fn encode_long_lines_by_sums<G: GroupSize>(
+    fn encode_long_lines_by_offsets<G: GroupSize>(
         &self,
         symbols: &[u8; 256],
-        affine: &AffineSymbols,
+        alphabet: &OffsetAlphabet,
         input: &[u8],
         output: &mut [u8],
     )
         requires width { self.now.width ≡ G.WIDTH }
         requires holds { HoldsSymbols self.now symbols.now }
-        requires held { HoldsAffineSymbols symbols.now affine.now }
+        requires held { HoldsOffsetAlphabet symbols.now alphabet.now }
         requires lines { IsSome self.now.wrapping }
         requires long { 8 * G.BYTES ≤ alignment self.now }
         requires limit { length input.now ≤ ENCODE_LIMIT }
         requires exact { length output.old ≡ length (text_of self.now input.now) }
         ensures { output.new ≡ text_of self.now input.now }
     {
-        self.encode_long_lines_by::<AffineSymbols, G>(symbols, affine, input, output);
+        self.encode_long_lines_by::<OffsetAlphabet, G>(symbols, alphabet, input, output);
     }
 
     // The order is a constant from here on.

@@ -28,7 +28,7 @@ impl Encoding {
         if implementation.len() < 514 || implementation.len() > 770 {
             return None;
         }
-        let encoding = described(implementation)?;
+        let encoding = parse_layout(implementation)?;
         if encoding.internal_implementation().as_slice() == implementation {
             Some(encoding)
         } else {
@@ -113,7 +113,7 @@ fn put(layout: &mut ArrayVec<u8, 770>, bytes: &[u8])
 }
 
 // The encoding that has these bytes as its layout, if there is one.
-fn described(bytes: &[u8]) -> Option<Encoding>
+fn parse_layout(bytes: &[u8]) -> Option<Encoding>
     requires { 514 ≤ length bytes.now }
     ensures base { IfSome result IsSpecified }
     ensures found { (base : Base) → IsSpecified base → layout base ≡ bytes.now

@@ -6,9 +6,9 @@ use Rattle.std.specs.List.{range_with_len}
 use Rattle.data_encoding_meaning.specs.declared.encoding.BitOrder.TheVariants.{MostSignificantFirst}
 use Rattle.data_encoding_kernel.specs.declared.lanes.affine.Affine.{Affine}
 use Rattle.data_encoding_kernel.specs.declared.lanes.affine.PlainAffine.{PlainAffine}
-use Rattle.data_encoding_kernel.specs.declared.lanes.affine_symbols.AffineSymbols.{AffineSymbols}
+use Rattle.data_encoding_kernel.specs.declared.lanes.offset_alphabet.OffsetAlphabet.{OffsetAlphabet}
 use Rattle.data_encoding_kernel.specs.Affine.{HoldsAffine, affine_entry, affine_value, agrees, agrees_from, bits_of_rows, form_of, moved_byte, symbol_bit}
-use Rattle.data_encoding_kernel.specs.AffineSymbols.{HoldsAffineSymbols, affine_symbol, first_of}
+use Rattle.data_encoding_kernel.specs.OffsetAlphabet.{HoldsOffsetAlphabet, offset_symbol, first_of}
 use Rattle.data_encoding_kernel.specs.Lanes.{digits_of, group_word, group_words, halved_lane, spread_word}
 use Rattle.data_encoding_kernel.specs.Pairs.{high_half, low_half, split_lanes}
 use Rattle.data_encoding_kernel.specs.Values.{AreEntries, AreValues, HoldsRows, IsRow, chosen_by, in_row, joined}
@@ -132,7 +132,7 @@ affine_told values held =
 
 -- the symbols of base64 for URLs: the letters are 71 above their value and, below 26, 250 more,
 -- modulo 256; each later one has a number of its own
-url_symbols : AffineSymbols
+url_symbols : OffsetAlphabet
 url_symbols = record {
   last = 71 ∷ 71 ∷ 71 ∷ 71 ∷ 252 ∷ 252 ∷ 252 ∷ 252 ∷ 252 ∷ 252 ∷ 252 ∷ 252 ∷ 252 ∷ 252 ∷ 239
       ∷ 32 ∷ [];
@@ -144,27 +144,27 @@ url_symbols = record {
 symbols_added :
     (first_of url_symbols 25 ≡ 250)
     × (first_of url_symbols 26 ≡ 0)
-    × (affine_symbol url_symbols 25 ≡ 90)
-    × (affine_symbol url_symbols 26 ≡ 97)
-    × (affine_symbol url_symbols 52 ≡ 48)
-    × (affine_symbol url_symbols 62 ≡ 45)
-    × (affine_symbol url_symbols 63 ≡ 95)
+    × (offset_symbol url_symbols 25 ≡ 90)
+    × (offset_symbol url_symbols 26 ≡ 97)
+    × (offset_symbol url_symbols 52 ≡ 48)
+    × (offset_symbol url_symbols 62 ≡ 45)
+    × (offset_symbol url_symbols 63 ≡ 95)
 unfolding url_symbols
 symbols_added = (refl, refl, refl, refl, refl, refl, refl)
 
 -- the table of these symbols has this form
-symbols_held : HoldsAffineSymbols (map (affine_symbol url_symbols) (range_with_len 0 64))
+symbols_held : HoldsOffsetAlphabet (map (offset_symbol url_symbols) (range_with_len 0 64))
     url_symbols
 symbols_held = record {
   agrees = λ value h.
-      sym (get_or-map (affine_symbol url_symbols) (range_with_len 0 64) value 0 0
+      sym (get_or-map (offset_symbol url_symbols) (range_with_len 0 64) value 0 0
       (omega (arith, h, length-range_with_len 0 64))
-      ∙ ap (affine_symbol url_symbols)
+      ∙ ap (offset_symbol url_symbols)
       (get_or-range_with_len 0 64 value 0 h ∙ omega arith));
 }
 
 -- a table of this form has `Z` at 25, and `-` at 62
-symbols_told : (symbols : List ℕ) → HoldsAffineSymbols symbols url_symbols
+symbols_told : (symbols : List ℕ) → HoldsOffsetAlphabet symbols url_symbols
     → (slice_index symbols 25 ≡ 90) × (slice_index symbols 62 ≡ 45)
 unfolding url_symbols
 symbols_told symbols held =

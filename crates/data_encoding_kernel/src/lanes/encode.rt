@@ -3,12 +3,12 @@
 ghost use Rattle.std.specs.Prelude.{◌≡◌, ◌⊎◌, ℕ, ◌+◌, ◌*◌, ◌%◌, ◌^◌, ◌<◌, ◌≤◌, List, length, map, take, slice_index};
 ghost use Rattle.std.specs.List.{AllByRecursion, range_with_len};
 ghost use Rattle.data_encoding_meaning.specs.text.Base.{IsWidth};
-ghost use Rattle.data_encoding_kernel.specs.AffineSymbols.{HoldsAffineSymbols};
+ghost use Rattle.data_encoding_kernel.specs.OffsetAlphabet.{HoldsOffsetAlphabet};
 ghost use Rattle.data_encoding_kernel.specs.Tables.{IsTextBy};
 
 use crate::group_size::GroupSize;
-use crate::lanes::affine_symbols::{AffineSymbols, affine_symbols_64};
 use crate::lanes::digits::{digits, digits_of_four, digits_of_two, octal_digits_of_four};
+use crate::lanes::offset_alphabet::{OffsetAlphabet, offset_symbols_64};
 use data_encoding_meaning::encoding::BitOrder;
 use std::simd::prelude::*;
 
@@ -79,13 +79,17 @@ fn look_up<G: GroupSize>(symbols: &[u8; 256], values: u8x64) -> u8x64
 
 // The symbols of values; those of six bits as sums.
 #[inline(always)]
-fn look_up_sums<G: GroupSize>(affine: &AffineSymbols, symbols: &[u8; 256], values: u8x64) -> u8x64
-    requires held { HoldsAffineSymbols symbols.now affine.now }
+fn look_up_by_offsets<G: GroupSize>(
+    alphabet: &OffsetAlphabet,
+    symbols: &[u8; 256],
+    values: u8x64,
+) -> u8x64
+    requires held { HoldsOffsetAlphabet symbols.now alphabet.now }
     requires below { AllByRecursion (λ value. value < 2 ^ G.WIDTH) values }
     ensures { result ≡ map (slice_index symbols.now) values }
 {
     if G::WIDTH == 6 {
-        return affine_symbols_64(affine, values);
+        return offset_symbols_64(alphabet, values);
     }
     look_up::<G>(symbols, values)
 }
@@ -124,7 +128,7 @@ fn store_sixteen(lanes: u8x64, output: &mut [u8])
     lanes.extract::<0, 16>().copy_to_slice(output);
 }
 
-/// Writes the text of the first eight groups. Up to six bytes after them are loaded too.
+/// Writes the text of the first eight groups. Up to eight bytes after them are loaded too.
 #[inline(always)]
 pub fn encode_eight<G: GroupSize>(
     symbols: &[u8; 256],
@@ -140,22 +144,22 @@ pub fn encode_eight<G: GroupSize>(
     store::<G>(look_up::<G>(symbols, values), output);
 }
 
-/// Writes the text of the first eight groups; symbols of six bits are found as sums. Up to six
+/// Writes the text of the first eight groups; symbols of six bits are found as sums. Up to eight
 /// bytes after these groups are loaded too.
 #[inline(always)]
-pub fn encode_eight_by_sums<G: GroupSize>(
-    affine: &AffineSymbols,
+pub fn encode_eight_by_offsets<G: GroupSize>(
+    alphabet: &OffsetAlphabet,
     symbols: &[u8; 256],
     order: BitOrder,
     input: &[u8],
     output: &mut [u8],
 )
-    requires held { HoldsAffineSymbols symbols.now affine.now }
+    requires held { HoldsOffsetAlphabet symbols.now alphabet.now }
     requires bytes { 10 * G.BYTES ≤ length input.now + 2 }
     requires exact { length output.old ≡ 8 * G.SYMBOLS }
     ensures { IsTextBy symbols.now G.WIDTH order (take (8 * G.BYTES) input.now) output.new }
 {
-    let lanes = look_up_sums::<G>(affine, symbols, digits::<G>(order, input));
+    let lanes = look_up_by_offsets::<G>(alphabet, symbols, digits::<G>(order, input));
     store::<G>(lanes, output);
 }
 
@@ -218,7 +222,7 @@ pub trait EncodeEight: Copy {
     // Whether what is looked up is that of a table of symbols.
     ghost holds: { List ℕ → Self → Type 0 };
 
-    // Writes the text of the first eight groups. Up to six bytes after them are loaded too.
+    // Writes the text of the first eight groups. Up to eight bytes after them are loaded too.
     fn encode_eight<G: GroupSize>(
         &self,
         symbols: &[u8; 256],
@@ -251,8 +255,8 @@ impl EncodeEight for EightByRows {
     }
 }
 
-impl EncodeEight for AffineSymbols {
-    ghost holds = { λ symbols affine. HoldsAffineSymbols symbols affine };
+impl EncodeEight for OffsetAlphabet {
+    ghost holds = { λ symbols alphabet. HoldsOffsetAlphabet symbols alphabet };
 
     #[inline(always)]
     fn encode_eight<G: GroupSize>(
@@ -262,6 +266,6 @@ impl EncodeEight for AffineSymbols {
         input: &[u8],
         output: &mut [u8],
     ) {
-        encode_eight_by_sums::<G>(self, symbols, order, input, output);
+        encode_eight_by_offsets::<G>(self, symbols, order, input, output);
     }
 }

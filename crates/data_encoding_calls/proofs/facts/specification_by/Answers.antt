@@ -2,7 +2,7 @@ use Rattle.std.proofs.Common.{◌≡◌, ◌++◌, length, drop, ◌∙◌, refl
 use Rattle.data_encoding.specs.Fields.{Fields}
 use Rattle.data_encoding.specs.Layout.{fields_of}
 use Rattle.data_encoding_calls.specs.Facts.{texts_of}
-use Rattle.data_encoding_calls.specs.Held.{fields_asked}
+use Rattle.data_encoding_calls.specs.Custom.{fields_asked}
 use Rattle.data_encoding_calls.specs.Status.{ok, short_buffer}
 use Rattle.data_encoding_calls.proofs.BlockLemmas.{if-less, if-not}
 use Rattle.data_encoding_calls.proofs.facts.specification_by.Goals as goal

@@ -1,7 +1,7 @@
 use Rattle.std.proofs.Common.{◌≡◌, ◌⊎◌, ◌++◌, List, ℕ, ◌<◌, None, Some, is_some, drop, refl, sym, ap, subst, ◌∙◌, arith, inl, inr}
 use Rattle.data_encoding.specs.Fault.{fault_of}
 use Rattle.encoding_stream.specs.Pieces.{kept_by}
-use Rattle.data_encoding_calls.specs.Pieces.{StandsAfter}
+use Rattle.data_encoding_calls.specs.Pieces.{HasConsumed}
 use Rattle.data_encoding_calls.specs.Status.{status_of_fault}
 use Rattle.data_encoding_calls.proofs.PieceLemmas.{EndsKept, ended, fault-inside, fault-none, fault-some, kind-faulty, kind-own, no-error, none-stands, one-error, told-len}
 use Rattle.data_encoding_calls.proofs.pieces.finish_by.Goals as goal
@@ -38,7 +38,7 @@ returns-in-Ok c =
     (rw is at end.ensures.bytes)
     (omega (arith, end.ensures.few, end.ensures.len)) (omega (arith, c.if-output-written.false))
     c.copy_from_slice.ensures.after c.len-read.ensures.value in
-    let none : (text : List ℕ) → StandsAfter c.args.encoding.now c.args.plain.now text
+    let none : (text : List ℕ) → HasConsumed c.args.encoding.now c.args.plain.now text
     → fault_of c.args.encoding.now text ≡ None =
     λ text stands. fault-none (fault_of c.args.encoding.now text) end.result.1 c.in-Ok.field-0
     c.in-Ok.is (now.verdict_is text stands) in
@@ -75,7 +75,7 @@ returns-in-Err c =
     (rw is at end.ensures.bytes)
     (omega (arith, end.ensures.few, end.ensures.len)) (omega (arith, c.if-output-written.false))
     c.copy_from_slice.ensures.after c.len-read.ensures.value in
-    let some : (text : List ℕ) → StandsAfter c.args.encoding.now c.args.plain.now text
+    let some : (text : List ℕ) → HasConsumed c.args.encoding.now c.args.plain.now text
     → fault_of c.args.encoding.now text ≡ Some c.in-Err.error =
     λ text stands. fault-some (fault_of c.args.encoding.now text) end.result.1 c.in-Err.error
     c.in-Err.is (now.verdict_is text stands) in

@@ -4,7 +4,7 @@ use Rattle.std.proofs.lemmas.Slice.{drop-append-drop}
 use Rattle.data_encoding.specs.Pieces.{whole_bytes}
 use Rattle.encoding_stream.specs.Pieces.{kept_by, most_completed, Keeps}
 use Rattle.encoding_stream.specs.Reading.{ReadsOn}
-use Rattle.data_encoding_calls.specs.Pieces.{piece_status, StandsAfter}
+use Rattle.data_encoding_calls.specs.Pieces.{piece_status, HasConsumed}
 use Rattle.data_encoding_calls.specs.Status.{ok}
 use Rattle.data_encoding_calls.proofs.PieceLemmas.{none-stands, piece-fits, piece-long, piece-short, refuses, stands-kept}
 use Rattle.data_encoding_calls.proofs.pieces.read_by.Goals as goal
@@ -70,7 +70,7 @@ returns c =
     piece-fits base kept (length piece) room
     (omega (arith, c.if-piece-len.false, c.len.ensures.value, c.len.ensures.limit))
     (omega (arith, inside, most_is)) in
-    let now : (text : List ℕ) → StandsAfter base plain text
+    let now : (text : List ℕ) → HasConsumed base plain text
     → Keeps base c.kept.result (text ++ piece) =
     λ text stands. subst (λ k. Keeps base k (text ++ piece)) (sym c.kept.ensures.value)
     (reads.keeps text (stands-kept base plain kept text told stands).1) in

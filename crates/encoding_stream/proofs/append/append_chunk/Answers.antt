@@ -3,8 +3,8 @@ use Rattle.encoding_stream.specs.Pieces.{base_of_pieces}
 use Rattle.encoding_stream.proofs.ReadPieceLemmas.{most-grows}
 use Rattle.encoding_stream.proofs.append.append_chunk.Goals as goal
 
-pub append_within-requires-clause-room : goal.append_within-requires-clause-room
-append_within-requires-clause-room g c =
+pub append_in_place-requires-clause-room : goal.append_in_place-requires-clause-room
+append_in_place-requires-clause-room g c =
     let pieces = c.args.pieces.now in
     let chunk = length c.args.chunk.now in
     omega (
@@ -19,7 +19,7 @@ append_within-requires-clause-room g c =
 
 pub returns-then-most-capacity-clause-grows : goal.returns-then-most-capacity-clause-grows
 returns-then-most-capacity-clause-grows g c =
-    inr (λ _. c.append_within.ensures.rest c.args.rest
+    inr (λ _. c.append_in_place.ensures.rest c.args.rest
     (omega (
       arith,
       c.most.ensures.value,

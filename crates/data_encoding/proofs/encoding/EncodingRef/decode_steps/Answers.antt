@@ -4,7 +4,7 @@ use Rattle.data_encoding.proofs.encoding.EncodingRef.decode_steps.Goals as goal
 
 pub loop-at-init : goal.loop-at-init
 loop-at-init g c =
-    let at = c.reached_at-at.ensures in
+    let at = c.progress_at-at.ensures in
     record {
       so_far = rw (at.read, at.written) c.requires.so_far;
       front = rw at.read (at.front c.args.self.now c.requires.reads.holds);
@@ -12,7 +12,7 @@ loop-at-init g c =
 
 pub loop-at-preserved : goal.loop-at-preserved
 loop-at-preserved g c =
-    let at = c.reached_at-at-in-More.ensures in
+    let at = c.progress_at-at-in-More.ensures in
     record {
       so_far = rw (at.read, at.written) c.in-More.ensures.1;
       front = rw at.read (at.front c.args.self.now c.requires.reads.holds);

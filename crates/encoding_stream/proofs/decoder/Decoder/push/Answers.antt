@@ -1,6 +1,6 @@
 use Rattle.std.proofs.Common.{ℕ, List, ◌++◌, sym, subst}
 use Rattle.std.proofs.lemmas.Bool.{false≢true}
-use Rattle.encoding_stream.specs.Decoder.{AppendsPushed, StandsAfter}
+use Rattle.encoding_stream.specs.Decoder.{AppendsPushed, HasConsumed}
 use Rattle.encoding_stream.specs.Pieces.{base_of_pieces, Keeps}
 use Rattle.encoding_stream.specs.Reading.{AppendsPiece}
 use Rattle.encoding_stream.specs.declared.decoder.Decoder.{Decoder}
@@ -19,7 +19,7 @@ pushed : (decoder : Decoder) (new : Kept) (piece x y : List ℕ)
     → AppendsPiece (base_of_pieces decoder.pieces) decoder.pieces.kept new piece x y
     → AppendsPushed decoder piece x y
 pushed decoder new piece x y appends =
-    let bytes = λ (text : List ℕ) (is : StandsAfter decoder text).
+    let bytes = λ (text : List ℕ) (is : HasConsumed decoder text).
     piece-appended (base_of_pieces decoder.pieces) decoder.pieces.kept new piece x y text appends is
     in
     record {

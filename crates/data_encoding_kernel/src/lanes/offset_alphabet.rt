@@ -1,0 +1,125 @@
+//! The symbols of values of six bits, as sums.
+
+ghost use Rattle.std.specs.Prelude.{◌≡◌, ◌-◌, ◌<◌, map, slice_index, IfSome, IsTrue};
+ghost use Rattle.std.specs.List.{AllByRecursion, range_with_len};
+ghost use Rattle.data_encoding_kernel.specs.OffsetAlphabet.{HoldsOffsetAlphabet, offset_symbol, first_of};
+
+use crate::lanes::decode::are_below;
+use std::simd::prelude::*;
+
+/// From this many bytes of data on, symbols of six bits are looked for as sums: the search takes as
+/// long as it saves in half as many.
+pub const LONG_DATA_LEN: usize = 192;
+
+/// Symbols of which each is its value plus a number: the last sixteen have a number each, the
+/// values before them have that of the first of these, and those below a bound another one besides.
+#[derive(Clone, Copy, Drop)]
+pub struct OffsetAlphabet {
+    /// What is added to each of the last sixteen values, modulo 256.
+    pub last: u8x16,
+
+    /// The values below this number, ..
+    pub bound: u8,
+
+    /// .. and what is added to them besides.
+    pub first: u8,
+}
+
+// The values from 0 to 63.
+#[inline(always)]
+fn each_value() -> u8x64
+    ensures { result ≡ range_with_len 0 64 }
+{
+    u8x64::from_array([
+        0, 1, 2, 3, 4, 5, 6, 7, 8, 9, 10, 11, 12, 13, 14, 15, 16, 17, 18, 19, 20, 21, 22, 23, 24,
+        25, 26, 27, 28, 29, 30, 31, 32, 33, 34, 35, 36, 37, 38, 39, 40, 41, 42, 43, 44, 45, 46, 47,
+        48, 49, 50, 51, 52, 53, 54, 55, 56, 57, 58, 59, 60, 61, 62, 63,
+    ])
+}
+
+/// Returns `false` only if the search would find no form. Three symbols tell most tables that have
+/// none, so that data does not pay for a search in vain.
+// No clause: what asks is proved for both answers.
+#[inline(always)]
+pub fn may_have_offsets(symbols: &[u8; 256]) -> bool {
+    let number = symbols[32].wrapping_sub(32);
+    number == symbols[0] || number == symbols[48].wrapping_sub(48)
+}
+
+/// Returns the symbols as sums, if the search finds such a form.
+#[inline(never)]
+pub fn offset_alphabet_of(symbols: &[u8; 256]) -> Option<OffsetAlphabet>
+    ensures { IfSome result (HoldsOffsetAlphabet symbols.now) }
+{
+    let alphabet = guess(symbols);
+    if agrees(&alphabet, symbols) {
+        Some(alphabet)
+    } else {
+        None
+    }
+}
+
+// The form that the symbols suggest: as many values as have the number of the first one are below
+// the bound.
+fn guess(symbols: &[u8; 256]) -> OffsetAlphabet {
+    let moved = u8x64::from_slice(&symbols[..64]) - each_value();
+    let numbers = moved.to_array();
+    let alike = moved.simd_eq(u8x64::splat(numbers[0])).to_bitmask();
+    OffsetAlphabet {
+        last: moved.extract::<48, 16>(),
+        bound: alike.trailing_ones() as u8,
+        first: numbers[0].wrapping_sub(numbers[48]),
+    }
+}
+
+// Whether the sum for each value is its symbol.
+#[inline(always)]
+fn agrees(alphabet: &OffsetAlphabet, symbols: &[u8; 256]) -> bool
+    ensures { IsTrue result → HoldsOffsetAlphabet symbols.now alphabet.now }
+{
+    let own = u8x64::from_slice(&symbols[..64]);
+    let found = offset_symbols_64(alphabet, each_value());
+    let same = found.simd_eq(own);
+    are_below(1, same.select(u8x64::splat(0), u8x64::splat(1)))
+}
+
+/// Returns the symbols of values, which are below 64.
+#[inline(always)]
+pub fn offset_symbols_64(alphabet: &OffsetAlphabet, values: u8x64) -> u8x64
+    requires { AllByRecursion (λ value. value < 64) values }
+    ensures { result ≡ map (offset_symbol alphabet.now) values }
+{
+    let numbers = numbers_at(alphabet.last, places_of(values));
+    values + numbers + firsts(alphabet, values)
+}
+
+// The places of values among the last sixteen; 0 for those before them.
+#[inline(always)]
+fn places_of(values: u8x64) -> u8x64
+    ensures { result ≡ map (λ value. value - 48) values }
+{
+    values.saturating_sub(u8x64::splat(48))
+}
+
+// The numbers at these places.
+#[inline(always)]
+fn numbers_at(numbers: u8x16, places: u8x64) -> u8x64
+    requires { AllByRecursion (λ place. place < 16) places }
+    ensures { result ≡ map (slice_index numbers) places }
+{
+    let repeated = numbers.swizzle::<64>([
+        0, 1, 2, 3, 4, 5, 6, 7, 8, 9, 10, 11, 12, 13, 14, 15, 0, 1, 2, 3, 4, 5, 6, 7, 8, 9, 10, 11,
+        12, 13, 14, 15, 0, 1, 2, 3, 4, 5, 6, 7, 8, 9, 10, 11, 12, 13, 14, 15, 0, 1, 2, 3, 4, 5, 6,
+        7, 8, 9, 10, 11, 12, 13, 14, 15,
+    ]);
+    repeated.swizzle_dyn_within::<16>(places)
+}
+
+// What is added to the values below the bound besides.
+#[inline(always)]
+fn firsts(alphabet: &OffsetAlphabet, values: u8x64) -> u8x64
+    ensures { result ≡ map (first_of alphabet.now) values }
+{
+    let are_first = values.simd_lt(u8x64::splat(alphabet.bound));
+    are_first.select(u8x64::splat(alphabet.first), u8x64::splat(0))
+}
