@@ -1,5 +1,6 @@
 -- The steps of a decoding.
 pub mod TrailingBitLemmas
+pub mod OutputLemmas
 pub mod StepLemmas
 pub mod BlockLemmas
 pub mod GroupTableLemmas

@@ -1,10 +1,10 @@
 -- What is packed of a text: its bytes that are not ignored.
 use Rattle.std.specs.Prelude.{◌≡◌, ℕ, ◌+◌, ◌-◌, ◌<◌, ◌≤◌, false, List, length, take, drop, slice_index}
 use Rattle.data_encoding.specs.declared.decode.blocks.Packing.{Packing}
-use Rattle.data_encoding.specs.declared.decode.steps.Progress.{Progress}
+use Rattle.data_encoding.specs.Progress.{HasExactOutput}
 use Rattle.data_encoding_meaning.specs.text.Base.{Base, meaning, is_ignored}
 use Rattle.data_encoding_meaning.specs.text.Grammar.{bytes_in, kept}
-use Rattle.data_encoding_meaning.specs.decoding.Decoding.{HasDecodedTo, IsIgnoredFront}
+use Rattle.data_encoding_meaning.specs.decoding.Decoding.{HasDecodedTo}
 
 -- These are the bytes of the prefix of this length that are not ignored.
 abbrev pub AreKept : Base → List ℕ → ℕ → List ℕ → Type 0
@@ -30,14 +30,16 @@ pub record HasPacked (base : Base) (text : List ℕ) (first packed written : ℕ
 -- The bytes of the room from the first on, up to the end, are packed and not decoded.
 pub record IsPacking (base : Base) (text room : List ℕ) (at : Packing) (output : List ℕ)
     : Type 0 where
+  pub exact : HasExactOutput base text output
   pub ordered : at.first ≤ at.end
   pub within : at.end ≤ length room
   pub packed : HasPacked base text at.start at.read at.written (drop at.first (take at.end room))
       output
 
--- A text is decoded up to a position, and no less far than up to the start; ignored bytes follow.
-pub record HasReached (base : Base) (text : List ℕ) (start : ℕ) (at : Progress) (output : List ℕ)
+-- More of what is packed is decoded, and nothing more is packed.
+pub record PacksOn (base : Base) (text room : List ℕ) (before after : Packing) (output : List ℕ)
     : Type 0 where
-  pub further : start ≤ at.read
-  pub so_far : HasDecodedTo base text at.read at.written false output
-  pub front : IsIgnoredFront base (drop at.read text) at.ignored
+  pub packing : IsPacking base text room after output
+  pub start : after.start ≡ before.start
+  pub read : after.read ≡ before.read
+  pub end : after.end ≡ before.end

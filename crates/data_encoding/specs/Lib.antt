@@ -9,6 +9,7 @@ pub mod PlainTables
 pub mod Plain
 pub mod Lent
 pub mod Steps
+pub mod Progress
 pub mod Blocks
 pub use Rattle.data_encoding_meaning.specs.text.Base
 pub use Rattle.data_encoding_meaning.specs.text.Bits

@@ -5,6 +5,8 @@ pub(crate) mod group;
 pub(crate) mod length;
 pub(crate) mod next_group;
 pub(crate) mod padded;
+pub(crate) mod progress;
+pub(crate) mod runs;
 pub(crate) mod steps;
 pub(crate) mod text;
 

@@ -28,6 +28,7 @@ use Rattle.data_encoding_meaning.proofs.lists.PartLemmas.{groups-within}
 use Rattle.data_encoding_meaning.proofs.lists.WriteLemmas.{length-rewritten_same, rewritten, take-rewritten}
 use Rattle.data_encoding_kernel.specs.Runs.{IsRun}
 use Rattle.data_encoding.specs.declared.decode.blocks.Packing.{Packing}
+use Rattle.data_encoding.proofs.decoding.OutputLemmas.{exact-same}
 use Rattle.data_encoding.specs.Blocks.{AreKept, EndsBefore, HasPacked, IsPacking}
 use Rattle.data_encoding.proofs.decoding.StepLemmas.{IsUnderWay, Sizes, after_group, after_none, room-next_group}
 
@@ -551,9 +552,11 @@ pub packing-kept : {base : Base} {text room : List ℕ} {sizes : Sizes} {at : Pa
     → (rest : List ℕ)
     → length rest ≡ length (take (length output - at.written) (drop at.written output))
     → IsPacking base text room at (rewritten at.written output rest)
-packing-kept is s rest rest_len =
+packing-kept {at} {output} is s rest rest_len =
     let p = is.packed in
+    let len = length-rewritten_same at.written output rest p.so_far.fits rest_len in
     record {
+      exact = exact-same is.exact len;
       ordered = is.ordered;
       within = is.within;
       packed = record {

@@ -14,7 +14,9 @@ use Rattle.data_encoding_meaning.specs.declared.error.GroupFault.{GroupFault}
 use Rattle.data_encoding_meaning.specs.text.Base.{Base, IsWidth, group_bytes, group_symbols, is_padded, meaning, IsGroup}
 use Rattle.data_encoding_meaning.specs.decoding.Decoding.{HasFault, HasNoLastRun, HasRoom, IsDecoded, IsDecodedGroup, IsGathered, IsLastRun, IsIgnoredFront, run_bytes, valid_front, HasDecodedTo}
 use Rattle.data_encoding_kernel.specs.Runs.{IsRun}
-use Rattle.data_encoding.specs.declared.decode.steps.Progress.{Progress}
+use Rattle.data_encoding.specs.declared.decode.progress.Progress.{Progress}
+use Rattle.data_encoding.proofs.decoding.OutputLemmas.{exact-same, goes-nowhere}
+use Rattle.data_encoding.specs.Progress.{GoesOn, HasExactOutput, HasReached}
 use Rattle.data_encoding.specs.Steps.{HasStopped}
 use Rattle.data_encoding_meaning.specs.decoding.Fault.{position_of}
 use Rattle.data_encoding_meaning.specs.text.Grammar.{Positioned, bytes_in, kept, kept_from}
@@ -51,12 +53,11 @@ pub record IsUnderWay (base : Base) (text : List ℕ) (sizes : Sizes) (read writ
 
 pub under_way : {base : Base} {text : List ℕ} {width bytes symbols read written : ℕ} {ended : Bool}
     {output : List ℕ} → IsGroup width bytes symbols → base.width ≡ width
-    → decoded_len base (length text) ≡ Ok (length output)
-    → HasDecodedTo base text read written ended output
+    → HasExactOutput base text output → HasDecodedTo base text read written ended output
     → IsUnderWay base text (record { width = width; bytes = bytes; symbols = symbols }) read written
     ended output
 under_way {base} {text} {output} g width_is exact so_far =
-    let counted = decoded_len-counted base (length text) (length output) exact in
+    let counted = decoded_len-counted base (length text) (length output) exact.len in
     record {
       width = subst IsWidth (sym width_is) g.is_width;
       symbols_is = g.has_symbols ∙ ap group_symbols (sym width_is);
@@ -422,18 +423,15 @@ some-group {group} is empty_is some =
 -- How far a run of this many bytes brings a decoding: it has whole groups, or none.
 pub record HasTurned (base : Base) (text : List ℕ) (sizes : Sizes) (at next : Progress)
     (output : List ℕ) : Type 0 where
-  pub so_far : HasDecodedTo base text next.read next.written false output
-  pub front : IsIgnoredFront base (drop next.read text) next.ignored
-  pub further : at.read ≤ next.read
+  pub on : GoesOn base text at.read next output
   pub past : at.read < next.read → at.read + at.ignored ≤ next.read
   pub whole : (next.read - at.read - at.ignored) % sizes.symbols ≡ 0
-  pub before : HasDecodedTo base text at.read at.written false output
+  pub before : HasReached base text at output
 
 -- A run of so many groups at the start of what follows ignored bytes, up to a position.
 module _ {base : Base} {text : List ℕ} {sizes : Sizes} (at : Progress) {output : List ℕ}
     (s : IsUnderWay base text sizes at.read at.written false output)
-    (front : IsIgnoredFront base (drop at.read text) at.ignored) (most : ℕ) {count : ℕ}
-    {new old : List ℕ}
+    (from : HasReached base text at output) (most : ℕ) {count : ℕ} {new old : List ℕ}
     (new_len : length new
     ≡ length (take (length output - at.written) (drop at.written output)))
     (run : IsRun base (take most (take (length text - (at.read + at.ignored))
@@ -461,13 +459,13 @@ module _ {base : Base} {text : List ℕ} {sizes : Sizes} (at : Progress) {output
         × (at.written + count * sizes.bytes ≤ length text)
     by zero is =
         let starts : at.read + at.ignored ≤ length text =
-        omega (arith, front.within, s.so_far.within, length-drop at.read text) in
+        omega (arith, from.front.within, s.so_far.within, length-drop at.read text) in
         rw is (
           omega (arith, starts, zero-mul sizes.symbols),
           omega (arith, written-few s, zero-mul sizes.bytes),
         )
     by (suc n) is =
-        let next = after_run s front new_len whole_run (omega (arith, is)) in
+        let next = after_run s from.front new_len whole_run (omega (arith, is)) in
         (next.so_far.within, written-few next)
 
   pub turned : (len : ℕ) → len ≡ count * sizes.symbols → 0 < sizes.symbols → (next : Progress)
@@ -476,8 +474,16 @@ module _ {base : Base} {text : List ℕ} {sizes : Sizes} (at : Progress) {output
       → (0 < len → IsIgnoredFront base (drop next.read text) next.ignored)
       → HasTurned base text sizes at next (rewritten at.written output new)
   turned len whole pos next none read_is written_is ignored = by count refl where
-    same : HasDecodedTo base text at.read at.written false (rewritten at.written output new)
-    same = (after_none s new new_len).so_far
+    exact : HasExactOutput base text (rewritten at.written output new)
+    exact =
+        exact-same from.exact (length-rewritten_same at.written output new s.so_far.fits new_len)
+
+    same : HasReached base text at (rewritten at.written output new)
+    same = record {
+      exact = exact;
+      so_far = (after_none s new new_len).so_far;
+      front = from.front;
+    }
 
     by : (n : ℕ) → count ≡ n
         → HasTurned base text sizes at next (rewritten at.written output new)
@@ -486,16 +492,14 @@ module _ {base : Base} {text : List ℕ} {sizes : Sizes} (at : Progress) {output
         let zero_span : at.read - at.read - at.ignored ≡ 0 = omega arith in
         subst (λ r. HasTurned base text sizes at r (rewritten at.written output new)) (sym is_at)
         (record {
-          so_far = same;
-          front = front;
-          further = omega arith;
+          on = goes-nowhere same;
           past = λ less. absurd (omega (arith, less));
           whole = rw zero_span (zero-mod sizes.symbols);
           before = same;
         })
     by (suc n) is =
         let some : 0 < len = omega (arith, whole, ap (λ n. n * sizes.symbols) is, pos) in
-        let go = after_run s front new_len whole_run (omega (arith, is)) in
+        let go = after_run s from.front new_len whole_run (omega (arith, is)) in
         let groups : len / sizes.symbols ≡ count =
         ap (λ n. n / sizes.symbols) whole ∙ mul-div_cancel count pos in
         let read_at : next.read ≡ at.read + at.ignored + count * sizes.symbols =
@@ -505,9 +509,14 @@ module _ {base : Base} {text : List ℕ} {sizes : Sizes} (at : Progress) {output
         let span : next.read - at.read - at.ignored ≡ count * sizes.symbols =
         omega (arith, read_at) in
         record {
-          so_far = rw (read_at, written_at) go.so_far;
-          front = ignored some;
-          further = omega (arith, read_at);
+          on = record {
+            reached = record {
+              exact = exact;
+              so_far = rw (read_at, written_at) go.so_far;
+              front = ignored some;
+            };
+            further = omega (arith, read_at);
+          };
           past = λ less. omega (arith, read_at);
           whole = rw span (mul-mod_left count sizes.symbols);
           before = same;

@@ -18,7 +18,7 @@ use Rattle.data_encoding.specs.Meanings.{meanings_of_table, HasEntries}
 use Rattle.data_encoding.specs.Tables.{HasTables}
 use Rattle.data_encoding_kernel.specs.Tables.{HoldsSymbols, HoldsValues, Reads, Writes}
 use Rattle.data_encoding_meaning.specs.decoding.Decoding.{HasDecodedTo, IsStop, HasRoom, IsDecoded}
-use Rattle.data_encoding.specs.Blocks.{AreKept, EndsBefore, HasPacked, HasReached, IsPacking}
+use Rattle.data_encoding.specs.Blocks.{AreKept, EndsBefore}
 use Rattle.data_encoding.specs.declared.decode.blocks.Packing.{Packing}
 use Rattle.data_encoding_meaning.proofs.decoding.ProgressLemmas.{begin}
 use Rattle.data_encoding.specs.Steps.{HasEnded, HasStepped, fault_of_stop, HasStopped}
@@ -112,47 +112,6 @@ front_told = (
   λ bytes is. is,
   λ is. false≢true (sym (is.ends (lit< tt))),
   λ is. let before = is.before in omega (arith, before),
-)
-
--- what is packed of a text of which nothing is decoded, and how far blocks bring it if they decode
--- nothing
-abbrev packed_four : Packing
-packed_four = record { start = 0; read = 5; written = 0; first = 0; end = 4 }
-
-text_packed :
-    Has base64_mime_fields (λ base.
-    HasPacked base (codes "SG" ++ 10 ∷ codes "Vs") 0 5 0 (codes "SGVs") []
-    × IsPacking base (codes "SG" ++ 10 ∷ codes "Vs") (codes "SGVs") packed_four []
-    × HasReached base (codes "SG" ++ 10 ∷ codes "Vs") 0
-    (record { read = 0; written = 0; ignored = 0 }) [])
-text_packed = (
-  packed,
-  record { ordered = lit≤ tt; within = lit≤ tt; packed = packed },
-  record {
-    further = lit≤ tt;
-    so_far = begin _ (record { some = lit< tt; few = lit≤ tt }) _ [];
-    front = record { within = lit≤ tt; none = refl };
-  },
-)
-  where
-    packed : Has base64_mime_fields (λ base.
-        HasPacked base (codes "SG" ++ 10 ∷ codes "Vs") 0 5 0 (codes "SGVs") [])
-    packed = record {
-      read = 0;
-      after = lit≤ tt;
-      few = lit≤ tt;
-      within = lit≤ tt;
-      are = refl;
-      so_far = begin _ (record { some = lit< tt; few = lit≤ tt }) _ [];
-    }
-
-packed_told :
-    Has base64_mime_fields (λ base.
-    (IsPacking base (codes "SG" ++ 10 ∷ codes "Vs") (codes "SGV") packed_four [] → ⊥)
-    × ((bytes : List ℕ) → HasPacked base (codes "SG" ++ 10 ∷ codes "Vs") 0 6 0 bytes [] → ⊥))
-packed_told = (
-  λ is. let within = is.within in omega (arith, within),
-  λ bytes is. let within = is.within in omega (arith, within),
 )
 
 text_stopped :

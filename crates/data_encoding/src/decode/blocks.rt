@@ -1,17 +1,15 @@
 //! Decoding by blocks: the bytes of a part of a text that are not ignored are packed, and decoded
 //! from there.
 
-ghost use Rattle.std.specs.Prelude.{◌≡◌, ℕ, List, false, ◌+◌, ◌-◌, ◌<◌, ◌≤◌, length, take, drop, Ok};
+ghost use Rattle.std.specs.Prelude.{◌≡◌, ℕ, List, ◌+◌, ◌-◌, ◌<◌, ◌≤◌, length, take, drop};
 ghost use Rattle.data_encoding_meaning.specs.text.Base.{Base};
 ghost use Rattle.data_encoding_meaning.specs.text.Grammar.{kept};
-ghost use Rattle.data_encoding_meaning.specs.text.Lengths.{decoded_len};
-ghost use Rattle.data_encoding_meaning.specs.decoding.Decoding.{HasDecodedTo, IsIgnoredFront};
 ghost use Rattle.data_encoding_kernel.specs.Ignore.{HoldsIgnored};
 ghost use Rattle.data_encoding_kernel.specs.Tables.{HoldsValues, Reads};
-ghost use Rattle.data_encoding.specs.Blocks.{EndsBefore, HasReached, IsPacking};
+ghost use Rattle.data_encoding.specs.Blocks.{EndsBefore, IsPacking, PacksOn};
+ghost use Rattle.data_encoding.specs.Progress.{GoesOn, HasReached};
 
-use crate::decode::DECODE_LIMIT;
-use crate::decode::steps::Progress;
+use crate::decode::progress::Progress;
 use crate::encoding::{BitOrder, EncodingRef, IGNORED};
 use data_encoding_kernel::decode::decode_run_within;
 use data_encoding_kernel::group_size::GroupSize;
@@ -56,13 +54,8 @@ impl EncodingRef<'_> {
     ) -> Progress
         requires width { self.now.width ≡ G.WIDTH }
         requires order { self.now.order ≡ O.ORDER }
-        requires limit { length input.now ≤ DECODE_LIMIT }
-        requires exact { decoded_len self.now (length input.now) ≡ Ok (length output.old) }
-        requires so_far { HasDecodedTo self.now input.now at.read at.written false output.old }
-        ensures so_far { HasDecodedTo self.now input.now result.read result.written false
-            output.new }
-        ensures front { IsIgnoredFront self.now (drop result.read input.now) result.ignored }
-        ensures further { at.read ≤ result.read }
+        requires at { HasReached self.now input.now at output.old }
+        ensures { GoesOn self.now input.now at.read result output.new }
     {
         if input.len() - at.read <= FIRST_LEN {
             let mut room = [0; FIRST_LEN + SLACK];
@@ -85,14 +78,9 @@ impl EncodingRef<'_> {
     ) -> Progress
         requires width { self.now.width ≡ G.WIDTH }
         requires order { self.now.order ≡ O.ORDER }
-        requires limit { length input.now ≤ DECODE_LIMIT }
-        requires exact { decoded_len self.now (length input.now) ≡ Ok (length output.old) }
         requires room { FIRST_LEN + SLACK ≤ length room.old }
-        requires so_far { HasDecodedTo self.now input.now at.read at.written false output.old }
-        ensures so_far { HasDecodedTo self.now input.now result.read result.written false
-            output.new }
-        ensures front { IsIgnoredFront self.now (drop result.read input.now) result.ignored }
-        ensures further { at.read ≤ result.read }
+        requires at { HasReached self.now input.now at output.old }
+        ensures { GoesOn self.now input.now at.read result output.new }
     {
         let values = &self.fields.values.entries;
         let look_up = L::of(&self.fields.values);
@@ -131,13 +119,8 @@ impl EncodingRef<'_> {
     ) -> Packing
         requires reads { Reads self.now values.now G.WIDTH O.ORDER }
         requires held { L.holds values.now look_up.now }
-        requires limit { length input.now ≤ DECODE_LIMIT }
-        requires exact { decoded_len self.now (length input.now) ≡ Ok (length output.old) }
         requires packing { IsPacking self.now input.now room.now at output.old }
-        ensures packing { IsPacking self.now input.now room.now result output.new }
-        ensures start { result.start ≡ at.start }
-        ensures read { result.read ≡ at.read }
-        ensures end { result.end ≡ at.end }
+        ensures { PacksOn self.now input.now room.now at result output.new }
     {
         let mut now = at;
         for _ in 0..at.end {
@@ -167,13 +150,8 @@ impl EncodingRef<'_> {
     ) -> Packing
         requires reads { Reads self.now values.now G.WIDTH O.ORDER }
         requires held { L.holds values.now look_up.now }
-        requires limit { length input.now ≤ DECODE_LIMIT }
-        requires exact { decoded_len self.now (length input.now) ≡ Ok (length output.old) }
         requires packing { IsPacking self.now input.now room.now at output.old }
-        ensures packing { IsPacking self.now input.now room.now result output.new }
-        ensures start { result.start ≡ at.start }
-        ensures read { result.read ≡ at.read }
-        ensures end { result.end ≡ at.end }
+        ensures { PacksOn self.now input.now room.now at result output.new }
     {
         let count = decode_run_within::<L, O, G>(
             values,
@@ -204,14 +182,9 @@ impl EncodingRef<'_> {
     ) -> Packing
         requires width { self.now.width ≡ G.WIDTH }
         requires order { self.now.order ≡ order }
-        requires limit { length input.now ≤ DECODE_LIMIT }
-        requires exact { decoded_len self.now (length input.now) ≡ Ok (length output.old) }
         requires packing { IsPacking self.now input.now room.now at output.old }
         requires whole { at.first + G.SYMBOLS ≤ at.end }
-        ensures packing { IsPacking self.now input.now room.now result output.new }
-        ensures start { result.start ≡ at.start }
-        ensures read { result.read ≡ at.read }
-        ensures end { result.end ≡ at.end }
+        ensures { PacksOn self.now input.now room.now at result output.new }
     {
         let group = &room[at.first..at.first + G::SYMBOLS];
         let count = match self.decode_group::<G>(order, group, &mut output[at.written..]) {
@@ -303,7 +276,7 @@ fn after_blocks(ignored: &IgnoredBytes, values: &[u8; 256], now: Packing, input:
     requires ordered { now.first ≤ now.end }
     ensures { (base : Base) → HoldsValues base values.now → HoldsIgnored base ignored.now
         → (room output : List ℕ) → IsPacking base input.now room now output
-        → HasReached base input.now now.start result output }
+        → GoesOn base input.now now.start result output }
 {
     let left = now.end - now.first;
     let read = span_before(ignored, values, &input[..now.read], left);

@@ -1,13 +1,12 @@
 //! The next group of a text: the bytes that are not ignored.
 
-ghost use Rattle.std.specs.Prelude.{◌≡◌, ◌<◌, ◌≤◌, length, take, IsTrue};
-ghost use Rattle.data_encoding_meaning.specs.text.Base.{Base, ignores_some};
-ghost use Rattle.data_encoding_meaning.specs.decoding.Decoding.{IsGathered};
+ghost use Rattle.std.specs.Prelude.{◌≡◌, ◌<◌, ◌≤◌, false, length, slice_index, take, IsTrue};
+ghost use Rattle.data_encoding_meaning.specs.text.Base.{Base, ignores_some, is_ignored, meaning};
+ghost use Rattle.data_encoding_meaning.specs.decoding.Decoding.{IsGathered, IsIgnoredFront};
 ghost use Rattle.data_encoding_meaning.specs.decoding.Fault.{position_of};
 ghost use Rattle.data_encoding_meaning.specs.text.Grammar.{kept};
 ghost use Rattle.data_encoding_kernel.specs.Tables.{HoldsValues};
 
-use crate::decode::steps::ignored_front;
 use crate::encoding::{EncodingRef, IGNORED};
 use data_encoding_kernel::group_size::GroupSize;
 
@@ -116,4 +115,21 @@ fn gather<G: GroupSize>(values: &[u8; 256], rest: &[u8], room: &mut [u8; 8]) -> 
         span = at + 1;
     }
     Gathered { count: most, span }
+}
+
+/// Returns how many bytes are ignored before the first that is not.
+#[inline(always)]
+pub(crate) fn ignored_front(values: &[u8; 256], rest: &[u8]) -> usize
+    ensures within { result ≤ length rest.now }
+    ensures front { (base : Base) → HoldsValues base values.now
+        → IsIgnoredFront base rest.now result }
+    ensures next { (base : Base) → HoldsValues base values.now → result < length rest.now
+        → is_ignored (meaning base (slice_index rest.now result)) ≡ false }
+{
+    for index in 0..rest.len() {
+        if values[rest[index] as usize] != IGNORED {
+            return index;
+        }
+    }
+    rest.len()
 }

@@ -1,13 +1,12 @@
 //! Padded groups one after another, as short padded texts that are joined have them.
 
-ghost use Rattle.std.specs.Prelude.{◌≡◌, ◌+◌, ◌≤◌, false, length, drop, IsTrue, Ok};
-ghost use Rattle.data_encoding_meaning.specs.decoding.Decoding.{HasDecodedTo, IsIgnoredFront};
-ghost use Rattle.data_encoding_meaning.specs.text.Lengths.{decoded_len};
+ghost use Rattle.std.specs.Prelude.{◌+◌, ◌≤◌, length, IsTrue};
 ghost use Rattle.data_encoding_kernel.specs.Tables.{Reads};
+ghost use Rattle.data_encoding.specs.Progress.{GoesOn, HasReached};
 
 use crate::decode::DECODE_LIMIT;
-use crate::decode::next_group::starts_whole;
-use crate::decode::steps::{Progress, ignored_front};
+use crate::decode::next_group::{ignored_front, starts_whole};
+use crate::decode::progress::Progress;
 use crate::encoding::{EncodingRef, PADDING};
 use data_encoding_kernel::group_size::GroupSize;
 use data_encoding_kernel::order::ConstantOrder;
@@ -25,14 +24,8 @@ impl EncodingRef<'_> {
         output: &mut [u8],
     ) -> Progress
         requires reads { Reads self.now values.now G.WIDTH O.ORDER }
-        requires limit { length input.now ≤ DECODE_LIMIT }
-        requires exact { decoded_len self.now (length input.now) ≡ Ok (length output.old) }
-        requires so_far { HasDecodedTo self.now input.now at.read at.written false output.old }
-        requires front { IsIgnoredFront self.now (drop at.read input.now) at.ignored }
-        ensures so_far { HasDecodedTo self.now input.now result.read result.written false
-            output.new }
-        ensures front { IsIgnoredFront self.now (drop result.read input.now) result.ignored }
-        ensures further { at.read ≤ result.read }
+        requires at { HasReached self.now input.now at output.old }
+        ensures { GoesOn self.now input.now at.read result output.new }
     {
         let mut at = at;
         for _ in 0..input.len() {
@@ -56,14 +49,8 @@ impl EncodingRef<'_> {
         output: &mut [u8],
     ) -> Progress
         requires reads { Reads self.now values.now G.WIDTH O.ORDER }
-        requires limit { length input.now ≤ DECODE_LIMIT }
-        requires exact { decoded_len self.now (length input.now) ≡ Ok (length output.old) }
-        requires so_far { HasDecodedTo self.now input.now at.read at.written false output.old }
-        requires front { IsIgnoredFront self.now (drop at.read input.now) at.ignored }
-        ensures so_far { HasDecodedTo self.now input.now result.read result.written false
-            output.new }
-        ensures front { IsIgnoredFront self.now (drop result.read input.now) result.ignored }
-        ensures further { at.read ≤ result.read }
+        requires at { HasReached self.now input.now at output.old }
+        ensures { GoesOn self.now input.now at.read result output.new }
     {
         if !self.fields.concatenates || !is_padded_next::<G>(values, at, input) {
             return at;

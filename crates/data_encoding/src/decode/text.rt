@@ -1,13 +1,14 @@
 //! Decoding a text: its bit order, its look-up and its width are chosen once.
 
-ghost use Rattle.std.specs.Prelude.{◌≡◌, false, ◌≤◌, length, Ok};
+ghost use Rattle.std.specs.Prelude.{◌≡◌, false};
 ghost use Rattle.data_encoding_meaning.specs.text.Base.{IsWidth};
 ghost use Rattle.data_encoding_meaning.specs.decoding.Decoding.{HasDecodedTo};
+ghost use Rattle.data_encoding.specs.Progress.{HasExactOutput};
 ghost use Rattle.data_encoding.specs.Steps.{HasEnded};
-ghost use Rattle.data_encoding_meaning.specs.text.Lengths.{decoded_len};
 
-use crate::decode::steps::{START, Step};
-use crate::decode::{DECODE_LIMIT, Stop};
+use crate::decode::Stop;
+use crate::decode::progress::START;
+use crate::decode::steps::Step;
 use crate::encoding::{BitOrder, EncodingRef};
 use data_encoding_kernel::call_by_width;
 use data_encoding_kernel::group_size::GroupSize;
@@ -21,8 +22,7 @@ impl EncodingRef<'_> {
     // `decode_mut` makes just this call, and so is small enough to be inlined.
     #[inline(never)]
     pub(crate) fn decode_by_order(&self, input: &[u8], output: &mut [u8], stop: &mut Stop) -> bool
-        requires limit { length input.now ≤ DECODE_LIMIT }
-        requires exact { decoded_len self.now (length input.now) ≡ Ok (length output.old) }
+        requires exact { HasExactOutput self.now input.now output.old }
         ensures ends { HasEnded self.now input.now output.new stop.new result }
         ensures width { IsWidth self.now.width }
     {
@@ -45,8 +45,7 @@ impl EncodingRef<'_> {
         stop: &mut Stop,
     ) -> bool
         requires order { self.now.order ≡ O.ORDER }
-        requires limit { length input.now ≤ DECODE_LIMIT }
-        requires exact { decoded_len self.now (length input.now) ≡ Ok (length output.old) }
+        requires exact { HasExactOutput self.now input.now output.old }
         ensures ends { HasEnded self.now input.now output.new stop.new result }
         ensures width { IsWidth self.now.width }
     {
@@ -65,8 +64,7 @@ impl EncodingRef<'_> {
         stop: &mut Stop,
     ) -> bool
         requires order { self.now.order ≡ O.ORDER }
-        requires limit { length input.now ≤ DECODE_LIMIT }
-        requires exact { decoded_len self.now (length input.now) ≡ Ok (length output.old) }
+        requires exact { HasExactOutput self.now input.now output.old }
         ensures ends { HasEnded self.now input.now output.new stop.new result }
         ensures width { IsWidth self.now.width }
     {
@@ -87,8 +85,7 @@ impl EncodingRef<'_> {
     ) -> bool
         requires width { self.now.width ≡ G.WIDTH }
         requires order { self.now.order ≡ O.ORDER }
-        requires limit { length input.now ≤ DECODE_LIMIT }
-        requires exact { decoded_len self.now (length input.now) ≡ Ok (length output.old) }
+        requires exact { HasExactOutput self.now input.now output.old }
         ensures { HasEnded self.now input.now output.new stop.new result }
     {
         if self.fields.ignores {
@@ -121,8 +118,7 @@ impl EncodingRef<'_> {
     ) -> bool
         requires width { self.now.width ≡ G.WIDTH }
         requires order { self.now.order ≡ O.ORDER }
-        requires limit { length input.now ≤ DECODE_LIMIT }
-        requires exact { decoded_len self.now (length input.now) ≡ Ok (length output.old) }
+        requires exact { HasExactOutput self.now input.now output.old }
         ensures { HasEnded self.now input.now output.new stop.new result }
     {
         if input.len() >= 48 * G::BYTES {
@@ -153,8 +149,7 @@ impl EncodingRef<'_> {
     ) -> bool
         requires width { self.now.width ≡ G.WIDTH }
         requires order { self.now.order ≡ O.ORDER }
-        requires limit { length input.now ≤ DECODE_LIMIT }
-        requires exact { decoded_len self.now (length input.now) ≡ Ok (length output.old) }
+        requires exact { HasExactOutput self.now input.now output.old }
         requires so_far { HasDecodedTo self.now input.now stop.old.read stop.old.written false
             output.old }
         ensures { HasEnded self.now input.now output.new stop.new result }

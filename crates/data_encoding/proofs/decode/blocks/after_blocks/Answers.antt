@@ -10,9 +10,12 @@ returns-then-left-eq0 c base holds held room output at =
     (omega (arith, packed-many at.packed, len))))
     c.span_before-read.ensures.within in
     record {
+      reached = record {
+        exact = at.exact;
+        so_far = rw (← same) at.packed.so_far;
+        front = rw (← same) (packed-ignored at.packed (omega (arith, len, c.if-left-eq0.true)));
+      };
       further = omega (arith, same, at.packed.after);
-      so_far = rw (← same) at.packed.so_far;
-      front = rw (← same) (packed-ignored at.packed (omega (arith, len, c.if-left-eq0.true)));
     }
 
 pub returns-else-left-eq0 : goal.returns-else-left-eq0
@@ -23,7 +26,10 @@ returns-else-left-eq0 c base holds held room output at =
     (omega (arith, packed-many at.packed, len))))
     c.span_before-read.ensures.within in
     record {
+      reached = record {
+        exact = at.exact;
+        so_far = rw (← same) at.packed.so_far;
+        front = record { within = omega arith; none = refl };
+      };
       further = omega (arith, same, at.packed.after);
-      so_far = rw (← same) at.packed.so_far;
-      front = record { within = omega arith; none = refl };
     }

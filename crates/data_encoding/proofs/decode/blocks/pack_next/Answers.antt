@@ -27,6 +27,7 @@ returns-clause-packing c base holds output at =
     length-take-le c.args.span (drop c.args.at.read c.args.input.now)
     (omega (arith, length-drop c.args.at.read c.args.input.now, c.requires.within)) in
     record {
+      exact = at.exact;
       ordered = omega arith;
       within = omega (
         arith,

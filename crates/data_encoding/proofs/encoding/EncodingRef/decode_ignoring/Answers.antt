@@ -1,4 +1,4 @@
-use Rattle.std.proofs.Common.{◌∙◌, Ok, sym, ap, subst, arith}
+use Rattle.std.proofs.Common.{sym, subst, arith}
 use Rattle.data_encoding_meaning.specs.text.Base.{IsWidth}
 use Rattle.data_encoding_meaning.proofs.decoding.IgnoredFrontLemmas.{no_front}
 use Rattle.data_encoding_meaning.proofs.decoding.ProgressLemmas.{begin}
@@ -17,24 +17,19 @@ decode_runs_one_by_one-at-requires-clause-reads g c =
     Reads-seen _ c.self.invariant c.args.self.now c.self.view_is g.G.GroupSize.WIDTH
     g.O.ConstantOrder.ORDER c.requires.width c.requires.order
 
-pub decode_runs_one_by_one-at-requires-clause-so_far :
-    goal.decode_runs_one_by_one-at-requires-clause-so_far
-decode_runs_one_by_one-at-requires-clause-so_far g c =
-    begin c.args.self.now (subst IsWidth (sym c.requires.width) g.G.GroupSize.is_group.is_width)
-    c.args.input.now c.args.output.now
-
-pub decode_runs_one_by_one-at-requires-clause-front :
-    goal.decode_runs_one_by_one-at-requires-clause-front
-decode_runs_one_by_one-at-requires-clause-front g c =
-    no_front c.args.self.now c.args.input.now
+pub decode_runs_one_by_one-at-requires-clause-at : goal.decode_runs_one_by_one-at-requires-clause-at
+decode_runs_one_by_one-at-requires-clause-at g c = record {
+  exact = c.requires.exact;
+  so_far = begin c.args.self.now (subst IsWidth (sym c.requires.width)
+      g.G.GroupSize.is_group.is_width) c.args.input.now c.args.output.now;
+  front = no_front c.args.self.now c.args.input.now;
+}
 
 pub returns-then-at-input : goal.returns-then-at-input
 returns-then-at-input g c =
-    let reached = c.decode_runs_one_by_one-at.ensures in
-    let len = c.decode_runs_one_by_one-at.auto.output in
-    decoded-after (under_way g.G.GroupSize.is_group c.requires.width
-    (c.requires.exact ∙ ap Ok (sym len)) reached.so_far) reached.front
-    (omega (arith, c.if-at-input.true))
+    let reached = c.decode_runs_one_by_one-at.ensures.reached in
+    decoded-after (under_way g.G.GroupSize.is_group c.requires.width reached.exact reached.so_far)
+    reached.front (omega (arith, c.if-at-input.true))
 
 pub decode_rest-requires-clause-so_far : goal.decode_rest-requires-clause-so_far
 decode_rest-requires-clause-so_far g c =

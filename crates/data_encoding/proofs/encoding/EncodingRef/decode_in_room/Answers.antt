@@ -1,6 +1,7 @@
 use Rattle.std.proofs.Common.{◌≡◌, ◌∙◌, arith}
 use Rattle.data_encoding_meaning.proofs.digits.SizeLemmas.{IsSmall-group}
-use Rattle.data_encoding.specs.Blocks.{HasReached, IsPacking}
+use Rattle.data_encoding.specs.Blocks.{IsPacking}
+use Rattle.data_encoding.specs.Progress.{GoesOn}
 use Rattle.data_encoding.proofs.decoding.BlockLemmas.{packed-nothing}
 use Rattle.data_encoding.proofs.tables.TableLemmas.{Reads-seen, ascii-seen}
 use Rattle.data_encoding.proofs.encoding.EncodingRef.decode_in_room.Given.{Over}
@@ -10,9 +11,10 @@ use Rattle.data_encoding.proofs.encoding.EncodingRef.decode_in_room.Goals.{After
 pub loop-init : goal.loop-init
 loop-init g c = record {
   packing = record {
+    exact = c.requires.at.exact;
     ordered = omega arith;
     within = omega arith;
-    packed = packed-nothing c.requires.so_far;
+    packed = packed-nothing c.requires.at.so_far;
   };
   start = λ _. c.args.at.read;
   few = omega arith;
@@ -56,7 +58,7 @@ loop-preserved g c =
 
 -- where the blocks ended
 reached : (g : Over) (c : After-after_blocks g)
-    → HasReached c.args.self.now c.args.input.now c.args.at.read c.after_blocks.result
+    → GoesOn c.args.self.now c.args.input.now c.args.at.read c.after_blocks.result
     c.loop-test.output
 reached g c =
     let reads = Reads-seen _ c.self.invariant c.args.self.now c.self.view_is g.G.GroupSize.WIDTH
@@ -80,11 +82,5 @@ reached g c =
     rw start at (c.after_blocks.ensures c.args.self.now reads.holds held c.loop-test.room
     c.loop-test.output packing)
 
-pub returns-clause-so_far : goal.returns-clause-so_far
-returns-clause-so_far g c = (reached g c).so_far
-
-pub returns-clause-front : goal.returns-clause-front
-returns-clause-front g c = (reached g c).front
-
-pub returns-clause-further : goal.returns-clause-further
-returns-clause-further g c = (reached g c).further
+pub returns : goal.returns
+returns g c = reached g (goal.at.returns g c).After-after_blocks

@@ -15,8 +15,8 @@ pub returns : goal.returns
 returns g c = c.decode_runs_by_turns.ensures
 
 pub overflow_sub-input : goal.overflow_sub-input
-overflow_sub-input g c = c.requires.so_far.within
+overflow_sub-input g c = c.requires.at.so_far.within
 
 pub overflow_sub-input-else-not-has_lanes : goal.overflow_sub-input-else-not-has_lanes
 overflow_sub-input-else-not-has_lanes g c =
-    omega (arith, length-drop {A = ℕ}, c.requires.front.within)
+    omega (arith, length-drop {A = ℕ}, c.requires.at.front.within)

@@ -1,7 +1,8 @@
 use Rattle.std.proofs.Common.{◌≡◌, ℕ, ◌+◌, ◌*◌, ◌/◌, ◌∙◌, ◌&&◌, Bool, not, nat_lt, length, inl, inr, refl, sym, ap, arith, length-drop, Ok}
 use Rattle.data_encoding_meaning.proofs.decoding.GroupJudgementLemmas.{few-bits}
 use Rattle.data_encoding.proofs.decoding.StepLemmas.{IsUnderWay, after_group, decoded-after, decoded-none, final-is, final-not, gathered-next, group-stopped, room-next_group, some-group, under_way, written-few}
-use Rattle.data_encoding_meaning.specs.text.Lengths.{decoded_len}
+use Rattle.data_encoding.specs.Progress.{HasExactOutput}
+use Rattle.data_encoding.proofs.decoding.OutputLemmas.{exact-same}
 use Rattle.data_encoding_meaning.proofs.decoding.GatherLemmas.{gathered-few}
 use Rattle.data_encoding_meaning.proofs.digits.SizeLemmas.{IsGroup-same}
 use Rattle.data_encoding_meaning.proofs.lists.WriteLemmas.{length-rewritten_same, rewritten}
@@ -11,21 +12,21 @@ use Rattle.data_encoding.proofs.encoding.EncodingRef.decode_next.Goals.{After-WI
 
 pub returns-then-start-input : goal.returns-then-start-input
 returns-then-start-input g c =
-    decoded-after (under_way g.G.GroupSize.is_group c.requires.width c.requires.exact
-    c.requires.so_far) c.requires.front (omega arith)
+    decoded-after (under_way g.G.GroupSize.is_group c.requires.width c.requires.at.exact
+    c.requires.at.so_far) c.requires.at.front (omega arith)
 
 pub returns-then-is_empty : goal.returns-then-is_empty
 returns-then-is_empty g c =
-    decoded-none (under_way g.G.GroupSize.is_group c.requires.width c.requires.exact
-    c.requires.so_far) c.requires.front c.next_group-group.ensures c.is_empty.ensures
+    decoded-none (under_way g.G.GroupSize.is_group c.requires.width c.requires.at.exact
+    c.requires.at.so_far) c.requires.at.front c.next_group-group.ensures c.is_empty.ensures
     c.if-is_empty.true
 
 pub decode_group-requires-clause-room : goal.decode_group-requires-clause-room
 decode_group-requires-clause-room g c =
-    let now = under_way g.G.GroupSize.is_group c.requires.width c.requires.exact
-    c.requires.so_far in
+    let now = under_way g.G.GroupSize.is_group c.requires.width c.requires.at.exact
+    c.requires.at.so_far in
     let some = some-group c.next_group-group.ensures c.is_empty.ensures c.if-is_empty.false in
-    room-next_group now (gathered-next now c.requires.front c.next_group-group.ensures some)
+    room-next_group now (gathered-next now c.requires.at.front c.next_group-group.ensures some)
 
 pub overflow_mul-stop : goal.overflow_mul-stop
 overflow_mul-stop g c =
@@ -48,17 +49,17 @@ after : (g : Over) (c : After-WIDTH g) {final : Bool}
     (rewritten c.args.at.written c.args.output.now c.decode_group.new.output)
 after g c =
     let group = IsGroup-same c.WIDTH.ensures refl refl g.G.GroupSize.is_group in
-    let now = under_way group (c.requires.width ∙ sym c.WIDTH.ensures) c.requires.exact
-    c.requires.so_far in
+    let now = under_way group (c.requires.width ∙ sym c.WIDTH.ensures) c.requires.at.exact
+    c.requires.at.so_far in
     let some = some-group c.next_group-group.ensures c.is_empty.ensures c.if-is_empty.false in
-    after_group now (gathered-next now c.requires.front c.next_group-group.ensures some) some
+    after_group now (gathered-next now c.requires.at.front c.next_group-group.ensures some) some
     c.decode_group.auto.output c.in-Ok.ensures.sound
     (c.args.at.read + c.args.at.ignored + c.next_group-group.result.span) (omega arith)
 
 pub overflow_add-stop-2 : goal.overflow_add-stop-2
 overflow_add-stop-2 g c =
     let few = written-few (after g (goal.at.overflow_add-stop-2 g c).After-WIDTH refl) in
-    record { fits = omega (arith, few, c.requires.limit) }
+    record { fits = omega (arith, few, c.requires.at.exact.limit) }
 
 pub is_end-requires-clause-within : goal.is_end-requires-clause-within
 is_end-requires-clause-within g c =
@@ -66,11 +67,11 @@ is_end-requires-clause-within g c =
     (final-is _ _ c.self.view_is c.if-not-self.true c.if-count-group.true)).so_far.within
 
 -- the room is that of the output
-exact : (g : Over) (c : After-WIDTH g) → decoded_len c.args.self.now (length c.args.input.now)
-    ≡ Ok (length (rewritten c.args.at.written c.args.output.now c.decode_group.new.output))
+exact : (g : Over) (c : After-WIDTH g) → HasExactOutput c.args.self.now c.args.input.now
+    (rewritten c.args.at.written c.args.output.now c.decode_group.new.output)
 exact g c =
-    c.requires.exact ∙ ap (λ n. Ok n) (sym (length-rewritten_same c.args.at.written
-    c.args.output.now c.decode_group.new.output c.requires.so_far.fits c.decode_group.auto.output))
+    exact-same c.requires.at.exact (length-rewritten_same c.args.at.written c.args.output.now
+    c.decode_group.new.output c.requires.at.so_far.fits c.decode_group.auto.output)
 
 pub returns-then-is_end : goal.returns-then-is_end
 returns-then-is_end g c =
@@ -97,22 +98,22 @@ returns g c =
 
 pub returns-in-Err : goal.returns-in-Err
 returns-in-Err g c =
-    let now = under_way g.G.GroupSize.is_group c.requires.width c.requires.exact
-    c.requires.so_far in
+    let now = under_way g.G.GroupSize.is_group c.requires.width c.requires.at.exact
+    c.requires.at.so_far in
     let some = some-group c.next_group-group.ensures c.is_empty.ensures c.if-is_empty.false in
     rw c.new.ensures (group-stopped now
-    (gathered-next now c.requires.front c.next_group-group.ensures some) c.in-Err.ensures.fault _
+    (gathered-next now c.requires.at.front c.next_group-group.ensures some) c.in-Err.ensures.fault _
     c.decode_group.auto.output)
 
 pub overflow_add-start : goal.overflow_add-start
 overflow_add-start g c =
-    record { fits = omega (arith, length-drop {A = ℕ}, c.requires.front.within, c.requires.limit) }
+    record { fits = omega (arith, length-drop {A = ℕ}, c.requires.at.front.within, c.requires.at.exact.limit) }
 
 pub slice_bounds-next_group-count : goal.slice_bounds-next_group-count
-slice_bounds-next_group-count g c = omega (arith, length-drop {A = ℕ}, c.requires.front.within)
+slice_bounds-next_group-count g c = omega (arith, length-drop {A = ℕ}, c.requires.at.front.within)
 
 pub slice_bounds-rest-count : goal.slice_bounds-rest-count
-slice_bounds-rest-count g c = c.requires.so_far.fits
+slice_bounds-rest-count g c = c.requires.at.so_far.fits
 
 pub overflow_add-stop : goal.overflow_add-stop
 overflow_add-stop g c =

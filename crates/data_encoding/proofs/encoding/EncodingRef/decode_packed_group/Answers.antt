@@ -3,7 +3,9 @@ use Rattle.std.proofs.lemmas.List.{drop-drop}
 use Rattle.data_encoding_meaning.proofs.decoding.GroupJudgementLemmas.{few-bits}
 use Rattle.data_encoding_meaning.proofs.digits.SizeLemmas.{IsGroup-same}
 use Rattle.data_encoding_meaning.proofs.lists.PartLemmas.{IsWhole-same}
+use Rattle.data_encoding_meaning.proofs.lists.WriteLemmas.{length-rewritten_same}
 use Rattle.data_encoding_meaning.specs.decoding.Decoding.{IsDecodedGroup}
+use Rattle.data_encoding.proofs.decoding.OutputLemmas.{exact-same}
 use Rattle.data_encoding.proofs.decoding.StepLemmas.{final-not, under_way, written-few}
 use Rattle.data_encoding.proofs.decoding.BlockLemmas.{packed-group, packed-group_room, packing-group, packing-kept, packing-len}
 use Rattle.data_encoding.proofs.encoding.EncodingRef.decode_packed_group.Given.{Over}
@@ -44,18 +46,26 @@ decode_group-requires-clause-room g c whole =
     let p = c.requires.packing.packed in
     rw (first g before)
     (packed-group_room p
-    (under_way g.G.GroupSize.is_group c.requires.width c.requires.exact p.so_far)
+    (under_way g.G.GroupSize.is_group c.requires.width c.requires.packing.exact p.so_far)
     (enough g before))
 
-pub returns-in-Err-clause-packing : goal.returns-in-Err-clause-packing
-returns-in-Err-clause-packing g c =
-    packing-kept c.requires.packing (under_way g.G.GroupSize.is_group c.requires.width
-    c.requires.exact c.requires.packing.packed.so_far) _ c.decode_group.auto.output
+pub returns-in-Err : goal.returns-in-Err
+returns-in-Err g c = record {
+  packing = packing-kept c.requires.packing (under_way g.G.GroupSize.is_group c.requires.width
+      c.requires.packing.exact c.requires.packing.packed.so_far) _ c.decode_group.auto.output;
+  start = refl;
+  read = refl;
+  end = refl;
+}
 
-pub returns-then-not-self-clause-packing : goal.returns-then-not-self-clause-packing
-returns-then-not-self-clause-packing g c =
-    packing-kept c.requires.packing (under_way g.G.GroupSize.is_group c.requires.width
-    c.requires.exact c.requires.packing.packed.so_far) _ c.decode_group.auto.output
+pub returns-then-not-self : goal.returns-then-not-self
+returns-then-not-self g c = record {
+  packing = packing-kept c.requires.packing (under_way g.G.GroupSize.is_group c.requires.width
+      c.requires.packing.exact c.requires.packing.packed.so_far) _ c.decode_group.auto.output;
+  start = refl;
+  read = refl;
+  end = refl;
+}
 
 pub overflow_mul-result : goal.overflow_mul-result
 overflow_mul-result g c =
@@ -67,14 +77,14 @@ overflow_mul-result g c =
     )) in
     record { fits = omega (arith, few) }
 
-pub returns-clause-packing : goal.returns-clause-packing
-returns-clause-packing g c =
-    let before = (goal.at.returns-clause-packing g c).After-SYMBOLS in
+pub returns : goal.returns
+returns g c =
+    let before = (goal.at.returns g c).After-SYMBOLS in
     let is = c.requires.packing in
     let p = is.packed in
     let block = take c.args.at.end c.args.room.now in
     let group = IsGroup-same c.WIDTH.ensures refl refl g.G.GroupSize.is_group in
-    let s = under_way group (c.requires.width ∙ sym c.WIDTH.ensures) c.requires.exact p.so_far in
+    let s = under_way group (c.requires.width ∙ sym c.WIDTH.ensures) c.requires.packing.exact p.so_far in
     let sound = subst (λ part. IsDecodedGroup c.args.self.now part c.in-Ok.count
     c.decode_group.new.output) (first g before) c.in-Ok.ensures.sound in
     let group_len = ap length (sym (first g before)) ∙ len g before in
@@ -86,10 +96,19 @@ returns-clause-packing g c =
     ]) in
     let next = packed-group p s (enough g before) c.decode_group.auto.output sound final in
     record {
-      ordered = omega (arith, c.requires.whole, c.SYMBOLS-3.ensures);
-      within = is.within;
-      packed = rw (c.SYMBOLS-3.ensures, ← (drop-drop g.G.GroupSize.SYMBOLS c.args.at.first block))
-          next;
+      packing = record {
+        exact = exact-same is.exact (length-rewritten_same c.args.at.written c.args.output.now
+            c.decode_group.new.output p.so_far.fits c.decode_group.auto.output);
+        ordered = omega (arith, c.requires.whole, c.SYMBOLS-3.ensures);
+        within = is.within;
+        packed = rw (
+            c.SYMBOLS-3.ensures,
+            ← (drop-drop g.G.GroupSize.SYMBOLS c.args.at.first block),
+        ) next;
+      };
+      start = refl;
+      read = refl;
+      end = refl;
     }
 
 pub decode_group-requires-clause-few : goal.decode_group-requires-clause-few
@@ -101,7 +120,7 @@ overflow_add-group g c = record { fits = omega (arith, c.SYMBOLS.ensures, c.requ
 
 pub overflow_add-result : goal.overflow_add-result
 overflow_add-result g c =
-    let s = under_way g.G.GroupSize.is_group c.requires.width c.requires.exact
+    let s = under_way g.G.GroupSize.is_group c.requires.width c.requires.packing.exact
     c.requires.packing.packed.so_far in
     let few = few-bits g.G.GroupSize.is_group c.WIDTH.ensures c.in-Ok.count
     (omega (
@@ -109,7 +128,7 @@ overflow_add-result g c =
       len g (goal.at.overflow_add-result g c).After-SYMBOLS,
       c.in-Ok.ensures.sound.within,
     )) in
-    record { fits = omega (arith, few, written-few s, c.requires.limit) }
+    record { fits = omega (arith, few, written-few s, c.requires.packing.exact.limit) }
 
 pub overflow_add-result-2 : goal.overflow_add-result-2
 overflow_add-result-2 g c = record { fits = omega (arith, c.SYMBOLS-3.ensures, c.requires.whole) }

@@ -3,8 +3,9 @@ use Rattle.std.proofs.lemmas.List.{take_rest}
 use Rattle.data_encoding_meaning.proofs.decoding.GroupJudgementLemmas.{few-bits}
 use Rattle.data_encoding_meaning.proofs.digits.SizeLemmas.{IsGroup-same}
 use Rattle.data_encoding_meaning.proofs.lists.PartLemmas.{IsWhole-same}
-use Rattle.data_encoding_meaning.proofs.lists.WriteLemmas.{rewritten}
+use Rattle.data_encoding_meaning.proofs.lists.WriteLemmas.{length-rewritten_same, rewritten}
 use Rattle.data_encoding_meaning.specs.decoding.Decoding.{IsGathered}
+use Rattle.data_encoding.proofs.decoding.OutputLemmas.{exact-same}
 use Rattle.data_encoding.proofs.decoding.StepLemmas.{IsUnderWay, after_group, final-not, gathered-next, room-next_group, under_way, written-few}
 use Rattle.data_encoding.proofs.encoding.EncodingRef.decode_padded_group.Given.{Over}
 use Rattle.data_encoding.proofs.encoding.EncodingRef.decode_padded_group.Goals as goal
@@ -59,9 +60,9 @@ after : (g : Over) (c : After-WIDTH g)
     (rewritten c.args.at.written c.args.output.now c.decode_group.new.output)
 after g c is is_some =
     let group = IsGroup-same c.WIDTH.ensures refl refl g.G.GroupSize.is_group in
-    let now = under_way group (c.requires.reads.width_is ∙ sym c.WIDTH.ensures) c.requires.exact
-    c.requires.so_far in
-    after_group now (gathered-next now c.requires.front is is_some) is_some
+    let now = under_way group (c.requires.reads.width_is ∙ sym c.WIDTH.ensures) c.requires.at.exact
+    c.requires.at.so_far in
+    after_group now (gathered-next now c.requires.at.front is is_some) is_some
     c.decode_group.auto.output c.in-Ok.ensures.sound
     (c.args.at.read + c.args.at.ignored + c.SYMBOLS-2.result)
     (omega (arith, c.SYMBOLS-2.ensures))
@@ -74,9 +75,9 @@ decode_group-requires-clause-some g c =
 pub decode_group-requires-clause-room : goal.decode_group-requires-clause-room
 decode_group-requires-clause-room g c =
     let before = (goal.at.decode_group-requires-clause-room g c).After-SYMBOLS in
-    let now = under_way g.G.GroupSize.is_group c.requires.reads.width_is c.requires.exact
-    c.requires.so_far in
-    room-next_group now (gathered-next now c.requires.front (whole g before) (some g before))
+    let now = under_way g.G.GroupSize.is_group c.requires.reads.width_is c.requires.at.exact
+    c.requires.at.so_far in
+    room-next_group now (gathered-next now c.requires.at.front (whole g before) (some g before))
 
 pub overflow_mul-result : goal.overflow_mul-result
 overflow_mul-result g c =
@@ -90,15 +91,21 @@ overflow_add-result g c =
     let at = goal.at.overflow_add-result g c in
     let few = written-few (after g at.After-WIDTH (whole g at.After-SYMBOLS)
     (some g at.After-SYMBOLS)) in
-    record { fits = omega (arith, few, c.requires.limit) }
+    record { fits = omega (arith, few, c.requires.at.exact.limit) }
 
-pub returns-clause-so_far : goal.returns-clause-so_far
-returns-clause-so_far g c =
-    let at = goal.at.returns-clause-so_far g c in
-    (after g at.After-WIDTH (whole g at.After-SYMBOLS) (some g at.After-SYMBOLS)).so_far
-
-pub returns-clause-front : goal.returns-clause-front
-returns-clause-front g c =
-    rw (take_rest c.args.input.now
-    (c.args.at.read + c.args.at.ignored + c.SYMBOLS-2.result))
-    at (c.ignored_front.ensures.front c.args.self.now c.requires.reads.holds)
+pub returns : goal.returns
+returns g c =
+    let at = goal.at.returns g c in
+    let next = after g at.After-WIDTH (whole g at.After-SYMBOLS) (some g at.After-SYMBOLS) in
+    record {
+      reached = record {
+        exact = exact-same c.requires.at.exact (length-rewritten_same c.args.at.written
+            c.args.output.now c.decode_group.new.output c.requires.at.so_far.fits
+            c.decode_group.auto.output);
+        so_far = next.so_far;
+        front = rw (take_rest c.args.input.now
+            (c.args.at.read + c.args.at.ignored + c.SYMBOLS-2.result))
+            at (c.ignored_front.ensures.front c.args.self.now c.requires.reads.holds);
+      };
+      further = omega arith;
+    }

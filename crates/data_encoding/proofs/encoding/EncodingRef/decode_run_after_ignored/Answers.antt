@@ -1,5 +1,8 @@
 use Rattle.std.proofs.Common.{◌≡◌, ℕ, ◌+◌, ◌-◌, ◌*◌, refl, ap, arith, length-drop}
 use Rattle.std.proofs.Math.Nat.{mul-mod_left, zero-mod}
+use Rattle.data_encoding_meaning.proofs.decoding.IgnoredFrontLemmas.{no_front}
+use Rattle.data_encoding_meaning.proofs.lists.WriteLemmas.{length-rewritten_same}
+use Rattle.data_encoding.proofs.decoding.OutputLemmas.{exact-same, goes-nowhere}
 use Rattle.data_encoding.proofs.decoding.StepLemmas.{after_none, after_run, room-next_run, under_way, written-few}
 use Rattle.data_encoding_meaning.proofs.digits.SizeLemmas.{IsGroup-same}
 use Rattle.data_encoding_meaning.proofs.lists.PartLemmas.{length-rest}
@@ -7,36 +10,51 @@ use Rattle.data_encoding.proofs.encoding.EncodingRef.decode_run_after_ignored.Go
 
 pub decode_run-count-requires-clause-room : goal.decode_run-count-requires-clause-room
 decode_run-count-requires-clause-room g c =
-    room-next_run (under_way g.G.GroupSize.is_group c.requires.reads.width_is c.requires.exact
-    c.requires.so_far) c.requires.front
+    room-next_run (under_way g.G.GroupSize.is_group c.requires.reads.width_is c.requires.at.exact
+    c.requires.at.so_far) c.requires.at.front
 
 pub overflow_mul-result-2 : goal.overflow_mul-result-2
 overflow_mul-result-2 g c =
     let group = IsGroup-same refl c.BYTES.ensures c.SYMBOLS.ensures g.G.GroupSize.is_group in
-    let now = after_run (under_way group c.requires.reads.width_is c.requires.exact
-    c.requires.so_far) c.requires.front c.decode_run-count.auto.output
+    let now = after_run (under_way group c.requires.reads.width_is c.requires.at.exact
+    c.requires.at.so_far) c.requires.at.front c.decode_run-count.auto.output
     (c.decode_run-count.ensures.run c.args.self.now c.requires.reads) (omega arith) in
-    record { fits = omega (arith, written-few now, c.requires.limit) }
+    record { fits = omega (arith, written-few now, c.requires.at.exact.limit) }
 
 pub overflow_add-result-2 : goal.overflow_add-result-2
 overflow_add-result-2 g c =
     let group = IsGroup-same refl c.BYTES.ensures c.SYMBOLS.ensures g.G.GroupSize.is_group in
-    let now = after_run (under_way group c.requires.reads.width_is c.requires.exact
-    c.requires.so_far) c.requires.front c.decode_run-count.auto.output
+    let now = after_run (under_way group c.requires.reads.width_is c.requires.at.exact
+    c.requires.at.so_far) c.requires.at.front c.decode_run-count.auto.output
     (c.decode_run-count.ensures.run c.args.self.now c.requires.reads) (omega arith) in
-    record { fits = omega (arith, written-few now, c.requires.limit) }
+    record { fits = omega (arith, written-few now, c.requires.at.exact.limit) }
 
-pub returns-then-count-eq0-clause-so_far : goal.returns-then-count-eq0-clause-so_far
-returns-then-count-eq0-clause-so_far g c =
-    (after_none (under_way g.G.GroupSize.is_group c.requires.reads.width_is c.requires.exact
-    c.requires.so_far) _ c.decode_run-count.auto.output).so_far
+pub returns-then-count-eq0-clause-on : goal.returns-then-count-eq0-clause-on
+returns-then-count-eq0-clause-on g c =
+    let at = c.requires.at in
+    let now = under_way g.G.GroupSize.is_group c.requires.reads.width_is at.exact at.so_far in
+    goes-nowhere (record {
+      exact = exact-same at.exact (length-rewritten_same c.args.at.written c.args.output.now
+          c.decode_run-count.new.output at.so_far.fits c.decode_run-count.auto.output);
+      so_far = (after_none now _ c.decode_run-count.auto.output).so_far;
+      front = at.front;
+    })
 
-pub returns-clause-so_far : goal.returns-clause-so_far
-returns-clause-so_far g c =
+pub returns-clause-on : goal.returns-clause-on
+returns-clause-on g c =
+    let at = c.requires.at in
     let group = IsGroup-same refl c.BYTES.ensures c.SYMBOLS.ensures g.G.GroupSize.is_group in
-    (after_run (under_way group c.requires.reads.width_is c.requires.exact
-    c.requires.so_far) c.requires.front c.decode_run-count.auto.output
-    (c.decode_run-count.ensures.run c.args.self.now c.requires.reads) (omega arith)).so_far
+    let now = under_way group c.requires.reads.width_is at.exact at.so_far in
+    record {
+      reached = record {
+        exact = exact-same at.exact (length-rewritten_same c.args.at.written c.args.output.now
+            c.decode_run-count.new.output at.so_far.fits c.decode_run-count.auto.output);
+        so_far = (after_run now at.front c.decode_run-count.auto.output
+            (c.decode_run-count.ensures.run c.args.self.now c.requires.reads) (omega arith)).so_far;
+        front = no_front c.args.self.now _;
+      };
+      further = omega arith;
+    }
 
 pub returns-then-count-eq0-clause-whole : goal.returns-then-count-eq0-clause-whole
 returns-then-count-eq0-clause-whole g c =
@@ -73,10 +91,10 @@ overflow_add-result g c =
 
 pub overflow_add-start : goal.overflow_add-start
 overflow_add-start g c =
-    record { fits = omega (arith, length-drop {A = ℕ}, c.requires.front.within) }
+    record { fits = omega (arith, length-drop {A = ℕ}, c.requires.at.front.within) }
 
 pub slice_bounds-decode_run-count : goal.slice_bounds-decode_run-count
-slice_bounds-decode_run-count g c = omega (arith, length-drop {A = ℕ}, c.requires.front.within)
+slice_bounds-decode_run-count g c = omega (arith, length-drop {A = ℕ}, c.requires.at.front.within)
 
 pub slice_bounds-decode_run-count-2 : goal.slice_bounds-decode_run-count-2
-slice_bounds-decode_run-count-2 g c = c.requires.so_far.fits
+slice_bounds-decode_run-count-2 g c = c.requires.at.so_far.fits

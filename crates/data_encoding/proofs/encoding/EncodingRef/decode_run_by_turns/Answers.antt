@@ -27,8 +27,8 @@ first g c =
       c.requires.whole,
       ap (λ n. n / size * size) c.if-count-len.true,
     ) in
-    turned c.args.at (under_way g.G.GroupSize.is_group c.requires.reads.width_is c.requires.exact
-    c.requires.so_far) c.requires.front c.args.most
+    turned c.args.at (under_way g.G.GroupSize.is_group c.requires.reads.width_is c.requires.at.exact
+    c.requires.at.so_far) c.requires.at c.args.most
     c.decode_by_turns-count.auto.output
     (c.decode_by_turns-count.ensures.run c.args.values.now c.requires.held c.args.self.now
     c.requires.reads) c.args.len whole pos c.after_run.result c.after_run.ensures.none
@@ -50,22 +50,16 @@ second g c =
     let pos = (IsWhole-same refl refl g.G.GroupSize.is_group).some_symbols in
     let whole : count - count % c.SYMBOLS.result ≡ count / size * size =
     omega (arith, div-add-mod' count size, ap (λ n. count % n) c.SYMBOLS.ensures) in
-    turned c.args.at (under_way g.G.GroupSize.is_group c.requires.reads.width_is c.requires.exact
-    c.requires.so_far) c.requires.front c.args.most
+    turned c.args.at (under_way g.G.GroupSize.is_group c.requires.reads.width_is c.requires.at.exact
+    c.requires.at.so_far) c.requires.at c.args.most
     c.decode_by_turns-count.auto.output
     (c.decode_by_turns-count.ensures.run c.args.values.now c.requires.held c.args.self.now
     c.requires.reads) (count - count % c.SYMBOLS.result) whole pos c.after_run-2.result
     c.after_run-2.ensures.none c.after_run-2.ensures.read c.after_run-2.ensures.written
     (c.after_run-2.ensures.front c.args.self.now c.requires.reads.holds)
 
-pub returns-then-count-len-clause-so_far : goal.returns-then-count-len-clause-so_far
-returns-then-count-len-clause-so_far g c = (first g c).so_far
-
-pub returns-then-count-len-clause-front : goal.returns-then-count-len-clause-front
-returns-then-count-len-clause-front g c = (first g c).front
-
-pub returns-then-count-len-clause-further : goal.returns-then-count-len-clause-further
-returns-then-count-len-clause-further g c = (first g c).further
+pub returns-then-count-len-clause-on : goal.returns-then-count-len-clause-on
+returns-then-count-len-clause-on g c = (first g c).on
 
 pub returns-then-count-len-clause-past : goal.returns-then-count-len-clause-past
 returns-then-count-len-clause-past g c = (first g c).past
@@ -79,14 +73,8 @@ returns-then-count-len-clause-before g c = (first g c).before
 pub nonzero_rem-count : goal.nonzero_rem-count
 nonzero_rem-count g c = (IsWhole-same refl c.SYMBOLS.ensures g.G.GroupSize.is_group).some_symbols
 
-pub returns-clause-so_far : goal.returns-clause-so_far
-returns-clause-so_far g c = (second g c).so_far
-
-pub returns-clause-front : goal.returns-clause-front
-returns-clause-front g c = (second g c).front
-
-pub returns-clause-further : goal.returns-clause-further
-returns-clause-further g c = (second g c).further
+pub returns-clause-on : goal.returns-clause-on
+returns-clause-on g c = (second g c).on
 
 pub returns-clause-past : goal.returns-clause-past
 returns-clause-past g c = (second g c).past
@@ -101,12 +89,12 @@ pub after_run-requires-clause-written : goal.after_run-requires-clause-written
 after_run-requires-clause-written g c =
     let size = g.G.GroupSize.SYMBOLS in
     let fits = turned-fits c.args.at (under_way g.G.GroupSize.is_group c.requires.reads.width_is
-    c.requires.exact c.requires.so_far) c.requires.front c.args.most
+    c.requires.at.exact c.requires.at.so_far) c.requires.at c.args.most
     c.decode_by_turns-count.auto.output
     (c.decode_by_turns-count.ensures.run c.args.values.now c.requires.held c.args.self.now
     c.requires.reads) in
     let same = ap (λ n. n / size * g.G.GroupSize.BYTES) c.if-count-len.true in
-    omega (arith, fits.1, same, c.requires.limit)
+    omega (arith, fits.1, same, c.requires.at.exact.limit)
 
 pub after_run-requires-2-clause-written : goal.after_run-requires-2-clause-written
 after_run-requires-2-clause-written g c =
@@ -114,7 +102,7 @@ after_run-requires-2-clause-written g c =
     let count = c.decode_by_turns-count.result in
     let pos = (IsWhole-same refl refl g.G.GroupSize.is_group).some_symbols in
     let fits = turned-fits c.args.at (under_way g.G.GroupSize.is_group c.requires.reads.width_is
-    c.requires.exact c.requires.so_far) c.requires.front c.args.most
+    c.requires.at.exact c.requires.at.so_far) c.requires.at c.args.most
     c.decode_by_turns-count.auto.output
     (c.decode_by_turns-count.ensures.run c.args.values.now c.requires.held c.args.self.now
     c.requires.reads) in
@@ -123,4 +111,4 @@ after_run-requires-2-clause-written g c =
     let groups : (count - count % c.SYMBOLS.result) / size ≡ count / size =
     ap (λ n. n / size) whole ∙ mul-div_cancel (count / size) pos in
     let same = ap (λ n. n * g.G.GroupSize.BYTES) groups in
-    omega (arith, fits.1, same, c.requires.limit)
+    omega (arith, fits.1, same, c.requires.at.exact.limit)

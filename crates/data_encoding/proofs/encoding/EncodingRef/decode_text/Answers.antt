@@ -1,6 +1,7 @@
-use Rattle.std.proofs.Common.{Ok, sym, ap, ◌∙◌, subst, arith}
+use Rattle.std.proofs.Common.{sym, ◌∙◌, subst, arith}
 use Rattle.data_encoding_meaning.specs.text.Base.{IsWidth}
 use Rattle.data_encoding_meaning.proofs.decoding.IgnoredFrontLemmas.{no_front}
+use Rattle.data_encoding.proofs.decoding.OutputLemmas.{exact-same}
 use Rattle.data_encoding.proofs.decoding.StepLemmas.{decoded-all, under_way}
 use Rattle.data_encoding_meaning.proofs.decoding.ProgressLemmas.{begin}
 use Rattle.data_encoding.proofs.tables.TableLemmas.{Reads-seen}
@@ -12,19 +13,18 @@ decode_run_after_ignored-at-requires-clause-reads g c =
     Reads-seen _ c.self.invariant c.args.self.now c.self.view_is g.G.GroupSize.WIDTH
     g.O.ConstantOrder.ORDER c.requires.width c.requires.order
 
-pub decode_run_after_ignored-at-requires-clause-so_far :
-    goal.decode_run_after_ignored-at-requires-clause-so_far
-decode_run_after_ignored-at-requires-clause-so_far g c =
-    begin c.args.self.now (subst IsWidth (sym c.requires.width) g.G.GroupSize.is_group.is_width)
-    c.args.input.now c.args.output.now
-
-pub decode_run_after_ignored-at-requires-clause-front :
-    goal.decode_run_after_ignored-at-requires-clause-front
-decode_run_after_ignored-at-requires-clause-front g c = no_front c.args.self.now c.args.input.now
+pub decode_run_after_ignored-at-requires-clause-at :
+    goal.decode_run_after_ignored-at-requires-clause-at
+decode_run_after_ignored-at-requires-clause-at g c = record {
+  exact = c.requires.exact;
+  so_far = begin c.args.self.now (subst IsWidth (sym c.requires.width)
+      g.G.GroupSize.is_group.is_width) c.args.input.now c.args.output.now;
+  front = no_front c.args.self.now c.args.input.now;
+}
 
 pub returns-in-More : goal.returns-in-More
 returns-in-More g c =
     let len = c.decode_next.auto.output ∙ c.decode_run_after_ignored-at.auto.output in
     let now = under_way g.G.GroupSize.is_group c.requires.width
-    (c.requires.exact ∙ ap Ok (sym len)) c.in-More.ensures.1 in
+    (exact-same c.requires.exact len) c.in-More.ensures.1 in
     decoded-all now (omega (arith, c.if-stop-input.true))

@@ -1,6 +1,6 @@
 use Rattle.std.proofs.Common.{◌∙◌, arith}
 use Rattle.data_encoding_kernel.proofs.decoding.GroupRunLemmas.{sixteen-symbols}
-use Rattle.data_encoding_kernel.proofs.turn.FewDecodeTurn.decode.Goals as goal
+use Rattle.data_encoding_kernel.proofs.turn.SixteenSymbolsDecodeTurn.decode.Goals as goal
 
 pub decode_sixteen-requires-clause-symbols : goal.decode_sixteen-requires-clause-symbols
 decode_sixteen-requires-clause-symbols g c =

@@ -1,5 +1,5 @@
 use Rattle.std.proofs.Common.{◌≡◌, ◌*◌, ◌/◌, arith}
-use Rattle.data_encoding.proofs.decode.steps.after_run.Goals as goal
+use Rattle.data_encoding.proofs.decode.progress.after_run.Goals as goal
 
 pub overflow_add-read : goal.overflow_add-read
 overflow_add-read g c = record { fits = omega (arith, c.requires.read, c.requires.limit) }

@@ -2,7 +2,7 @@ use Rattle.std.proofs.Common.{take, get_or, ap, ◌∙◌, arith}
 use Rattle.std.proofs.lemmas.Bool.Decides.{nat_tests}
 use Rattle.data_encoding_meaning.specs.text.Grammar.{kept}
 use Rattle.data_encoding_meaning.proofs.decoding.GatherLemmas.{next-ignored}
-use Rattle.data_encoding.proofs.decode.steps.ignored_front.Goals as goal
+use Rattle.data_encoding.proofs.decode.next_group.ignored_front.Goals as goal
 
 pub loop-index-preserved : goal.loop-index-preserved
 loop-index-preserved c base holds =

@@ -1,0 +1,25 @@
+-- How far a text is decoded.
+use Rattle.std.specs.Prelude.{◌≡◌, ℕ, ◌≤◌, false, List, length, drop, Ok}
+use Rattle.data_encoding.specs.declared.decode.progress.Progress.{Progress}
+use Rattle.data_encoding_meaning.specs.declared.limits.TheConstants.{DECODE_LIMIT}
+use Rattle.data_encoding_meaning.specs.text.Base.{Base}
+use Rattle.data_encoding_meaning.specs.text.Lengths.{decoded_len}
+use Rattle.data_encoding_meaning.specs.decoding.Decoding.{HasDecodedTo, IsIgnoredFront}
+
+-- A text that is decoded in one call, and an output of the length that the text's gives.
+pub record HasExactOutput (base : Base) (text output : List ℕ) : Type 0 where
+  pub limit : length text ≤ DECODE_LIMIT
+  pub len : decoded_len base (length text) ≡ Ok (length output)
+
+-- A text is decoded up to a position, and this many ignored bytes follow.
+pub record HasReached (base : Base) (text : List ℕ) (at : Progress) (output : List ℕ)
+    : Type 0 where
+  pub exact : HasExactOutput base text output
+  pub so_far : HasDecodedTo base text at.read at.written false output
+  pub front : IsIgnoredFront base (drop at.read text) at.ignored
+
+-- And no less far than from where it went on.
+pub record GoesOn (base : Base) (text : List ℕ) (start : ℕ) (at : Progress) (output : List ℕ)
+    : Type 0 where
+  pub reached : HasReached base text at output
+  pub further : start ≤ at.read

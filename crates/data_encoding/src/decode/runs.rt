@@ -1,0 +1,303 @@
+//! Runs of whole groups of symbols only, decoded where they stand.
+
+ghost use Rattle.std.specs.Prelude.{◌≡◌, ◌-◌, ◌+◌, ◌%◌, ◌<◌, ◌≤◌, length};
+ghost use Rattle.data_encoding_kernel.specs.Tables.{Reads};
+ghost use Rattle.data_encoding.specs.Progress.{GoesOn, HasReached};
+
+use crate::decode::DECODE_LIMIT;
+use crate::decode::next_group::ignored_front;
+use crate::decode::padded::is_padded_next;
+use crate::decode::progress::{Progress, after_run};
+use crate::encoding::{EncodingRef, IGNORED, INVALID};
+use data_encoding_kernel::decode::{decode_by_turns, decode_run};
+use data_encoding_kernel::group_size::GroupSize;
+use data_encoding_kernel::lanes::look_up::LookUp;
+use data_encoding_kernel::order::ConstantOrder;
+use data_encoding_kernel::platform::has_lanes;
+use data_encoding_kernel::words::entry_of;
+
+impl EncodingRef<'_> {
+    /// Decodes runs of whole groups of symbols only, with ignored bytes between them, where they
+    /// stand, and says whether the run that follows is short, so that blocks may take less time. If
+    /// it was short before, a block came before this run, and had its first part: then it counts as
+    /// long.
+    #[inline(always)]
+    pub(crate) fn decode_runs<L: LookUp, O: ConstantOrder, G: GroupSize>(
+        &self,
+        values: &[u8; 256],
+        look_up: &L,
+        is_short: &mut bool,
+        at: Progress,
+        input: &[u8],
+        output: &mut [u8],
+    ) -> Progress
+        requires reads { Reads self.now values.now G.WIDTH O.ORDER }
+        requires held { L.holds values.now look_up.now }
+        requires at { HasReached self.now input.now at output.old }
+        ensures { GoesOn self.now input.now at.read result output.new }
+    {
+        let packs = has_lanes() && self.fields.ignores && !*is_short;
+        *is_short = false;
+        if is_padded_next::<G>(values, at, input) {
+            return at;
+        }
+        let at = self.decode_long_runs::<L, O, G>(
+            values, look_up, packs, is_short, at, input, output,
+        );
+        if *is_short || has_lanes() && input.len() - at.read - at.ignored >= 16 * G::SYMBOLS {
+            return at;
+        }
+        let at = self.decode_runs_one_by_one::<L, O, G>(
+            values,
+            look_up,
+            input.len(),
+            at,
+            input,
+            output,
+        );
+        *is_short = packs && is_broken_next::<G>(values, at, input);
+        at
+    }
+
+    // Decodes runs by turns of eight groups, if the text has two turns or more. With `packs`, a run
+    // may be short, and then it is not decoded if what follows it may be decoded by blocks.
+    #[inline(always)]
+    fn decode_long_runs<L: LookUp, O: ConstantOrder, G: GroupSize>(
+        &self,
+        values: &[u8; 256],
+        look_up: &L,
+        packs: bool,
+        is_short: &mut bool,
+        at: Progress,
+        input: &[u8],
+        output: &mut [u8],
+    ) -> Progress
+        requires reads { Reads self.now values.now G.WIDTH O.ORDER }
+        requires held { L.holds values.now look_up.now }
+        requires at { HasReached self.now input.now at output.old }
+        ensures { GoesOn self.now input.now at.read result output.new }
+    {
+        if !has_lanes() || input.len() - at.read - at.ignored < 16 * G::SYMBOLS {
+            return at;
+        }
+        self.decode_runs_by_turns::<L, O, G>(values, look_up, packs, is_short, at, input, output)
+    }
+
+    // Not inlined, so that shorter texts do not pay for the stack that turns take.
+    #[inline(never)]
+    fn decode_runs_by_turns<L: LookUp, O: ConstantOrder, G: GroupSize>(
+        &self,
+        values: &[u8; 256],
+        look_up: &L,
+        packs: bool,
+        is_short: &mut bool,
+        at: Progress,
+        input: &[u8],
+        output: &mut [u8],
+    ) -> Progress
+        requires reads { Reads self.now values.now G.WIDTH O.ORDER }
+        requires held { L.holds values.now look_up.now }
+        requires at { HasReached self.now input.now at output.old }
+        ensures { GoesOn self.now input.now at.read result output.new }
+    {
+        let mut at = at;
+        let mut packs = packs;
+        for _ in 0..input.len() {
+            if input.len() - at.read - at.ignored < 16 * G::SYMBOLS {
+                break;
+            }
+            let most = input.len() - at.read - at.ignored;
+            let next = self.decode_run_by_turns::<L, O, G>(
+                values, look_up, 0, most, at, input, output,
+            );
+            let len = (next.read - at.read).saturating_sub(at.ignored);
+            if packs && is_short_run::<G>(values, len, next, input) {
+                *is_short = true;
+                break;
+            }
+            at = next;
+            if len == 0 || at.ignored == 0 {
+                break;
+            }
+            at = self.decode_runs_like::<L, O, G>(values, look_up, len, at, input, output);
+            if at.ignored == 0 {
+                break;
+            }
+            packs = self.fields.ignores;
+        }
+        at
+    }
+
+    // Decodes further runs of this length, as long as a byte is ignored where one would end, and
+    // one that ends before.
+    #[inline(always)]
+    fn decode_runs_like<L: LookUp, O: ConstantOrder, G: GroupSize>(
+        &self,
+        values: &[u8; 256],
+        look_up: &L,
+        len: usize,
+        at: Progress,
+        input: &[u8],
+        output: &mut [u8],
+    ) -> Progress
+        requires reads { Reads self.now values.now G.WIDTH O.ORDER }
+        requires held { L.holds values.now look_up.now }
+        requires at { HasReached self.now input.now at output.old }
+        requires whole { len % G.SYMBOLS ≡ 0 }
+        requires few { len ≤ length input.now }
+        ensures { GoesOn self.now input.now at.read result output.new }
+    {
+        let mut at = at;
+        for _ in 0..input.len() {
+            let end = at.read + at.ignored + len;
+            if end >= input.len() || entry_of(values, input[end]) != IGNORED {
+                break;
+            }
+            at = self.decode_run_by_turns::<L, O, G>(values, look_up, len, len, at, input, output);
+            if at.read != end {
+                break;
+            }
+        }
+        at
+    }
+
+    // Decodes a run by turns of eight groups, up to a length. It may have the length `len`.
+    #[inline(always)]
+    fn decode_run_by_turns<L: LookUp, O: ConstantOrder, G: GroupSize>(
+        &self,
+        values: &[u8; 256],
+        look_up: &L,
+        len: usize,
+        most: usize,
+        at: Progress,
+        input: &[u8],
+        output: &mut [u8],
+    ) -> Progress
+        requires reads { Reads self.now values.now G.WIDTH O.ORDER }
+        requires held { L.holds values.now look_up.now }
+        requires at { HasReached self.now input.now at output.old }
+        requires whole { len % G.SYMBOLS ≡ 0 }
+        requires most { at.read + at.ignored + most ≤ length input.now }
+        ensures on { GoesOn self.now input.now at.read result output.new }
+        ensures past { at.read < result.read → at.read + at.ignored ≤ result.read }
+        ensures whole { (result.read - at.read - at.ignored) % G.SYMBOLS ≡ 0 }
+        ensures before { HasReached self.now input.now at output.new }
+    {
+        let rest = &input[at.read + at.ignored..];
+        let count = decode_by_turns::<L, O, G>(look_up, rest, most, &mut output[at.written..]);
+        // The next position does not wait for the count if the run has that length.
+        if count == len {
+            return after_run::<G>(values, len, at, input);
+        }
+        after_run::<G>(values, count - count % G::SYMBOLS, at, input)
+    }
+
+    /// Decodes runs one by one, as many as this at most, as long as bytes are ignored after them.
+    /// What is ignored after the last one is not read.
+    #[inline(always)]
+    pub(crate) fn decode_runs_one_by_one<L: LookUp, O: ConstantOrder, G: GroupSize>(
+        &self,
+        values: &[u8; 256],
+        look_up: &L,
+        most: usize,
+        at: Progress,
+        input: &[u8],
+        output: &mut [u8],
+    ) -> Progress
+        requires reads { Reads self.now values.now G.WIDTH O.ORDER }
+        requires held { L.holds values.now look_up.now }
+        requires at { HasReached self.now input.now at output.old }
+        ensures { GoesOn self.now input.now at.read result output.new }
+    {
+        let mut at = at;
+        for _ in 0..most {
+            let read = at.read;
+            at = self.decode_run_after_ignored::<L, O, G>(values, look_up, at, input, output);
+            if at.read == read {
+                break;
+            }
+            at.ignored = ignored_front(values, &input[at.read..]);
+            if at.ignored == 0 || at.read + at.ignored == input.len() {
+                break;
+            }
+        }
+        at
+    }
+
+    /// Decodes a run of whole groups of symbols only, which follows ignored bytes. The ignored
+    /// bytes are read only if the run has a group.
+    #[inline(always)]
+    pub(crate) fn decode_run_after_ignored<L: LookUp, O: ConstantOrder, G: GroupSize>(
+        &self,
+        values: &[u8; 256],
+        look_up: &L,
+        at: Progress,
+        input: &[u8],
+        output: &mut [u8],
+    ) -> Progress
+        requires reads { Reads self.now values.now G.WIDTH O.ORDER }
+        requires held { L.holds values.now look_up.now }
+        requires at { HasReached self.now input.now at output.old }
+        ensures on { GoesOn self.now input.now at.read result output.new }
+        ensures past { at.read < result.read → at.read + at.ignored ≤ result.read }
+        ensures whole { (result.read - at.read - at.ignored) % G.SYMBOLS ≡ 0 }
+    {
+        let start = at.read + at.ignored;
+        let count = decode_run::<L, O, G>(
+            values,
+            look_up,
+            &input[start..],
+            &mut output[at.written..],
+        );
+        if count == 0 {
+            return at;
+        }
+        Progress {
+            read: start + count * G::SYMBOLS,
+            written: at.written + count * G::BYTES,
+            ignored: 0,
+        }
+    }
+}
+
+// Whether blocks may take less time than runs like this one, of so many symbols, after which the
+// text goes on: it has fewer than six groups, and so many bytes are left that the room of a block
+// is worth its time; or it has fewer than sixteen, and ends within a group.
+#[inline(always)]
+fn is_short_run<G: GroupSize>(values: &[u8; 256], len: usize, at: Progress, input: &[u8]) -> bool
+    requires limit { length input.now ≤ DECODE_LIMIT }
+    requires within { at.read + at.ignored ≤ length input.now }
+{
+    if len > 0 && at.ignored > 0 {
+        let left = input.len() - at.read - at.ignored;
+        return len < 6 * G::SYMBOLS && left > 12 * len;
+    }
+    len < 16 * G::SYMBOLS && is_broken_next::<G>(values, at, input)
+}
+
+// Whether bytes are ignored within the next group, and more follow than are too few for a block. If
+// one of these has no meaning, there is a fault soon, and no block is worth its time.
+#[inline(always)]
+fn is_broken_next<G: GroupSize>(values: &[u8; 256], at: Progress, input: &[u8]) -> bool
+    requires limit { length input.now ≤ DECODE_LIMIT }
+    requires within { at.read + at.ignored ≤ length input.now }
+{
+    let rest = &input[at.read + at.ignored..];
+    rest.len() > LEAST_LEN
+        && has_entry(values, IGNORED, &rest[..G::SYMBOLS])
+        && !has_entry(values, INVALID, &rest[..LEAST_LEN])
+}
+
+// Whether a byte has this entry.
+#[inline(always)]
+fn has_entry(values: &[u8; 256], entry: u8, part: &[u8]) -> bool {
+    for index in 0..part.len() {
+        if entry_of(values, part[index]) == entry {
+            return true;
+        }
+    }
+    false
+}
+
+// With fewer bytes left no block is worth its time.
+const LEAST_LEN: usize = 16;
