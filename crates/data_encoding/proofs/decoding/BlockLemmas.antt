@@ -1,5 +1,5 @@
 -- What is packed of a text, and decoded from there.
-use Rattle.std.proofs.Common.{◌≡◌, ℕ, zero, suc, ◌+◌, ◌-◌, ◌*◌, ◌/◌, ◌<◌, ◌≤◌, true, false, List, [], ◌∷◌, ◌++◌, Bool, not, nat_lt, ◌&&◌, length, take, drop, get_or, refl, sym, ap, ◌∙◌, arith, length-append, length-take-le, inl, ⊎_elim}
+use Rattle.std.proofs.Common.{◌≡◌, ℕ, zero, suc, ◌+◌, ◌-◌, ◌*◌, ◌/◌, ◌<◌, ◌≤◌, true, false, List, [], ◌∷◌, ◌++◌, Bool, not, nat_lt, ◌&&◌, length, take, drop, get_or, refl, sym, ap, ◌∙◌, arith, subst, length-append, length-take-le, inl, ⊎_elim}
 use Rattle.std.specs.Prelude.{flat_map}
 use Rattle.std.proofs.Math.Nat.{zero-mod, zero-mul, add-mod, mul-le-mul_right, mul-mod_left}
 use Rattle.std.proofs.Math.Seq.{take-add, take-suc}
@@ -7,7 +7,7 @@ use Rattle.std.proofs.lemmas.Bool.{cases_lt}
 use Rattle.std.proofs.lemmas.List.{append-nil, drop-drop, drop-take, drop_at, get_or-take, length-drop, length-map, map-append, nil_from_length, take-take, take_all, take_at, take_rest}
 use Rattle.std.proofs.lemmas.List.Concat.{flat_map-append}
 use Rattle.std.proofs.lemmas.List.Folds.{flat_map-map}
-use Rattle.data_encoding_meaning.specs.text.Base.{Base, IsWidth, group_bytes, group_symbols, is_ignored, is_symbol, meaning}
+use Rattle.data_encoding_meaning.specs.text.Base.{Base, IsGroup, IsWidth, group_bytes, group_symbols, is_ignored, is_symbol, meaning}
 use Rattle.data_encoding_meaning.specs.text.Bits.{runs}
 use Rattle.data_encoding_meaning.specs.text.Grammar.{Positioned, bytes_in, groups, kept, kept_from, kept_in, meanings_in}
 use Rattle.data_encoding_meaning.specs.decoding.Decoding.{HasDecodedTo, IsDecodedGroup, IsGathered, IsIgnoredFront, run_bytes}
@@ -29,8 +29,8 @@ use Rattle.data_encoding_meaning.proofs.lists.WriteLemmas.{length-rewritten_same
 use Rattle.data_encoding_kernel.specs.Runs.{IsRun}
 use Rattle.data_encoding.specs.declared.decode.blocks.Packing.{Packing}
 use Rattle.data_encoding.proofs.decoding.OutputLemmas.{exact-same}
-use Rattle.data_encoding.specs.Blocks.{AreKept, EndsBefore, HasPacked, IsPacking}
-use Rattle.data_encoding.proofs.decoding.StepLemmas.{IsUnderWay, Sizes, after_group, after_none, room-next_group}
+use Rattle.data_encoding.specs.Blocks.{AreKept, EndsBefore, HasPacked, IsPacking, PacksOn}
+use Rattle.data_encoding.proofs.decoding.StepLemmas.{IsUnderWay, Sizes, after_group, after_none, output-few, room-next_group, under_way}
 
 -- what is gathered from the next bytes follows what was gathered before them
 gathered-further : (base : Base) (part block new : List ℕ) (read size count more : ℕ)
@@ -595,6 +595,57 @@ packing-part room first end ordered =
     let both : first + (end - first) ≡ end = omega (arith, ordered) in
     ap (take (end - first)) (take_rest room first) ∙ sym (drop-take first (end - first) room)
     ∙ ap (λ n. drop first (take n room)) both
+
+-- what is packed after a run of so many groups, and that what it writes fits
+pub packed-on : {base : Base} {text room : List ℕ} {at : Packing} {output : List ℕ}
+    {width bytes symbols : ℕ} → IsPacking base text room at output → IsGroup width bytes symbols
+    → base.width ≡ width → (count : ℕ) {new : List ℕ}
+    → length new ≡ length (take (length output - at.written) (drop at.written output))
+    → count * symbols ≤ at.end - at.first
+    → IsRun base (take (at.end - at.first) (take (length room - at.first) (drop at.first room)))
+    count (take (length output - at.written) (drop at.written output)) new
+    → (at.written + count * bytes ≤ length text)
+    × PacksOn base text room at (record {
+      start = at.start;
+      read = at.read;
+      written = at.written + count * bytes;
+      first = at.first + count * symbols;
+      end = at.end;
+    }) (rewritten at.written output new)
+packed-on {base} {text} {room} {at} {output} {width} {bytes} {symbols} is group width_is count
+    {new} new_len enough run =
+    let p = is.packed in
+    let s = under_way group width_is is.exact p.so_far in
+    let block = take at.end room in
+    let next = packed-run p s count new_len
+    (subst (λ part. IsRun base part count
+    (take (length output - at.written) (drop at.written output)) new)
+    (packing-part room at.first at.end is.ordered) run) in
+    let same = length-rewritten_same at.written output new p.so_far.fits new_len in (
+      omega (arith, next.so_far.fits, same, output-few s),
+      record {
+        packing = record {
+          exact = exact-same is.exact same;
+          ordered = omega (arith, enough, is.ordered);
+          within = is.within;
+          packed = rw (← (drop-drop (count * symbols) at.first block)) next;
+        };
+        start = refl;
+        read = refl;
+        end = refl;
+      },
+    )
+
+-- and after more than one
+pub packs-further : {base : Base} {text room : List ℕ} {before at after : Packing}
+    {output new : List ℕ} → PacksOn base text room before at output
+    → PacksOn base text room at after new → PacksOn base text room before after new
+packs-further one other = record {
+  packing = other.packing;
+  start = other.start ∙ one.start;
+  read = other.read ∙ one.read;
+  end = other.end ∙ one.end;
+}
 
 -- and the first group of them
 pub packing-group : (room : List ℕ) (first end size : ℕ) → first + size ≤ end

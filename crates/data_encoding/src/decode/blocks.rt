@@ -1,7 +1,7 @@
 //! Decoding by blocks: the bytes of a part of a text that are not ignored are packed, and decoded
 //! from there.
 
-ghost use Rattle.std.specs.Prelude.{◌≡◌, ℕ, List, ◌+◌, ◌-◌, ◌<◌, ◌≤◌, length, take, drop};
+ghost use Rattle.std.specs.Prelude.{◌≡◌, ℕ, List, ◌+◌, ◌-◌, ◌*◌, ◌<◌, ◌≤◌, length, take, drop};
 ghost use Rattle.data_encoding_meaning.specs.text.Base.{Base};
 ghost use Rattle.data_encoding_meaning.specs.text.Grammar.{kept};
 ghost use Rattle.data_encoding_kernel.specs.Ignore.{HoldsIgnored};
@@ -9,6 +9,7 @@ ghost use Rattle.data_encoding_kernel.specs.Tables.{HoldsValues, Reads};
 ghost use Rattle.data_encoding.specs.Blocks.{EndsBefore, IsPacking, PacksOn};
 ghost use Rattle.data_encoding.specs.Progress.{GoesOn, HasReached};
 
+use crate::decode::DECODE_LIMIT;
 use crate::decode::progress::Progress;
 use crate::encoding::{BitOrder, EncodingRef, IGNORED};
 use data_encoding_kernel::decode::decode_run_within;
@@ -40,6 +41,28 @@ pub(crate) struct Packing {
     pub(crate) written: usize,
     pub(crate) first: usize,
     pub(crate) end: usize,
+}
+
+impl Packing {
+    // The same after a number of groups more.
+    #[inline(always)]
+    fn after<G: GroupSize>(&self, count: usize) -> Packing
+        requires written { self.now.written + count * G.BYTES ≤ DECODE_LIMIT }
+        requires first { self.now.first + count * G.SYMBOLS ≤ self.now.end }
+        ensures { result ≡ record {
+          start = self.now.start;
+          read = self.now.read;
+          written = self.now.written + count * G.BYTES;
+          first = self.now.first + count * G.SYMBOLS;
+          end = self.now.end;
+        } }
+    {
+        Packing {
+            written: self.written + count * G::BYTES,
+            first: self.first + count * G::SYMBOLS,
+            ..*self
+        }
+    }
 }
 
 impl EncodingRef<'_> {
@@ -124,7 +147,14 @@ impl EncodingRef<'_> {
     {
         let mut now = at;
         for _ in 0..at.end {
-            now = self.decode_packed_run::<L, O, G>(values, look_up, now, input, room, output);
+            let count = decode_run_within::<L, O, G>(
+                values,
+                look_up,
+                &room[now.first..],
+                now.end - now.first,
+                &mut output[now.written..],
+            );
+            now = now.after::<G>(count);
             if now.end - now.first < G::SYMBOLS {
                 break;
             }
@@ -135,38 +165,6 @@ impl EncodingRef<'_> {
             }
         }
         now
-    }
-
-    // Decodes the next groups of a block that are symbols only.
-    #[inline(always)]
-    fn decode_packed_run<L: LookUp, O: ConstantOrder, G: GroupSize>(
-        &self,
-        values: &[u8; 256],
-        look_up: &L,
-        at: Packing,
-        input: &[u8],
-        room: &[u8],
-        output: &mut [u8],
-    ) -> Packing
-        requires reads { Reads self.now values.now G.WIDTH O.ORDER }
-        requires held { L.holds values.now look_up.now }
-        requires packing { IsPacking self.now input.now room.now at output.old }
-        ensures { PacksOn self.now input.now room.now at result output.new }
-    {
-        let count = decode_run_within::<L, O, G>(
-            values,
-            look_up,
-            &room[at.first..],
-            at.end - at.first,
-            &mut output[at.written..],
-        );
-        Packing {
-            start: at.start,
-            read: at.read,
-            written: at.written + count * G::BYTES,
-            first: at.first + count * G::SYMBOLS,
-            end: at.end,
-        }
     }
 
     // Decodes the next group of a block, which may be padded. A group with a fault, or one that
@@ -204,8 +202,8 @@ impl EncodingRef<'_> {
     }
 }
 
-// Moves what is left of a block to the front of the room, and packs the next bytes of the text
-// behind it, as many as the span. Returns how many sixteens of them had an ignored byte, too.
+// Moves what is left of a block to the front of the room, and packs the next bytes of the text, as
+// many as the span, after it. Returns how many sixteens of them had an ignored byte, too.
 #[inline(always)]
 fn pack_next(
     ignored: &IgnoredBytes,

@@ -41,13 +41,16 @@ impl EncodingRef<'_> {
         if is_padded_next::<G>(values, at, input) {
             return at;
         }
-        let at = self.decode_long_runs::<L, O, G>(
-            values, look_up, packs, is_short, at, input, output,
-        );
-        if *is_short || has_lanes() && input.len() - at.read - at.ignored >= 16 * G::SYMBOLS {
-            return at;
+        let mut at = at;
+        if has_lanes() && input.len() - at.read - at.ignored >= 16 * G::SYMBOLS {
+            at = self.decode_runs_by_turns::<L, O, G>(
+                values, look_up, packs, is_short, at, input, output,
+            );
+            if *is_short || input.len() - at.read - at.ignored >= 16 * G::SYMBOLS {
+                return at;
+            }
         }
-        let at = self.decode_runs_one_by_one::<L, O, G>(
+        at = self.decode_runs_one_by_one::<L, O, G>(
             values,
             look_up,
             input.len(),
@@ -59,30 +62,8 @@ impl EncodingRef<'_> {
         at
     }
 
-    // Decodes runs by turns of eight groups, if the text has two turns or more. With `packs`, a run
-    // may be short, and then it is not decoded if what follows it may be decoded by blocks.
-    #[inline(always)]
-    fn decode_long_runs<L: LookUp, O: ConstantOrder, G: GroupSize>(
-        &self,
-        values: &[u8; 256],
-        look_up: &L,
-        packs: bool,
-        is_short: &mut bool,
-        at: Progress,
-        input: &[u8],
-        output: &mut [u8],
-    ) -> Progress
-        requires reads { Reads self.now values.now G.WIDTH O.ORDER }
-        requires held { L.holds values.now look_up.now }
-        requires at { HasReached self.now input.now at output.old }
-        ensures { GoesOn self.now input.now at.read result output.new }
-    {
-        if !has_lanes() || input.len() - at.read - at.ignored < 16 * G::SYMBOLS {
-            return at;
-        }
-        self.decode_runs_by_turns::<L, O, G>(values, look_up, packs, is_short, at, input, output)
-    }
-
+    // Decodes runs by turns of eight groups, while the text has two turns or more. With `packs`, a
+    // run may be short, and then it is not decoded if what follows it may be decoded by blocks.
     // Not inlined, so that shorter texts do not pay for the stack that turns take.
     #[inline(never)]
     fn decode_runs_by_turns<L: LookUp, O: ConstantOrder, G: GroupSize>(
@@ -260,9 +241,9 @@ impl EncodingRef<'_> {
     }
 }
 
-// Whether blocks may take less time than runs like this one, of so many symbols, after which the
-// text goes on: it has fewer than six groups, and so many bytes are left that the room of a block
-// is worth its time; or it has fewer than sixteen, and ends within a group.
+// Whether blocks may take less time than runs like this one, of this many symbols, after which the
+// text goes on: it has fewer than six groups, and enough bytes are left that the room of a block is
+// worth its time; or it has fewer than sixteen, and ends within a group.
 #[inline(always)]
 fn is_short_run<G: GroupSize>(values: &[u8; 256], len: usize, at: Progress, input: &[u8]) -> bool
     requires limit { length input.now ≤ DECODE_LIMIT }

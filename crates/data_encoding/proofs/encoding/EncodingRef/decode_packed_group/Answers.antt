@@ -102,8 +102,8 @@ returns g c =
         ordered = omega (arith, c.requires.whole, c.SYMBOLS-3.ensures);
         within = is.within;
         packed = rw (
-            c.SYMBOLS-3.ensures,
-            ← (drop-drop g.G.GroupSize.SYMBOLS c.args.at.first block),
+          c.SYMBOLS-3.ensures,
+          ← (drop-drop g.G.GroupSize.SYMBOLS c.args.at.first block),
         ) next;
       };
       start = refl;
