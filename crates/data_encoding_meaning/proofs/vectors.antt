@@ -5,7 +5,6 @@ pub mod Readings
 pub mod Layouts
 pub mod LayoutRules
 pub mod Meanings
-pub mod Steps
 pub mod Compared
 pub mod SameMeanings
 pub mod Named
@@ -17,5 +16,4 @@ pub mod TextLaws
 pub mod AlikeLaws
 pub mod OrderLaws
 pub mod PieceLaws
-pub mod StepsFollowed
 pub mod Followed

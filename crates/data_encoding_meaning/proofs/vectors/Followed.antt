@@ -5,12 +5,11 @@ use Rattle.std.proofs.lemmas.List.Elements.{recursion_from_All}
 use Rattle.data_encoding_meaning.specs.declared.encoding.BitOrder.TheVariants.{MostSignificantFirst}
 use Rattle.data_encoding_meaning.specs.declared.encoding.Character.{Character}
 use Rattle.data_encoding_meaning.specs.declared.encoding.Character.TheVariants.{Padding, Symbol}
-use Rattle.data_encoding_meaning.specs.text.Base.{Base, IsGroup, is_padding, meaning}
+use Rattle.data_encoding_meaning.specs.text.Base.{Base, is_padding, meaning}
 use Rattle.data_encoding_meaning.specs.text.Bits.{bits_of, bits_of_bytes}
 use Rattle.data_encoding_meaning.specs.text.EncodedPieces.{HasEncoded}
 use Rattle.data_encoding_meaning.specs.text.Grammar.{GroupMeans, GroupsMean, Means, PlainMeans}
 use Rattle.data_encoding_meaning.specs.text.Text.{text_of}
-use Rattle.data_encoding_meaning.specs.specification.Entries.{HoldsEntries}
 use Rattle.data_encoding_meaning.specs.specification.Fields.{Fields, IsSpecified, base_of}
 use Rattle.data_encoding_meaning.specs.specification.Named.{IsNamed, IsNumbered}
 use Rattle.data_encoding_meaning.specs.specification.Predefined.{base64_fields, base64_mime_fields, base64_nopad_fields, hexlower_fields, padded_fields}
@@ -153,19 +152,6 @@ named_told base = (
   λ is. ap base_of (some_same _ _ is.is_known) ∙ is.is_built,
   λ is. ap base_of (some_same _ _ is.is_known) ∙ is.is_built,
   λ is. let none = is.is_known in cc,
-)
-
--- no table has an entry of 100, or of 5 for byte 128
-no_entries : (HoldsEntries (100 ∷ replicate 255 128) → ⊥)
-    × (HoldsEntries (replicate 256 5) → ⊥)
-no_entries = (λ holds. false≢true holds.entries, λ holds. let none = holds.invalid_from_128 in cc)
-
--- a group of six bits has three bytes and four symbols, and no group has symbols of seven bits
-group_sizes : (bytes symbols : ℕ)
-    → (IsGroup 6 bytes symbols → (bytes ≡ 3) × (symbols ≡ 4)) × (IsGroup 7 bytes symbols → ⊥)
-group_sizes bytes symbols = (
-  λ group. (group.has_bytes, group.has_symbols),
-  λ group. omega (arith, group.is_width.few),
 )
 
 -- of `hello`, where `lo` is held: whole groups were encoded, and their text was appended

@@ -10,8 +10,8 @@ use Rattle.data_encoding_meaning.specs.declared.error.DecodeFault.TheVariants.{E
 use Rattle.data_encoding_meaning.specs.declared.error.DecodeKind.{DecodeKind}
 use Rattle.data_encoding_meaning.specs.declared.error.DecodeKind.TheVariants.{Length, Symbol, Trailing, Padding}
 use Rattle.data_encoding_meaning.specs.text.Base.{Base}
+use Rattle.data_encoding_meaning.specs.specification.Entries.{meaning_of_entry, is_entry_of}
 use Rattle.data_encoding_meaning.specs.specification.Fields.{base_of, Require, Define, Translate, is_same, width_of, symbol_judgements, padding_judgements, ignored_judgements, wraps, wrapping_judgements, pair_judgements, translation_judgements, judgements, base_with, base_by, IsSpecified, Judgement, given, pairs_of, pairs_after, is_contradicted, pair_refusal, translation_refusal, judgement_refusal, first_refusal, meanings_by, meanings_unless, meanings_of}
-use Rattle.data_encoding_meaning.specs.specification.MeaningTable.{defined, translated, judged, no_meanings, meanings_after}
 use Rattle.data_encoding_meaning.specs.specification.Layout.{layout, fields_of, code_of, order_flag, wrapping_bytes, own_character, own_byte, is_translated, translated_bytes, ignored_bytes, column_of, separator_of}
 use Rattle.data_encoding_meaning.specs.specification.Predefined.{unpadded_fields, padded_fields, translated_fields, hexlower_fields, hexlower_permissive_fields, hexupper_fields, hexupper_permissive_fields, base32_fields, base32_nopad_fields, base32_nopad_nocase_fields, base32_nopad_visual_fields, base32hex_fields, base32hex_nopad_fields, base32_dnssec_fields, base32_dnscurve_fields, base64_fields, base64_nopad_fields, base64_mime_fields, base64_mime_permissive_fields, base64url_fields, base64url_nopad_fields, symbols_alone, mime_fields}
 use Rattle.data_encoding_meaning.specs.decoding.Printed.{printed_fault, printed_refusal, printed_kind, printed_error}
@@ -199,14 +199,16 @@ first_pairs = (refl, refl, refl, refl, refl, refl, refl)
 
 -- a pair is refused if an earlier pair gives its byte another meaning
 pairs_refused :
-    (is_contradicted two_pairs 48 Ignored ≡ true)
+    (is_same (SymbolCharacter 1) (SymbolCharacter 1) ≡ true)
+    × (is_same (SymbolCharacter 1) Ignored ≡ false)
+    × (is_contradicted two_pairs 48 Ignored ≡ true)
     × (is_contradicted two_pairs 32 Ignored ≡ false)
     × (is_contradicted two_pairs 33 Ignored ≡ false)
     × (pair_refusal two_pairs 48 (SymbolCharacter 1) ≡ Some (Duplicate 48))
     × (pair_refusal two_pairs 48 (SymbolCharacter 0) ≡ None)
     × (pair_refusal two_pairs 33 Ignored ≡ None)
     × (pair_refusal two_pairs 128 Ignored ≡ Some NotAscii)
-pairs_refused = (refl, refl, refl, refl, refl, refl, refl)
+pairs_refused = (refl, refl, refl, refl, refl, refl, refl, refl, refl)
 
 -- an earlier pair has to give a meaning to what a byte is translated to
 translations_refused :
@@ -241,32 +243,19 @@ meanings_told :
     ≡ Err (Duplicate 48))
 meanings_told = (refl, refl)
 
--- the table says the same, judgement by judgement
-abbrev two_meanings : List Character
-two_meanings = SymbolCharacter 0 ∷ Ignored ∷ Invalid ∷ []
-
-meanings_judged :
-    (is_same (SymbolCharacter 1) (SymbolCharacter 1) ≡ true)
-    × (is_same (SymbolCharacter 1) Ignored ≡ false)
-    × (defined two_meanings 0 (SymbolCharacter 0) ≡ Ok two_meanings)
-    × (defined two_meanings 1 PaddingCharacter ≡ Err (Duplicate 1))
-    × (defined two_meanings 2 PaddingCharacter
-    ≡ Ok (SymbolCharacter 0 ∷ Ignored ∷ PaddingCharacter ∷ []))
-    × (defined two_meanings 128 Ignored ≡ Err NotAscii)
-    × (translated two_meanings 2 0 ≡ Ok (SymbolCharacter 0 ∷ Ignored ∷ SymbolCharacter 0 ∷ []))
-    × (translated two_meanings 0 2 ≡ Err (Undefined 2))
-    × (judged two_meanings (Require false FromTo) ≡ Err FromTo)
-    × (meanings_after (Ok two_meanings) (Translate 2 0 ∷ Define 2 Ignored ∷ [])
-    ≡ Err (Duplicate 2))
-    × (length no_meanings ≡ 128)
-meanings_judged = (refl, refl, refl, refl, refl, refl, refl, refl, refl, refl, refl)
-
 -- without padding texts may be concatenated, and bits that can't be left over count as checked
 bases_built :
     (by (λ base. base.checks_trailing_bits) (unchecked hexlower_fields) ≡ Some true)
     × (base_by None base64_fields ≡ Err BadSize)
     × (base_with 6 base64_fields (Err FromTo) ≡ Err FromTo)
 bases_built = (refl, refl, refl)
+
+entries_read :
+    (map meaning_of_entry (5 ∷ 128 ∷ 129 ∷ 130 ∷ [])
+    ≡ SymbolCharacter 5 ∷ Invalid ∷ Ignored ∷ PaddingCharacter ∷ [])
+    × (map (is_entry_of 16) (15 ∷ 16 ∷ 127 ∷ 128 ∷ 130 ∷ 131 ∷ [])
+    ≡ true ∷ false ∷ false ∷ true ∷ true ∷ false ∷ [])
+entries_read = (refl, refl)
 
 parts_of_layouts :
     (map code_of (SymbolCharacter 5 ∷ Invalid ∷ Ignored ∷ PaddingCharacter ∷ [])

@@ -9,8 +9,6 @@ use Rattle.data_encoding_meaning.specs.text.Base.{Base, is_padding, IsWidth, mea
 use Rattle.data_encoding_meaning.specs.decoding.Fault.{fault_of, sound_bytes}
 use Rattle.data_encoding_meaning.specs.text.Grammar.{Means, positioned_from, groups, PlainMeans, GroupMeans, GroupsMean, meanings_in}
 use Rattle.data_encoding_meaning.specs.specification.Predefined.{unpadded_fields, translated_fields, hexlower_fields, hexlower_permissive_fields, base64_fields, base64_nopad_fields, base64_mime_fields, base64_mime_permissive_fields}
-use Rattle.data_encoding_meaning.specs.decoding.Partial.{StopsAt}
-use Rattle.data_encoding_meaning.specs.text.Lengths.{IsBlockLength}
 use Rattle.data_encoding_meaning.specs.decoding.Pieces.{HasRead, HasDecoded, IsOfWholeGroup}
 use Rattle.data_encoding_meaning.specs.laws.Laws.{MayBeFollowed, Resumes}
 use Rattle.std.proofs.lemmas.List.Kept.{AllPairs-from_increasing}
@@ -23,7 +21,6 @@ use Rattle.data_encoding_meaning.proofs.grammar.UnpaddedGrammarLemmas.{unpadded-
 use Rattle.data_encoding_meaning.proofs.order.OrderPairLemmas.{IsBroken-ruled}
 use Rattle.data_encoding_meaning.proofs.order.TextOrderLemmas.{KeepsOrder-ordered}
 use Rattle.data_encoding_meaning.proofs.judgement.RuleLemmas.{IsRuled-built}
-use Rattle.data_encoding_meaning.proofs.text.BlockLemmas.{IsBlockLength-group, IsBlockLength-line}
 use Rattle.data_encoding_meaning.proofs.canonicity.ConcatenatedTextLemmas.{concatenated-second}
 use Rattle.data_encoding_meaning.proofs.canonicity.IgnoredTextLemmas.{ignored-second}
 use Rattle.data_encoding_meaning.proofs.canonicity.TrailingTextLemmas.{trailing-second}
@@ -240,20 +237,6 @@ resumed_text :
 resumed_text =
     resumed _ (IsRuled-built base64_mime_fields _ refl) _ _ _ refl refl (inl (refl, inl refl))
 
--- how far a decoding got, and what it wrote
-stopped_text :
-    Has base64_nopad_fields (λ base. StopsAt base (codes "AAAA!A") (0 ∷ 0 ∷ 0 ∷ []) (record {
-      read = 4;
-      written = 3;
-      error = record { position = 4; kind = Symbol };
-    }))
-stopped_text = record {
-  is_partial = refl;
-  means = means_sound (built base64_nopad_fields) six_bits (codes "AAAA") _ refl refl;
-  read_before = lit≤ tt;
-  within = lit< tt;
-}
-
 -- lists in order, by their first difference or as a proper prefix
 lists_in_order :
     IsBefore (codes "az") (codes "b") × IsBefore (codes "a") (codes "az")
@@ -287,15 +270,6 @@ order_broken : Has base64_fields (λ base. BreaksOrder base (204 ∷ []) (208 �
 order_broken =
     (IsBroken-ruled (built base64_fields) (IsRuled-built base64_fields _ refl) refl).descending
     refl 51 (lit< tt) (lit< tt)
-
--- a group of base64 text, and a line of 76 with its separator
-block_lengths :
-    Has base64_fields (λ base. IsBlockLength base 4)
-    × Has base64_mime_fields (λ base. IsBlockLength base 78)
-block_lengths = (
-  IsBlockLength-group _ (IsRuled-built base64_fields _ refl) refl,
-  IsBlockLength-line _ (IsRuled-built base64_mime_fields _ refl) _ refl,
-)
 
 -- what is kept of `SGVsbG` CR LF, of which `Hel` was decoded
 read_so_far :

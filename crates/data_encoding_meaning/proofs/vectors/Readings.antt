@@ -13,7 +13,7 @@ use Rattle.data_encoding_meaning.specs.text.Base.{Base, meaning}
 use Rattle.data_encoding_meaning.specs.laws.Canonical.{has_one_text}
 use Rattle.data_encoding_meaning.specs.decoding.Fault.{IsRefusal, bytes_of_group, character_fault, count_before_padding, fault_after, fault_at, fault_at_first, faulty_at, first_after, first_fault, group_fault, located, or_else, padded_fault_at, plain_fault, position_of, sound_after, sound_groups, symbol_bits, symbol_bytes, symbols_fault, trailing_bits, trailing_fault}
 use Rattle.data_encoding_meaning.specs.specification.Fields.{Fields, base_of}
-use Rattle.data_encoding_meaning.specs.text.Grammar.{Positioned, positioned_from, positioned, kept, groups, is_final, kept_from, kept_in, bytes_in, meanings_in, ends_text}
+use Rattle.data_encoding_meaning.specs.text.Grammar.{Positioned, positioned_from, positioned, kept, groups, is_final, kept_in, bytes_in, meanings_in, ends_text}
 use Rattle.data_encoding_meaning.specs.specification.Layout.{layout, fields_of}
 use Rattle.data_encoding_meaning.specs.text.Lengths.{alignment, decoded_len, greatest_valid_count, is_valid_count, is_valid_length, greatest_valid_length, length_fault, most_bytes, unless_fault, align_by}
 use Rattle.data_encoding_meaning.specs.decoding.Partial.{partial_of, position_after, position_after_first, sound_len, ignoring_nothing, is_sound_run, is_length_fault, read_len, partial_at, partial_by}
@@ -21,7 +21,7 @@ use Rattle.data_encoding_meaning.specs.decoding.Pieces.{unfinished, whole_bytes,
 use Rattle.data_encoding_meaning.specs.specification.Predefined.{translated_fields, hexlower_fields, hexlower_permissive_fields, hexupper_fields, hexupper_permissive_fields, base32_fields, base32_nopad_fields, base32_nopad_nocase_fields, base32_nopad_visual_fields, base32_dnssec_fields, base32_dnscurve_fields, base64_fields, base64_nopad_fields, base64_mime_fields, base64_mime_permissive_fields}
 use Rattle.data_encoding_meaning.specs.laws.Laws.{further}
 use Rattle.data_encoding_meaning.specs.text.Text.{text_of}
-use Rattle.data_encoding_meaning.proofs.vectors.Examples.{Hold, by, decoded, bytes, fault, octal_fields, reversed, unchecked, nopad_ignoring_lf_fields, lines_of_8_fields, single_fields}
+use Rattle.data_encoding_meaning.proofs.vectors.Examples.{Hold, built, by, decoded, bytes, fault, octal_fields, reversed, unchecked, nopad_ignoring_lf_fields, lines_of_8_fields, single_fields}
 
 -- one text that is decoded in different ways by those with the same symbols and padding
 predefined_readings :
@@ -207,6 +207,17 @@ refusals_of_texts :
     × (RefusesBy (base_of base64_mime_fields) (codes "AAA") OutOfMemory → ⊥)
 refusals_of_texts = (refl, (refl, lit< tt), λ h. let e = h.0 in cc, λ h. omega (arith, h.1))
 
+-- what a text with a fault is refused for
+refusal_told : (error : DecodeError) → IsRefusal (built hexlower_fields) (codes "4G") (Error error)
+    → record { position = 1; kind = Symbol } ≡ error
+refusal_told error is = cc
+
+-- how far a text is read, given a fault at 3: only that of a length is read up to
+read_by_kind :
+    by (λ base. map (λ kind. read_len base (codes "AAAA") (record { position = 3; kind = kind }))
+    (Symbol ∷ Length ∷ [])) base64_nopad_fields ≡ Some (4 ∷ 3 ∷ [])
+read_by_kind = refl
+
 abbrev letter_at_4 : Positioned
 letter_at_4 = record { position = 4; byte = 108 }
 
@@ -219,11 +230,9 @@ groups_of_text :
     ≡ Some (positioned_from 0 (codes "SG") ++ positioned_from 3 (codes "Vs")))
     × (by (λ base. groups base (codes "AA==AAA=")) base64_fields
     ≡ Some (positioned_from 0 (codes "AA==") ∷ positioned_from 4 (codes "AAA=") ∷ []))
-    × (by (λ base. kept_from base 2 (codes "SG" ++ 10 ∷ codes "Vs")) base64_mime_fields
-    ≡ Some (positioned_from 3 (codes "Vs")))
     × (by (λ base. kept_in base 7 (10 ∷ codes "Vs")) base64_mime_fields
     ≡ Some (positioned_from 8 (codes "Vs")))
-groups_of_text = (refl, refl, refl, refl, refl, refl)
+groups_of_text = (refl, refl, refl, refl, refl)
 
 final_groups :
     (by (λ base. is_final base (positioned (codes "AA=="))) base64_fields ≡ Some false)

@@ -1,15 +1,14 @@
 -- Worked rows of texts: bytes, bits, and what is encoded.
-use Rattle.std.proofs.Common.{◌≡◌, ℕ, ◌<◌, ◌≤◌, true, false, List, [], ◌∷◌, ◌++◌, map, codes, replicate, Some, None, refl, lit<, arith, lit≤}
+use Rattle.std.proofs.Common.{◌≡◌, ℕ, true, false, List, [], ◌∷◌, ◌++◌, map, codes, replicate, Some, None, refl, lit<, arith, lit≤}
 use Rattle.data_encoding_meaning.specs.declared.encoding.BitOrder.TheVariants.{LeastSignificantFirst, MostSignificantFirst}
 use Rattle.data_encoding_meaning.specs.declared.encoding.Character.TheVariants.{Symbol as SymbolCharacter, Padding as PaddingCharacter, Ignored, Invalid}
-use Rattle.data_encoding_meaning.specs.text.Base.{Base, is_symbol, is_ignored, is_invalid, is_padding, value_of, group_bytes, group_symbols, IsWidth, meaning, symbol, is_padded, ignores_some, Wrapping}
+use Rattle.data_encoding_meaning.specs.text.Base.{is_symbol, is_ignored, is_invalid, is_padding, value_of, group_bytes, group_symbols, IsWidth, meaning, symbol, is_padded, ignores_some, Wrapping}
 use Rattle.data_encoding_meaning.specs.specification.Fields.{Fields}
 use Rattle.data_encoding_meaning.specs.specification.Predefined.{padded_fields, hexlower_fields, hexlower_permissive_fields, hexupper_fields, hexupper_permissive_fields, base32_fields, base32_nopad_fields, base32_nopad_nocase_fields, base32_nopad_visual_fields, base32hex_fields, base32hex_nopad_fields, base32_dnssec_fields, base32_dnscurve_fields, base64_fields, base64_nopad_fields, base64_mime_fields, base64_mime_permissive_fields, base64url_fields, base64url_nopad_fields}
 use Rattle.data_encoding_meaning.specs.text.Text.{text_of, filled_with, plain_text, with_padding, padded_text, in_lines}
 use Rattle.data_encoding_meaning.specs.text.Bits.{low_bits, number_of_low_bits, bits_of, number_of, bits_of_bytes, missing, runs}
 use Rattle.data_encoding_meaning.specs.text.EncodedPieces.{HasEncoded}
-use Rattle.data_encoding_meaning.specs.text.Lengths.{IsBlockLength}
-use Rattle.data_encoding_meaning.proofs.vectors.Examples.{Hold, built, by, encoded, Has, octal_fields, reversed, lines_of_8_fields}
+use Rattle.data_encoding_meaning.proofs.vectors.Examples.{Hold, by, encoded, Has, octal_fields, reversed, lines_of_8_fields}
 
 abbrev widths : List ℕ
 widths = 1 ∷ 2 ∷ 3 ∷ 4 ∷ 5 ∷ 6 ∷ []
@@ -156,17 +155,3 @@ held_in_part = (
   },
   λ h. omega (arith, h.is_short),
 )
-
--- what the length of a block of base64 is at least, and at most; and three bytes have four
--- characters
-block_told : (len : ℕ) → IsBlockLength (built base64_fields) len
-    → (3 ≤ len) × (len ≡ 510 → ⊥) × (4 ≤ len)
-block_told len is = (
-  is.no_shorter,
-  λ many. omega (arith, is.few, many),
-  (let fits = is.fits 1 (codes "Hel") (lit≤ tt) in omega (arith, fits)),
-)
-
--- a block is never empty
-block_begun : (base : Base) (len : ℕ) → IsBlockLength base len → 0 < len
-block_begun base len is = omega (arith, is.some, is.no_shorter)
