@@ -11,6 +11,7 @@ pub mod Lent
 pub mod Steps
 pub mod Progress
 pub mod Blocks
+pub mod LongLines
 pub use Rattle.data_encoding_meaning.specs.text.Base
 pub use Rattle.data_encoding_meaning.specs.text.Bits
 pub use Rattle.data_encoding_meaning.specs.text.Text

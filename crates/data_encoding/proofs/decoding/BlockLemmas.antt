@@ -588,7 +588,7 @@ moved-front room new first end ordered few moved =
     ∙ take-take count 8 new few
 
 -- the bytes of a block that are not decoded, as a part of its room
-pub packing-part : (room : List ℕ) (first end : ℕ) → first ≤ end
+packing-part : (room : List ℕ) (first end : ℕ) → first ≤ end
     → take (end - first) (take (length room - first) (drop first room))
     ≡ drop first (take end room)
 packing-part room first end ordered =

@@ -17,4 +17,7 @@ goes-nowhere reached = record { reached = reached; further = omega arith }
 -- what is further than a place after the start is further than the start
 pub goes-further : {base : Base} {text output : List ℕ} {start next : ℕ} {at : Progress}
     → start ≤ next → GoesOn base text next at output → GoesOn base text start at output
-goes-further before on = record { reached = on.reached; further = omega (arith, before, on.further) }
+goes-further before on = record {
+  reached = on.reached;
+  further = omega (arith, before, on.further);
+}

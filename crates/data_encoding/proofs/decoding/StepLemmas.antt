@@ -1,5 +1,5 @@
 -- A decoding in progress: what a run, a group and the end do to it.
-use Rattle.std.proofs.Common.{◌≡◌, ℕ, ◌+◌, ◌-◌, ◌*◌, ◌/◌, ◌%◌, ◌<◌, ◌≤◌, Bool, true, false, not, nat_lt, ◌&&◌, ◌==◌, ◌⊎◌, List, [], ◌++◌, length, take, drop, None, Ok, zero, suc, refl, sym, ap, ◌∙◌, subst, arith, length-take-le, ⊎_elim, inl, inr, map}
+use Rattle.std.proofs.Common.{◌≡◌, ℕ, ◌+◌, ◌-◌, ◌*◌, ◌/◌, ◌%◌, ◌<◌, ◌≤◌, Bool, true, false, not, nat_lt, ◌&&◌, ◌==◌, ◌⊎◌, List, [], ◌++◌, length, take, drop, None, zero, suc, refl, sym, ap, ◌∙◌, subst, arith, length-take-le, ⊎_elim, inl, inr, map}
 use Rattle.std.proofs.Math.Nat.{mod_self, mul-div_cancel, mul-le-mul_left, mul-mod_left, zero-mod, zero-mul}
 use Rattle.std.proofs.Math.Seq.{take-add}
 use Rattle.std.proofs.lemmas.Bool.{eqb-true}
@@ -20,7 +20,7 @@ use Rattle.data_encoding.specs.Progress.{GoesOn, HasExactOutput, HasReached}
 use Rattle.data_encoding.specs.Steps.{HasStopped}
 use Rattle.data_encoding_meaning.specs.decoding.Fault.{position_of}
 use Rattle.data_encoding_meaning.specs.text.Grammar.{Positioned, bytes_in, kept, kept_from}
-use Rattle.data_encoding_meaning.specs.text.Lengths.{decoded_len, greatest_valid_length, length_fault, most_bytes}
+use Rattle.data_encoding_meaning.specs.text.Lengths.{greatest_valid_length, length_fault, most_bytes}
 use Rattle.data_encoding_meaning.specs.decoding.Partial.{StopsAt, is_length_fault}
 use Rattle.data_encoding_meaning.proofs.grammar.LengthLemmas.{decoded_len-counted, is_valid_length-by}
 use Rattle.data_encoding_meaning.proofs.grammar.GroupLemmas.{GroupMeans-sound}

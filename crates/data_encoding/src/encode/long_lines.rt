@@ -2,7 +2,8 @@
 
 ghost use Rattle.std.specs.Prelude.{◌≡◌, ◌+◌, ◌-◌, ◌*◌, ◌/◌, ◌≤◌, length, take, IsSome};
 ghost use Rattle.data_encoding_kernel.specs.OffsetAlphabet.{HoldsOffsetAlphabet};
-ghost use Rattle.data_encoding_kernel.specs.Tables.{HoldsSymbols, IsTextBy};
+ghost use Rattle.data_encoding_kernel.specs.Tables.{HoldsSymbols, IsTextBy, Writes};
+ghost use Rattle.data_encoding.specs.LongLines.{FitsTurns, HasLongLines};
 ghost use Rattle.data_encoding_meaning.specs.text.Lengths.{alignment};
 ghost use Rattle.data_encoding_meaning.specs.text.Text.{text_of};
 
@@ -19,12 +20,11 @@ use data_encoding_kernel::lanes::offset_alphabet::{
 use data_encoding_meaning::encoding::BitOrder;
 
 impl EncodingRef<'_> {
-    // By the symbols as sums if the data is long and they have that form.
+    // By offsets if the data is long and the alphabet has that form.
     #[inline(always)]
     pub(super) fn encode_long_lines<G: GroupSize>(&self, input: &[u8], output: &mut [u8])
         requires width { self.now.width ≡ G.WIDTH }
-        requires lines { IsSome self.now.wrapping }
-        requires long { 8 * G.BYTES ≤ alignment self.now }
+        requires long { HasLongLines self.now G.BYTES }
         requires limit { length input.now ≤ ENCODE_LIMIT }
         requires exact { length output.old ≡ length (text_of self.now input.now) }
         ensures { output.new ≡ text_of self.now input.now }
@@ -51,8 +51,7 @@ impl EncodingRef<'_> {
         requires width { self.now.width ≡ G.WIDTH }
         requires holds { HoldsSymbols self.now symbols.now }
         requires held { HoldsOffsetAlphabet symbols.now alphabet.now }
-        requires lines { IsSome self.now.wrapping }
-        requires long { 8 * G.BYTES ≤ alignment self.now }
+        requires long { HasLongLines self.now G.BYTES }
         requires limit { length input.now ≤ ENCODE_LIMIT }
         requires exact { length output.old ≡ length (text_of self.now input.now) }
         ensures { output.new ≡ text_of self.now input.now }
@@ -72,8 +71,7 @@ impl EncodingRef<'_> {
         requires width { self.now.width ≡ G.WIDTH }
         requires holds { HoldsSymbols self.now symbols.now }
         requires held { E.holds symbols.now eight.now }
-        requires lines { IsSome self.now.wrapping }
-        requires long { 8 * G.BYTES ≤ alignment self.now }
+        requires long { HasLongLines self.now G.BYTES }
         requires limit { length input.now ≤ ENCODE_LIMIT }
         requires exact { length output.old ≡ length (text_of self.now input.now) }
         ensures { output.new ≡ text_of self.now input.now }
@@ -107,12 +105,9 @@ impl EncodingRef<'_> {
         input: &[u8],
         output: &mut [u8],
     )
-        requires width { self.now.width ≡ G.WIDTH }
-        requires holds { HoldsSymbols self.now symbols.now }
+        requires writes { Writes self.now symbols.now G.WIDTH order }
         requires held { E.holds symbols.now eight.now }
-        requires order { self.now.order ≡ order }
-        requires lines { IsSome self.now.wrapping }
-        requires long { 8 * G.BYTES ≤ alignment self.now }
+        requires long { HasLongLines self.now G.BYTES }
         requires limit { length input.now ≤ ENCODE_LIMIT }
         requires exact { length output.old ≡ length (text_of self.now input.now) }
         ensures { output.new ≡ text_of self.now input.now }
@@ -163,12 +158,9 @@ impl EncodingRef<'_> {
         input: &[u8],
         output: &mut [u8],
     )
-        requires width { self.now.width ≡ G.WIDTH }
-        requires holds { HoldsSymbols self.now symbols.now }
+        requires writes { Writes self.now symbols.now G.WIDTH order }
         requires held { E.holds symbols.now eight.now }
-        requires order { self.now.order ≡ order }
-        requires lines { IsSome self.now.wrapping }
-        requires long { 8 * G.BYTES ≤ alignment self.now }
+        requires long { HasLongLines self.now G.BYTES }
         requires loaded { alignment self.now + 2 * (G.BYTES - 1) ≤ length input.now }
         requires exact { length output.old
             ≡ length (text_of self.now (take (alignment self.now) input.now)) }
@@ -199,9 +191,7 @@ fn encode_groups<E: EncodeEight, G: GroupSize>(
     output: &mut [u8],
 )
     requires held { E.holds symbols.now turn.now }
-    requires eight { 8 ≤ groups }
-    requires loaded { groups * G.BYTES + 2 * (G.BYTES - 1) ≤ length input.now }
-    requires exact { length output.old ≡ groups * G.SYMBOLS }
+    requires fits { FitsTurns G.BYTES G.SYMBOLS groups input.now output.old }
     ensures { IsTextBy symbols.now G.WIDTH order (take (groups * G.BYTES) input.now) output.new }
 {
     let read_len = 8 * G::BYTES;
@@ -231,9 +221,7 @@ fn encode_last_groups<E: EncodeEight, G: GroupSize>(
     output: &mut [u8],
 )
     requires held { E.holds symbols.now turn.now }
-    requires eight { 8 ≤ groups }
-    requires loaded { groups * G.BYTES + 2 * (G.BYTES - 1) ≤ length input.now }
-    requires exact { length output.old ≡ groups * G.SYMBOLS }
+    requires fits { FitsTurns G.BYTES G.SYMBOLS groups input.now output.old }
     requires written { IsTextBy symbols.now G.WIDTH order
         (take (groups / 8 * (8 * G.BYTES)) input.now)
         (take (groups / 8 * (8 * G.SYMBOLS)) output.old) }

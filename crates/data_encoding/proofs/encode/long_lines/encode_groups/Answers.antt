@@ -12,20 +12,20 @@ slice_bounds-encode_eight-end-in-loop-index g c =
       turn-before c.SYMBOLS-written_len.ensures c.args.groups c.loop-index.index
           c.loop-index-test.true,
       c.loop-index.auto.output,
-      c.requires.exact,
+      c.requires.fits.exact,
     )
 
 pub overflow_mul-written : goal.overflow_mul-written
 overflow_mul-written g c =
     let room = turn-before c.SYMBOLS-written_len.ensures c.args.groups c.loop-index.index
     c.loop-index-test.true in
-    omega (arith, room, c.requires.exact)
+    omega (arith, room, c.requires.fits.exact)
 
 pub overflow_add-written : goal.overflow_add-written
 overflow_add-written g c =
     let room = turn-before c.SYMBOLS-written_len.ensures c.args.groups c.loop-index.index
     c.loop-index-test.true in
-    omega (arith, room, c.requires.exact)
+    omega (arith, room, c.requires.fits.exact)
 
 pub loop-index-preserved : goal.loop-index-preserved
 loop-index-preserved g c =
@@ -37,14 +37,14 @@ loop-index-preserved g c =
     omega (
       arith,
       turn-before c.BYTES-read_len.ensures c.args.groups i c.loop-index-test.true,
-      c.requires.loaded,
+      c.requires.fits.loaded,
     ) in
     let room : i * written_len + written_len ≤ length c.loop-index.output =
     omega (
       arith,
       turn-before c.SYMBOLS-written_len.ensures c.args.groups i c.loop-index-test.true,
       c.loop-index.auto.output,
-      c.requires.exact,
+      c.requires.fits.exact,
     ) in
     record {
       written = λ base writes.

@@ -14,7 +14,7 @@ returns-then-left-eq0 g c base writes =
     let all : turns * 8 ≡ c.args.groups =
     omega (arith, div-add-mod' c.args.groups 8, c.if-left-eq0.true) in
     let written_all : length c.args.output.now ≤ turns * (8 * symbols) =
-    omega (arith, ap (λ n. n * symbols) all, c.requires.exact) in
+    omega (arith, ap (λ n. n * symbols) all, c.requires.fits.exact) in
     let read_all : turns * (8 * bytes) ≡ c.args.groups * bytes =
     omega (arith, ap (λ n. n * bytes) all) in
     sym (take_all (turns * (8 * symbols)) c.args.output.now written_all)
@@ -25,40 +25,40 @@ pub encode_eight-requires-clause-exact : goal.encode_eight-requires-clause-exact
 encode_eight-requires-clause-exact g c =
     let symbols = g.G.GroupSize.SYMBOLS in
     let first = c.args.groups - 8 in
-    let all : first + 8 ≡ c.args.groups = omega (arith, c.requires.eight) in
+    let all : first + 8 ≡ c.args.groups = omega (arith, c.requires.fits.eight) in
     let same : first * c.SYMBOLS-in_default.result ≡ first * symbols =
     ap (λ n. first * n) c.SYMBOLS-in_default.ensures in
     length-rest (first * c.SYMBOLS-in_default.result) c.args.output.now
-    ∙ omega (arith, same, ap (λ n. n * symbols) all, c.requires.exact)
+    ∙ omega (arith, same, ap (λ n. n * symbols) all, c.requires.fits.exact)
 
 pub returns-in-3 : goal.returns-in-3
 returns-in-3 g c base writes =
     last-turn g.G.GroupSize.is_group c.BYTES.ensures c.SYMBOLS.ensures base writes.width_is
     c.args.input.now c.args.output.now c.encode_four_octal.new.output c.args.groups 4
-    (omega (arith, c.requires.eight)) c.if-left-le4.true
-    (omega (arith, c.requires.loaded)) (c.requires.written base writes)
+    (omega (arith, c.requires.fits.eight)) c.if-left-le4.true
+    (omega (arith, c.requires.fits.loaded)) (c.requires.written base writes)
     (c.encode_four_octal.ensures base writes)
 
 pub returns-in-5 : goal.returns-in-5
 returns-in-5 g c base writes =
     last-turn g.G.GroupSize.is_group c.BYTES-in-5.ensures c.SYMBOLS-in-5.ensures base
     writes.width_is c.args.input.now c.args.output.now c.encode_two.new.output c.args.groups 2
-    (omega (arith, c.requires.eight)) c.if-left-le2.true
-    (omega (arith, c.requires.loaded)) (c.requires.written base writes)
+    (omega (arith, c.requires.fits.eight)) c.if-left-le2.true
+    (omega (arith, c.requires.fits.loaded)) (c.requires.written base writes)
     (c.encode_two.ensures base writes)
 
 pub returns-in-6 : goal.returns-in-6
 returns-in-6 g c base writes =
     last-turn g.G.GroupSize.is_group c.BYTES-in-6.ensures c.SYMBOLS-in-6.ensures base
     writes.width_is c.args.input.now c.args.output.now c.encode_four.new.output c.args.groups 4
-    (omega (arith, c.requires.eight)) c.if-left-le4-2.true
-    (omega (arith, c.requires.loaded)) (c.requires.written base writes)
+    (omega (arith, c.requires.fits.eight)) c.if-left-le4-2.true
+    (omega (arith, c.requires.fits.loaded)) (c.requires.written base writes)
     (c.encode_four.ensures base writes)
 
 pub returns-in_default : goal.returns-in_default
 returns-in_default g c base writes =
     last-turn g.G.GroupSize.is_group c.BYTES-in_default.ensures c.SYMBOLS-in_default.ensures base
     writes.width_is c.args.input.now c.args.output.now c.encode_eight.new.output c.args.groups 8
-    c.requires.eight (omega arith)
-    (omega (arith, c.requires.loaded)) (c.requires.written base writes)
+    c.requires.fits.eight (omega arith)
+    (omega (arith, c.requires.fits.loaded)) (c.requires.written base writes)
     (c.encode_eight.ensures base writes)

@@ -1,4 +1,4 @@
-use Rattle.std.proofs.Common.{◌≡◌, ℕ, ◌+◌, ◌*◌, ◌/◌, ◌∙◌, ◌&&◌, Bool, not, nat_lt, length, inl, inr, refl, sym, ap, arith, length-drop, Ok}
+use Rattle.std.proofs.Common.{◌≡◌, ℕ, ◌+◌, ◌*◌, ◌/◌, ◌∙◌, ◌&&◌, Bool, not, nat_lt, length, inl, inr, refl, sym, arith, length-drop}
 use Rattle.data_encoding_meaning.proofs.decoding.GroupJudgementLemmas.{few-bits}
 use Rattle.data_encoding.proofs.decoding.StepLemmas.{IsUnderWay, after_group, decoded-after, decoded-none, final-is, final-not, gathered-next, group-stopped, room-next_group, some-group, under_way, written-few}
 use Rattle.data_encoding.specs.Progress.{HasExactOutput}
@@ -107,7 +107,8 @@ returns-in-Err g c =
 
 pub overflow_add-start : goal.overflow_add-start
 overflow_add-start g c =
-    record { fits = omega (arith, length-drop {A = ℕ}, c.requires.at.front.within, c.requires.at.exact.limit) }
+    let at = c.requires.at in
+    record { fits = omega (arith, length-drop {A = ℕ}, at.front.within, at.exact.limit) }
 
 pub slice_bounds-next_group-count : goal.slice_bounds-next_group-count
 slice_bounds-next_group-count g c = omega (arith, length-drop {A = ℕ}, c.requires.at.front.within)

@@ -84,7 +84,7 @@ returns g c =
     let p = is.packed in
     let block = take c.args.at.end c.args.room.now in
     let group = IsGroup-same c.WIDTH.ensures refl refl g.G.GroupSize.is_group in
-    let s = under_way group (c.requires.width ∙ sym c.WIDTH.ensures) c.requires.packing.exact p.so_far in
+    let s = under_way group (c.requires.width ∙ sym c.WIDTH.ensures) is.exact p.so_far in
     let sound = subst (λ part. IsDecodedGroup c.args.self.now part c.in-Ok.count
     c.decode_group.new.output) (first g before) c.in-Ok.ensures.sound in
     let group_len = ap length (sym (first g before)) ∙ len g before in

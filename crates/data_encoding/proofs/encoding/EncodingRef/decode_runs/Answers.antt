@@ -1,4 +1,4 @@
-use Rattle.std.proofs.Common.{ℕ, arith, length-drop}
+use Rattle.std.proofs.Common.{arith}
 use Rattle.data_encoding_meaning.proofs.digits.SizeLemmas.{IsSmall-group}
 use Rattle.data_encoding.proofs.decoding.OutputLemmas.{goes-further, goes-nowhere}
 use Rattle.data_encoding.specs.Progress.{GoesOn}

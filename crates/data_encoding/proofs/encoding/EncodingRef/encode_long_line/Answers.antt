@@ -41,8 +41,8 @@ slice_bounds-encode_groups-end g c =
     omega (
       arith,
       c.requires.exact,
-      length-text-line c.self.invariant c.self.view_is c.requires.lines g.G.GroupSize.is_group
-          c.requires.width c.SYMBOLS.ensures c.args.input.now within,
+      length-text-line c.self.invariant c.self.view_is c.requires.long.lines g.G.GroupSize.is_group
+          c.requires.writes.width_is c.SYMBOLS.ensures c.args.input.now within,
     )
 
 pub slice_bounds-encode_groups-end-2 : goal.slice_bounds-encode_groups-end-2
@@ -51,36 +51,31 @@ slice_bounds-encode_groups-end-2 g c =
     omega (arith, c.requires.loaded) in
     sym (front c.self.inside.fields.now.column c.self.inside.separator.now c.args.output.now
     (c.requires.exact
-    ∙ length-text-line c.self.invariant c.self.view_is c.requires.lines g.G.GroupSize.is_group
-    c.requires.width c.SYMBOLS.ensures c.args.input.now within))
+    ∙ length-text-line c.self.invariant c.self.view_is c.requires.long.lines g.G.GroupSize.is_group
+    c.requires.writes.width_is c.SYMBOLS.ensures c.args.input.now within))
 
-pub encode_groups-requires-clause-eight : goal.encode_groups-requires-clause-eight
-encode_groups-requires-clause-eight g c =
-    line-eight c.self.invariant c.self.view_is c.requires.lines g.G.GroupSize.is_group
-    c.requires.width c.SYMBOLS.ensures c.requires.long
-
-pub encode_groups-requires-clause-loaded : goal.encode_groups-requires-clause-loaded
-encode_groups-requires-clause-loaded g c =
-    omega (
-      arith,
-      c.requires.loaded,
-      line-bytes c.self.invariant c.self.view_is c.requires.lines g.G.GroupSize.is_group
-          c.requires.width c.SYMBOLS.ensures,
-    )
-
-pub encode_groups-requires-clause-exact : goal.encode_groups-requires-clause-exact
-encode_groups-requires-clause-exact g c =
-    sym (slice_bounds-encode_groups-end-2 g c)
-    ∙ line-symbols c.self.invariant c.self.view_is c.requires.lines g.G.GroupSize.is_group
-    c.requires.width c.SYMBOLS.ensures
+pub encode_groups-requires-clause-fits : goal.encode_groups-requires-clause-fits
+encode_groups-requires-clause-fits g c = record {
+  eight = line-eight c.self.invariant c.self.view_is c.requires.long.lines g.G.GroupSize.is_group
+      c.requires.writes.width_is c.SYMBOLS.ensures c.requires.long.long;
+  loaded = omega (
+    arith,
+    c.requires.loaded,
+    line-bytes c.self.invariant c.self.view_is c.requires.long.lines g.G.GroupSize.is_group
+        c.requires.writes.width_is c.SYMBOLS.ensures,
+  );
+  exact = sym (slice_bounds-encode_groups-end-2 g c)
+      ∙ line-symbols c.self.invariant c.self.view_is c.requires.long.lines g.G.GroupSize.is_group
+      c.requires.writes.width_is c.SYMBOLS.ensures;
+}
 
 pub slice_bounds-write_separator-count : goal.slice_bounds-write_separator-count
 slice_bounds-write_separator-count g c =
     let within : alignment c.args.self.now ≤ length c.args.input.now =
     omega (arith, c.requires.loaded) in
     let exact = c.requires.exact
-    ∙ length-text-line c.self.invariant c.self.view_is c.requires.lines g.G.GroupSize.is_group
-    c.requires.width c.SYMBOLS.ensures c.args.input.now within in
+    ∙ length-text-line c.self.invariant c.self.view_is c.requires.long.lines g.G.GroupSize.is_group
+    c.requires.writes.width_is c.SYMBOLS.ensures c.args.input.now within in
     omega (
       arith,
       length-half c.self.inside.fields.now.column c.self.inside.separator.now c.args.output.now
@@ -97,25 +92,21 @@ write_separator-requires g c =
     omega (arith, c.requires.loaded) in
     room c.self.inside.fields.now.column c.self.inside.separator.now c.args.output.now
     (c.requires.exact
-    ∙ length-text-line c.self.invariant c.self.view_is c.requires.lines g.G.GroupSize.is_group
-    c.requires.width c.SYMBOLS.ensures c.args.input.now within)
+    ∙ length-text-line c.self.invariant c.self.view_is c.requires.long.lines g.G.GroupSize.is_group
+    c.requires.writes.width_is c.SYMBOLS.ensures c.args.input.now within)
     c.encode_groups.new.output c.encode_groups.auto.output
 
 pub returns : goal.returns
 returns g c =
     let seen = c.args.self.now in
     let within : alignment seen ≤ length c.args.input.now = omega (arith, c.requires.loaded) in
-    written-line c.self.invariant c.self.view_is c.requires.lines g.G.GroupSize.is_group
-    c.requires.width c.SYMBOLS.ensures c.args.input.now within
+    written-line c.self.invariant c.self.view_is c.requires.long.lines g.G.GroupSize.is_group
+    c.requires.writes.width_is c.SYMBOLS.ensures c.args.input.now within
     (drop c.self.inside.fields.now.column c.args.output.now) c.encode_groups.new.output
     c.write_separator.new.output
     (c.encode_groups.auto.output
     ∙ front c.self.inside.fields.now.column c.self.inside.separator.now c.args.output.now
     (c.requires.exact
-    ∙ length-text-line c.self.invariant c.self.view_is c.requires.lines g.G.GroupSize.is_group
-    c.requires.width c.SYMBOLS.ensures c.args.input.now within))
-    (c.encode_groups.ensures seen (record {
-      width_is = c.requires.width;
-      order_is = c.requires.order;
-      holds = c.requires.holds;
-    })) c.write_separator.ensures
+    ∙ length-text-line c.self.invariant c.self.view_is c.requires.long.lines g.G.GroupSize.is_group
+    c.requires.writes.width_is c.SYMBOLS.ensures c.args.input.now within))
+    (c.encode_groups.ensures seen c.requires.writes) c.write_separator.ensures

@@ -17,7 +17,7 @@ loop-index-init g c =
     record {
       written =
           lines-none
-          (IsByPieces-line c.self.invariant c.self.view_is c.requires.lines
+          (IsByPieces-line c.self.invariant c.self.view_is c.requires.long.lines
           c.encode_align-line_bytes.ensures.value refl)
           c.args.input.now c.args.output.now;
     }
@@ -27,7 +27,7 @@ overflow_mul-written g c =
     let before = line-before _ _ _ _ c.loop-index.index c.saturating_sub.ensures
     c.encode_align-line_bytes.ensures.some c.loop-index-test.true in
     let fits = line-fits
-    (IsByPieces-line c.self.invariant c.self.view_is c.requires.lines
+    (IsByPieces-line c.self.invariant c.self.view_is c.requires.long.lines
     c.encode_align-line_bytes.ensures.value refl)
     c.args.input.now c.loop-index.index (omega (arith, before)) in
     omega (arith, fits, c.requires.exact)
@@ -37,7 +37,7 @@ overflow_add-written g c =
     let before = line-before _ _ _ _ c.loop-index.index c.saturating_sub.ensures
     c.encode_align-line_bytes.ensures.some c.loop-index-test.true in
     let fits = line-fits
-    (IsByPieces-line c.self.invariant c.self.view_is c.requires.lines
+    (IsByPieces-line c.self.invariant c.self.view_is c.requires.long.lines
     c.encode_align-line_bytes.ensures.value refl)
     c.args.input.now c.loop-index.index (omega (arith, before)) in
     omega (arith, fits, c.requires.exact)
@@ -48,7 +48,7 @@ slice_bounds-encode_long_line-end-in-loop-index g c =
     let before = line-before _ _ _ _ c.loop-index.index c.saturating_sub.ensures
     c.encode_align-line_bytes.ensures.some c.loop-index-test.true in
     let fits = line-fits
-    (IsByPieces-line c.self.invariant c.self.view_is c.requires.lines
+    (IsByPieces-line c.self.invariant c.self.view_is c.requires.long.lines
     c.encode_align-line_bytes.ensures.value refl)
     c.args.input.now c.loop-index.index (omega (arith, before)) in
     omega (arith, fits, c.requires.exact, c.loop-index.auto.output)
@@ -60,7 +60,7 @@ encode_long_line-requires-clause-exact g c =
     let line_len = c.self.inside.fields.now.column + length c.self.inside.separator.now in
     let input = c.args.input.now in
     let rest = take (length input - i * size) (drop (i * size) input) in
-    let pieces = IsByPieces-line c.self.invariant c.self.view_is c.requires.lines
+    let pieces = IsByPieces-line c.self.invariant c.self.view_is c.requires.long.lines
     c.encode_align-line_bytes.ensures.value refl in
     let before = line-before _ _ _ _ i c.saturating_sub.ensures
     c.encode_align-line_bytes.ensures.some c.loop-index-test.true in
@@ -78,7 +78,7 @@ loop-index-preserved g c =
     let i = c.loop-index.index in
     let size = c.encode_align-line_bytes.result in
     let input = c.args.input.now in
-    let pieces = IsByPieces-line c.self.invariant c.self.view_is c.requires.lines
+    let pieces = IsByPieces-line c.self.invariant c.self.view_is c.requires.long.lines
     c.encode_align-line_bytes.ensures.value refl in
     let before = line-before _ _ _ _ i c.saturating_sub.ensures
     c.encode_align-line_bytes.ensures.some c.loop-index-test.true in
@@ -97,7 +97,7 @@ pub overflow_mul-count-2 : goal.overflow_mul-count-2
 overflow_mul-count-2 g c =
     let size = c.encode_align-line_bytes.result in
     let parts = length-parts
-    (IsByPieces-line c.self.invariant c.self.view_is c.requires.lines
+    (IsByPieces-line c.self.invariant c.self.view_is c.requires.long.lines
     c.encode_align-line_bytes.ensures.value refl)
     c.args.input.now (c.saturating_sub.result / size)
     (lines-before _ _ _ size c.saturating_sub.ensures) in
@@ -107,7 +107,7 @@ pub slice_bounds-encode_last_lines-count-2 : goal.slice_bounds-encode_last_lines
 slice_bounds-encode_last_lines-count-2 g c =
     let size = c.encode_align-line_bytes.result in
     let parts = length-parts
-    (IsByPieces-line c.self.invariant c.self.view_is c.requires.lines
+    (IsByPieces-line c.self.invariant c.self.view_is c.requires.long.lines
     c.encode_align-line_bytes.ensures.value refl)
     c.args.input.now (c.saturating_sub.result / size)
     (lines-before _ _ _ size c.saturating_sub.ensures) in
@@ -122,7 +122,7 @@ encode_last_lines-requires-clause-exact g c =
     let count = c.saturating_sub.result / size in
     let line_len = c.self.inside.fields.now.column + length c.self.inside.separator.now in
     let parts = length-parts
-    (IsByPieces-line c.self.invariant c.self.view_is c.requires.lines
+    (IsByPieces-line c.self.invariant c.self.view_is c.requires.long.lines
     c.encode_align-line_bytes.ensures.value refl)
     c.args.input.now count (lines-before _ _ _ size c.saturating_sub.ensures) in
     length-rest (count * line_len) c.loop-index.output
@@ -136,7 +136,7 @@ returns g c =
     let all : c.loop-index.index ≡ count =
     omega (arith, c.loop-index-test.false, c.loop-index.auto.index-end) in
     lines-rest
-    (IsByPieces-line c.self.invariant c.self.view_is c.requires.lines
+    (IsByPieces-line c.self.invariant c.self.view_is c.requires.long.lines
     c.encode_align-line_bytes.ensures.value refl)
     c.args.input.now c.loop-index.output c.encode_last_lines.new.output count
     (rw all at c.loop-index.invariant.written)
