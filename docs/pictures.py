@@ -40,7 +40,7 @@ DECODING = ("text → data, or its fault", """
     encoding_stream/runs.rt: read_run decode_run
     data_encoding/decode.rt: decode_mut
     data_encoding/decode/text.rt: decode_by_order decode_by_look_up decode_by_width decode_text
-    < data_encoding/decode/steps.rt: decode_run_after_ignored
+    < data_encoding/decode/runs.rt: decode_run_after_ignored
     > data_encoding/decode/steps.rt: decode_next
     > data_encoding/decode/next_group.rt: next_group
     > data_encoding/decode/group.rt: decode_group
