@@ -69,7 +69,7 @@ excused() {
 # those of `$room/below` that is in their file, or that their file imports.
 reaching() {
     awk -v listed="$room/below" '
-        function words_of(text, words, found, name) {
+        function words_of(text, words, name) {
             while (match(text, /[A-Za-z_][A-Za-z0-9_-]*/)) {
                 name = substr(text, RSTART, RLENGTH)
                 words[name] = 1
