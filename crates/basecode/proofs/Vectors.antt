@@ -1,6 +1,5 @@
 -- Worked rows of the program: its names, its arguments, and what a run has done.
-use Rattle.std.proofs.Common.{IsSome, ◌≡◌, ℕ, true, false, take, sym, Result, List, [], ◌∷◌, ◌++◌, map, codes, length, Option, Some, None, Ok, Err, refl, inl, inr, ◌⊎◌, ◌∙◌, ap, subst}
-use Rattle.std.specs.Borrow.{Bor}
+use Rattle.std.proofs.Common.{◌≡◌, ℕ, true, false, take, sym, Result, List, [], ◌∷◌, ◌++◌, map, codes, length, Option, Some, None, Ok, Err, refl, inl, inr, ◌⊎◌, ◌∙◌, ap, subst}
 use Rattle.data_encoding.specs.declared.error.DecodeError.{DecodeError}
 use Rattle.data_encoding.specs.declared.error.DecodeKind.TheVariants.{Symbol}
 use Rattle.data_encoding.specs.declared.specification.meanings.Refusal.{Refusal}
@@ -11,21 +10,16 @@ use Rattle.data_encoding.specs.Fault.{fault_of, sound_bytes}
 use Rattle.data_encoding.specs.Text.{text_of}
 use Rattle.encoding_stream.specs.Decoded.{DecodesAll, DecodesFront}
 use Rattle.data_encoding.specs.Predefined.{hexlower_fields, base64_fields}
-use Rattle.encoding_stream.specs.declared.error.StreamFault.TheVariants.{Decode as DecodeFault, TooLong, Read, Write}
 use Rattle.encoding_stream.specs.Watch.{from_to, AppendsFront, Change}
 use Rattle.basecode.specs.declared.command.Ask.TheVariants.{Conversion, Question}
-use Rattle.basecode.specs.declared.command.Request.TheVariants.{List as ListRequested, Of as OfRequested}
 use Rattle.basecode.specs.declared.command.Verb.TheVariants.{Encode, Decode}
-use Rattle.basecode.specs.declared.fault.WordFault.TheVariants.{Usage, UnknownName}
-use Rattle.basecode.specs.Faults.{line_of, printed_word_fault, status_of, status_after}
 use Rattle.data_encoding.specs.Named.{IsNamed, fields_named, listing, names}
-use Rattle.basecode.specs.Run.{DecodesFaulty, AskConversion, Answers, Begins, BeginsAnswer, BeginsReply, Begun, Converts, Done, Explains, Fulfils, ByAnswer, ByReply, IsAnswer, Refused, Replies, OfNames, OfQuestion, TellsCanonical, truth}
-use Rattle.basecode.specs.Words.{Task, Request, AreRequest, Asks, IsWrong, Names, Of, ask_of, both, limit_of, request_of, texts}
+use Rattle.basecode.specs.Run.{DecodesFaulty, AskConversion, Answers, Begins, BeginsAnswer, BeginsReply, Begun, Done, Fulfils, ByAnswer, ByReply, IsAnswer, Refused, Replies, OfNames, OfQuestion, TellsCanonical, truth}
+use Rattle.basecode.specs.Words.{Task, Request, Asks, Names, Of, ask_of, both, limit_of, request_of, texts}
 use Rattle.std.proofs.lemmas.List.{append-nil}
 use Rattle.std.specs.Io.KnownBytes.{Keeps}
 use Rattle.data_encoding.specs.Grammar.{Means}
-use Rattle.encoding_stream.specs.Encoded.{EncodesAll, EncodesFront, ReadsMore}
-use Rattle.basecode.specs.declared.command.Task.{Task as TaskRequested}
+use Rattle.encoding_stream.specs.Encoded.{EncodesFront, ReadsMore}
 use Rattle.basecode.specs.declared.command.Verb.{Verb}
 
 abbrev words : List (List ℕ)
@@ -59,8 +53,7 @@ words_asked :
     × (request_of (codes "list" ∷ []) ≡ Some the_names)
     × (request_of (codes "recode" ∷ codes "BASE64" ∷ []) ≡ None)
     × (request_of (codes "encode" ∷ codes "base64" ∷ []) ≡ None)
-    × AreRequest (codes "list" ∷ []) ListRequested
-words_asked = (refl, refl, refl, refl, refl, refl, refl, refl, refl)
+words_asked = (refl, refl, refl, refl, refl, refl, refl, refl)
 
 limits : (limit_of Encode ≡ 18446744073709551615) × (limit_of Decode ≡ 2305843009213693951)
 limits = (refl, refl)
@@ -95,14 +88,12 @@ encoded_in : (base : Base) → Asks words (Conversion Encode) base
     → text_of base (codes "Hello") ≡ codes "SGVsbG8="
     → IsAnswer Encode base (codes "Hello") (codes "SGVsbG8=")
     × Answers Encode base hello nothing (codes "SGVsbG8=")
-    × Converts Encode base (from_to hello nothing) (from_to nothing (Some (codes "SGVsbG8=")))
     × Done words (from_to hello nothing) (from_to nothing (Some (codes "SGVsbG8=")))
 encoded_in base asks h =
     let answers : Answers Encode base hello nothing (codes "SGVsbG8=") =
     record { input = codes "Hello"; read = refl; at_end = refl; is_answer = sym h } in (
       sym h,
       answers,
-      record { bytes = codes "Hello"; read = refl; at_end = refl; written = sym h },
       record {
         output = codes "SGVsbG8=";
         fulfils = ByAnswer Encode base asks answers;
@@ -115,7 +106,6 @@ encoded_hello :
     Has base64_fields (λ base.
     IsAnswer Encode base (codes "Hello") (codes "SGVsbG8=")
     × Answers Encode base hello nothing (codes "SGVsbG8=")
-    × Converts Encode base (from_to hello nothing) (from_to nothing (Some (codes "SGVsbG8=")))
     × Done words (from_to hello nothing) (from_to nothing (Some (codes "SGVsbG8="))))
 encoded_hello = encoded_in _ asked refl
 
@@ -192,9 +182,6 @@ refused_in : (base : Base) → Asks words_back (Conversion Decode) base
     → sound_bytes base (codes "SGVs!G8=") ≡ codes "Hel"
     → DecodesFaulty Decode base (from_to (Some (codes "SGVs!G8=")) nothing)
     (from_to nothing (Some (codes "Hel")))
-    × Explains Decode base (from_to (Some (codes "SGVs!G8=")) nothing)
-    (from_to nothing (Some (codes "Hel")))
-    (DecodeFault symbol_at_4)
     × Refused words_back (from_to (Some (codes "SGVs!G8=")) nothing)
     (from_to nothing (Some (codes "Hel")))
     × AskConversion words_back
@@ -211,7 +198,6 @@ refused_in base asks is_fault are_bytes =
     (from_to nothing (Some (codes "Hel"))) =
     record { error = symbol_at_4; is_decoding = refl; decodes = decodes } in (
       faulty,
-      (refl, decodes),
       record { verb = Decode; base = base; asked = asks; reason = inr faulty },
       record { verb = Decode; base = base; asked = asks },
     )
@@ -221,40 +207,10 @@ refused :
     Has base64_fields (λ base.
     DecodesFaulty Decode base (from_to (Some (codes "SGVs!G8=")) nothing)
     (from_to nothing (Some (codes "Hel")))
-    × Explains Decode base (from_to (Some (codes "SGVs!G8=")) nothing)
-    (from_to nothing (Some (codes "Hel")))
-    (DecodeFault symbol_at_4)
     × Refused words_back (from_to (Some (codes "SGVs!G8=")) nothing)
     (from_to nothing (Some (codes "Hel")))
     × AskConversion words_back)
 refused = refused_in _ asked_back refl refl
-
--- without arguments the usage is wrong, and of these two arguments only the name is
-wrong_words : IsWrong [] Usage
-wrong_words = λ word name h. let e = h in cc
-
-abbrev unknown : Bor (List ℕ)
-unknown = record { ref_ptr = (0, 0); now = codes "base64" }
-
-wrong_name :
-    IsWrong (codes "encode" ∷ codes "base64" ∷ []) (UnknownName unknown)
-    × (printed_word_fault (UnknownName unknown) ≡ codes "unknown encoding: base64")
-wrong_name = ((codes "encode", refl, refl, refl), refl)
-
-usage_printed : printed_word_fault Usage
-    ≡ codes "usage: basecode list OR encode NAME OR decode NAME OR canonical NAME"
-usage_printed = refl
-
-line_printed : line_of (codes "out of memory") ≡ codes "basecode: out of memory" ++ 10 ∷ []
-line_printed = refl
-
-statuses :
-    (map status_of (DecodeFault symbol_at_4 ∷ TooLong ∷ Read ∷ Write ∷ []) ≡ 1 ∷ 1 ∷ 3 ∷ 3 ∷ [])
-    × (status_after (Ok _) ≡ 0) × (status_after (Err Write) ≡ 3)
-statuses = (refl, refl, refl)
-
-some-none : {T : Type 0} {given : T} → Some given ≡ None → ⊥
-some-none is = absurd (cc is)
 
 -- the answer to `Hello` is its text, with nothing left to read; that to a text is what it means
 answered_by : (base : Base) → text_of base (codes "Hello") ≡ codes "SGVsbG8="
@@ -277,21 +233,11 @@ answer_told :
     × (IsAnswer Decode base input output → Means base input output))
 answer_told input output = (λ is. is, λ means. means)
 
--- what converting, and what beginning to, has done
-converted_told : (base : Base) (reader writer : Change)
-    → (Converts Encode base reader writer → EncodesAll base reader writer)
-    × (Converts Decode base reader writer → DecodesAll base None reader writer)
-    × (Begins Encode base reader writer → EncodesFront base reader writer)
+-- what beginning to convert has done
+begins_told : (base : Base) (reader writer : Change)
+    → (Begins Encode base reader writer → EncodesFront base reader writer)
     × (Begins Decode base reader writer → DecodesFront base reader writer)
-converted_told base reader writer =
-    (λ converts. converts, λ converts. converts, λ begins. begins, λ begins. begins)
-
--- a fault of a text is one of decoding, and an input that is too long is longer than the limit
-explained_told : (base : Base) (verb : Verb) (reader writer : Change)
-    → (Explains verb base reader writer (DecodeFault symbol_at_4)
-    → (verb ≡ Decode) × DecodesAll base (Some symbol_at_4) reader writer)
-    × (Explains Decode base reader writer TooLong → ReadsMore 2305843009213693951 reader)
-explained_told base verb reader writer = (λ explains. explains, λ more. more)
+begins_told base reader writer = (λ begins. begins, λ begins. begins)
 
 -- a line is `true` of a canonical base, or `false` of another
 line_told : (base : Base) (line : List ℕ) → TellsCanonical base line
@@ -344,19 +290,6 @@ fields_in None = hexlower_fields
 -- `encode BASE64` asks about the base that is built from the specification of BASE64
 asked_told : (base : Base) → Asks words (Conversion Encode) base → base_of base64_fields ≡ Ok base
 asked_told base asks = ap (λ request. base_of (fields_in request)) asks.is_request ∙ asks.is_built
-
-request_told : (given : List (List ℕ)) (task : TaskRequested)
-    → (AreRequest given ListRequested → request_of given ≡ Some the_names)
-    × (AreRequest given (OfRequested task) → Asks given task.ask task.encoding)
-request_told given task = (λ are. are, λ are. are)
-
--- the usage of `encode BASE64` is not wrong; a name that is unknown is the second of two words, of
--- which the first asks for something, and has no specification
-wrong_told : (given : List (List ℕ)) → (IsWrong words Usage → ⊥)
-    × (IsWrong given (UnknownName unknown) → (word : List ℕ)
-    × (given ≡ word ∷ codes "base64" ∷ []) × IsSome (ask_of word)
-    × (fields_named (codes "base64") ≡ None))
-wrong_told given = (λ wrong. some-none (wrong _ _ refl), λ wrong. wrong)
 
 -- a reply reads nothing, and what is asked for is an answer or a reply
 reply_told : (given : List (List ℕ)) (old new : Option (List ℕ)) (output : List ℕ)

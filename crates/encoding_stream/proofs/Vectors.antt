@@ -1,24 +1,20 @@
 -- Worked rows for what streams and decoders have done.
-use Rattle.std.proofs.Common.{is_some, ◌∙◌, ◌≡◌, ℕ, ◌+◌, ◌≤◌, zero-add, Bool, true, false, List, [], ◌∷◌, ◌++◌, drop, map, codes, replicate, Option, Some, None, Result, Ok, Err, refl, zero, suc, sym, ap, subst, lit<, lit≤, arith, length, take, vec_capacity}
-use Rattle.std.proofs.lemmas.Bool.{false≢true}
+use Rattle.std.proofs.Common.{◌∙◌, ◌≡◌, ℕ, ◌+◌, ◌≤◌, zero-add, true, false, List, [], ◌∷◌, ◌++◌, drop, map, codes, replicate, Option, Some, None, Result, Ok, Err, refl, zero, suc, sym, ap, subst, lit<, lit≤, arith, length}
 use Rattle.std.proofs.lemmas.Fmt.{decimal_digit}
-use Rattle.std.specs.declared.vec.Vec.{Vec}
 use Rattle.data_encoding.specs.declared.error.DecodeError.{DecodeError}
 use Rattle.data_encoding.specs.declared.error.DecodeKind.TheVariants.{Length, Symbol, Trailing, Padding}
 use Rattle.data_encoding.specs.declared.specification.meanings.Refusal.{Refusal}
 use Rattle.data_encoding.specs.Base.{Base}
 use Rattle.data_encoding.specs.Fault.{fault_of, sound_bytes}
 use Rattle.data_encoding.specs.Fields.{Fields, base_of}
-use Rattle.data_encoding.specs.Laws.{further}
 use Rattle.data_encoding.specs.Lent.{base_of_lent}
-use Rattle.data_encoding.specs.Grammar.{positioned_from, Means}
+use Rattle.data_encoding.specs.Grammar.{positioned_from}
 use Rattle.data_encoding.specs.Predefined.{base64_fields, base64_mime_fields, base64_mime_permissive_fields, base64_nopad_fields}
-use Rattle.data_encoding.specs.Pieces.{whole_bytes, HasRead}
+use Rattle.data_encoding.specs.Pieces.{whole_bytes}
 use Rattle.std.proofs.lemmas.List.{append-nil}
-use Rattle.encoding_stream.specs.Decoded.{JudgesText, DecodesAll, DecodesFront, DecodesJudged, result_of, EndsText}
-use Rattle.encoding_stream.specs.Judged.{fault_with_held, next_group, EndsFaulty, EndsSound, JudgesFaulty, JudgesSound}
-use Rattle.encoding_stream.specs.Reading.{has_final, whole_len, AppendsPiece, AreWholeGroups, CompletesNothing, HasNoLastBytes, HasVerdict, HasOnlyWholeGroups, ReadsAllGroups, ReadsOn, AppendsLast, HasLastBytes, ReadsRun, ReadsRunTo}
-use Rattle.encoding_stream.specs.Pieces.{base_of_pieces, paired, at_positions, held, NoneIgnored, Keeps, FillsGroups, GoesOn, bytes_due, kept_by, most_completed, verdict_of}
+use Rattle.encoding_stream.specs.Decoded.{JudgesText, DecodesAll, DecodesFront, DecodesJudged, result_of}
+use Rattle.encoding_stream.specs.Reading.{CompletesNothing, HasNoLastBytes, HasVerdict, ReadsOn, HasLastBytes}
+use Rattle.encoding_stream.specs.Pieces.{base_of_pieces, paired, at_positions, held, Keeps, GoesOn, bytes_due, kept_by, most_completed, verdict_of}
 use Rattle.encoding_stream.specs.declared.pieces.BufferDecoder.{BufferDecoder}
 use Rattle.encoding_stream.specs.declared.decoder.Decoder.{Decoder}
 use Rattle.encoding_stream.specs.declared.error.StreamFault.TheVariants.{Read, Write, Decode, TooLong}
@@ -26,7 +22,7 @@ use Rattle.encoding_stream.specs.declared.blocks.BufferEncoder.{BufferEncoder}
 use Rattle.encoding_stream.specs.declared.kept_data.KeptData.{KeptData}
 use Rattle.encoding_stream.specs.declared.pieces.Kept.{Kept}
 use Rattle.encoding_stream.specs.declared.watch.Watch.{Watch}
-use Rattle.encoding_stream.specs.Appending.{AppendsDecoded, IsAsBefore}
+use Rattle.encoding_stream.specs.Appending.{AppendsDecoded}
 use Rattle.encoding_stream.specs.Decoder.{base_of_decoder, decoder_len, FinishesWith, HasConsumed, AppendsFinished, AppendsPushed}
 use Rattle.encoding_stream.specs.Encoded.{EncodesAll, EncodesFront, ReadsMore, Succeeds, WritesText}
 use Rattle.encoding_stream.specs.Printed.{printed_stream_fault}
@@ -191,15 +187,6 @@ kept_of_text = (
   refl,
 )
 
-none_ignored : Has base64_mime_fields (λ base. NoneIgnored base (positioned_from 4 (codes "bG")))
-none_ignored zero k h = refl
-none_ignored (suc zero) k h = refl
-none_ignored (suc (suc index)) k h = absurd (omega (arith, h))
-
--- four bytes after two that are held fill a group, and two are held
-groups_filled : Has base64_fields (λ base. FillsGroups base 2 4 2 3)
-groups_filled = record { groups = 1; symbols = lit≤ tt; bytes = lit≤ tt }
-
 -- `SGVsbG` CR LF ends within a group
 abbrev length_at_4 : DecodeError
 length_at_4 = record { position = 4; kind = Length }
@@ -209,70 +196,11 @@ verdict_given :
     → HasVerdict base kept_so_far verdict → verdict ≡ Err length_at_4)
 verdict_given verdict gives = gives _ kept_of_text.0
 
--- whole groups only, also with a line end that is ignored
-whole_groups_alone :
-    Has base64_fields (λ base. AreWholeGroups base (codes "SGVsbG8="))
-    × Has base64_mime_fields (λ base. AreWholeGroups base (codes "SGVs" ++ 13 ∷ 10 ∷ []))
-whole_groups_alone = (
-  record { whole = refl; not_final = refl },
-  record { whole = refl; not_final = refl },
-)
-
-one-over : ◌≡◌ {A = ℕ} 1 0 → ⊥
-one-over is = omega (arith, is)
-
--- whole groups, also where the last one is final
-groups_and_final :
-    Has (record base64_fields { concatenates = false }) (λ base.
-    HasOnlyWholeGroups base (codes "SGVsbG8="))
-    × Has base64_fields (λ base. HasOnlyWholeGroups base (codes "SGVsb") → ⊥)
-groups_and_final = (refl, one-over)
-
--- padding ends a text only where texts may not be concatenated
-final_group :
-    Has base64_fields (λ base. has_final base (codes "SGVsbG8=") ≡ false)
-    × Has (record base64_fields { concatenates = false }) (λ base.
-    (has_final base (codes "SGVsbG8=") ≡ true) × (has_final base (codes "SGVs") ≡ false))
-final_group = (refl, (refl, refl))
-
 -- `8` completes no group after `SGVsbG`, and there is no last one after `SGVs`
 nothing_completed :
     Has base64_fields (λ base. CompletesNothing base (codes "SGVsbG") (codes "8")
     × HasNoLastBytes base (codes "SGVs"))
 nothing_completed = (refl, refl)
-
--- the nine bytes start with two whole groups
-all_groups_read : Has base64_fields (λ base. (whole_len base 9 ≡ 8)
-    × ReadsAllGroups base (codes "SGVsbG8=S") 8)
-all_groups_read = (refl, λ _ bytes means. refl)
-
--- a group at 4 to 7
-abbrev kept_group : List ℕ → Kept
-kept_group bytes = record {
-  len = 8;
-  fault = None;
-  positions = 4 ∷ 5 ∷ 6 ∷ 7 ∷ replicate 4 0;
-  bytes = bytes ++ replicate 4 0;
-  count = 3;
-  ended = false;
-}
-
-groups_judged :
-    Has base64_fields (λ base. JudgesSound base (kept_group (codes "bG8=")) 4 (codes "lo"))
-    × Has base64_fields (λ base. JudgesFaulty base (kept_group (codes "!G8=")) 4 symbol_at_4)
-    × (next_group (kept_group (codes "bG8=")) 2 ≡ positioned_from 4 (codes "bG"))
-groups_judged = (λ _. (refl, refl), λ _. refl, refl)
-
--- in base64 without padding `bG8` is a last group, and `!G8` is not; a fault before it comes first
-ends_judged :
-    Has base64_nopad_fields (λ base. EndsSound base (kept_group (codes "bG8")) (codes "lo"))
-    × Has base64_nopad_fields (λ base. EndsFaulty base (kept_group (codes "!G8")) symbol_at_4)
-    × Has base64_nopad_fields (λ base.
-    fault_with_held base (kept_group (codes "!G8")) ≡ Some symbol_at_4)
-    × Has base64_nopad_fields (λ base.
-    fault_with_held base (record (kept_group (codes "bG8")) { fault = Some symbol_at_4 })
-    ≡ Some symbol_at_4)
-ends_judged = (λ _ _. (refl, refl), λ _ _. refl, refl, refl)
 
 pushed_by : (base : Base) (text : List ℕ) → Keeps base kept_so_far text
     → (decoder : Decoder) → base_of_decoder decoder ≡ base → decoder.pieces.kept ≡ kept_so_far
@@ -303,20 +231,17 @@ gone_on base pieces is kept_is = (record { base_is = is; kept_is = kept_is }, ke
 
 -- a piece of no bytes changes nothing
 no_piece : (base : Base) → ReadsOn base kept_so_far kept_so_far [] []
-    × AppendsPiece base kept_so_far kept_so_far [] (codes "> ") (codes "> ")
-no_piece base =
-    let reads : ReadsOn base kept_so_far kept_so_far [] [] = record {
-      keeps =
-          λ text keeps. subst (λ those. Keeps base kept_so_far those) (sym (append-nil text)) keeps;
-      decodes = λ text keeps.
-          ap (λ those. whole_bytes base those) (append-nil text)
-          ∙ sym (append-nil (whole_bytes base text));
-      counted = refl;
-      few = λ more.
-          subst (λ n. 0 + most_completed base kept_so_far more
-          ≤ most_completed base kept_so_far n) (sym (zero-add more)) (omega arith);
-    } in
-    (reads, record { bytes = []; reads = reads; appended = refl })
+no_piece base = record {
+  keeps = λ text keeps.
+      subst (λ those. Keeps base kept_so_far those) (sym (append-nil text)) keeps;
+  decodes = λ text keeps.
+      ap (λ those. whole_bytes base those) (append-nil text)
+      ∙ sym (append-nil (whole_bytes base text));
+  counted = refl;
+  few = λ more.
+      subst (λ n. 0 + most_completed base kept_so_far more
+      ≤ most_completed base kept_so_far n) (sym (zero-add more)) (omega arith);
+}
 
 -- after `SGVsbG`, of which `Hel` is decoded, `8=` appends `lo` to an output that was drained
 appended_more :
@@ -473,9 +398,6 @@ base_of_encoding : (base : Base) (encoder : BufferEncoder) → base_of_lent enco
     → (base_of_blocks encoder ≡ base) × (data_kept encoder ≡ data_so_far)
 base_of_encoding base encoder is kept_is = (is, kept_is)
 
-same-error : {one other : DecodeError} → Some one ≡ Some other → one ≡ other
-same-error is = cc
-
 -- what was read of a reader that has nothing left
 all-read : (bytes had left : List ℕ) → had ≡ bytes ++ left → left ≡ [] → bytes ≡ had
 all-read bytes had left read none =
@@ -589,14 +511,6 @@ appended_told : (output : List ℕ)
 appended_told output done =
     done.appended ∙ ap (λ bytes. codes "> " ++ bytes) (sym (ap (drop 3) done.decoded))
 
--- an output is as it was, with the same bytes and the same capacity
-as_before : {A : Type 0} (output : Vec ℕ A) → IsAsBefore output output
-as_before output = record { items = refl; capacity = refl }
-
-as_before_told : {A : Type 0} (old new : Vec ℕ A) → IsAsBefore old new
-    → (new.items ≡ old.items) × (vec_capacity new ≡ vec_capacity old)
-as_before_told old new same = (same.items, same.capacity)
-
 -- no whole block is held
 written_told :
     Has base64_fields (λ base. (bytes text : List ℕ)
@@ -622,15 +536,6 @@ gone_on_told : (base : Base) (pieces : BufferDecoder) → GoesOn base kept_so_fa
     → (base_of_lent pieces.encoding ≡ base) × (pieces.kept ≡ kept_so_far)
 gone_on_told base pieces goes = (goes.base_is, goes.kept_is)
 
--- a line end is ignored
-ignored_told : Has base64_mime_fields (λ base. NoneIgnored base (positioned_from 4 (13 ∷ [])) → ⊥)
-ignored_told none = never (none 0 (record { position = 0; byte = 0 }) (lit< tt))
-
--- six bytes, of which two are held, fill one group, which has three bytes
-groups_told : Has base64_fields (λ base. (written : ℕ) → FillsGroups base 2 4 2 written
-    → written ≤ 3)
-groups_told written fills = omega (arith, fills.symbols, fills.bytes)
-
 -- a text that is built from its own specification
 built_told : (base : Base) → IsBuiltAgain base → fields_of base ≡ base64_fields
     → base_of base64_fields ≡ Ok base
@@ -650,59 +555,11 @@ kept_last = record {
 last_kept : Has base64_nopad_fields (λ base. Keeps base kept_last (codes "SGVsbG8"))
 last_kept = record { counted = refl; first = refl; holds = λ h. refl; ends = λ h. refl }
 
--- what is held of it means `lo`
-ends_sound_told :
-    Has base64_nopad_fields (λ base. (bytes : List ℕ) → EndsSound base kept_last bytes
-    → bytes ≡ codes "lo")
-ends_sound_told bytes ends = sym (ends _ last_kept).1
-
--- the same text with a fault in its last group
-faulty_kept : Has base64_nopad_fields (λ base.
-    Keeps base (record kept_last { bytes = codes "!G8" ++ replicate 5 0 }) (codes "SGVs!G8"))
-faulty_kept = record { counted = refl; first = refl; holds = λ h. refl; ends = λ h. refl }
-
-ends_sound_refused :
-    Has base64_nopad_fields (λ base. (bytes : List ℕ)
-    → EndsSound base (record kept_last { bytes = codes "!G8" ++ replicate 5 0 }) bytes → ⊥)
-ends_sound_refused bytes ends = false≢true (sym (ap is_some (ends _ faulty_kept).0))
-
-ends_faulty_told :
-    Has base64_nopad_fields (λ base. (error : DecodeError)
-    → EndsFaulty base (record kept_last { bytes = codes "!G8" ++ replicate 5 0 }) error
-    → error ≡ symbol_at_4)
-ends_faulty_told error ends = sym (same-error (ends _ faulty_kept))
-
 -- its last group has the bytes `lo`, and these are written
 last_bytes_told :
     Has base64_nopad_fields (λ base. (bytes : List ℕ) → HasLastBytes base kept_last bytes
     → bytes ≡ codes "lo")
 last_bytes_told bytes has = sym (ap (drop 3) (has _ last_kept))
-
-last_appended_told :
-    Has base64_nopad_fields (λ base. (output : List ℕ)
-    → AppendsLast base kept_last (codes "> Hel") output → output ≡ codes "> Hello")
-last_appended_told output appends =
-    let done = appends _ last_kept in
-    done.appended ∙ ap (λ bytes. codes "> Hel" ++ bytes) (sym (ap (drop 3) done.decoded))
-
--- all of the last bytes unless a write failed, and else a prefix
-text_ended_by : (base : Base)
-    → ((bytes : List ℕ) → HasLastBytes base kept_last bytes → bytes ≡ codes "lo")
-    → (written : List ℕ)
-    → (EndsText base kept_last false (Some []) (Some written) → written ≡ codes "lo")
-    × (EndsText base kept_last true (Some []) (Some written)
-    → (count : ℕ) × (written ≡ take count (codes "lo")))
-text_ended_by base last written = (
-  λ ends. ends.all refl ∙ last ends.bytes ends.sound,
-  λ ends. (ends.begun.0, ends.begun.1 ∙ ap (take ends.begun.0) (last ends.bytes ends.sound)),
-)
-
-text_ended_told :
-    Has base64_nopad_fields (λ base. (written : List ℕ)
-    → (EndsText base kept_last false (Some []) (Some written) → written ≡ codes "lo")
-    × (EndsText base kept_last true (Some []) (Some written)
-    → (count : ℕ) × (written ≡ take count (codes "lo"))))
-text_ended_told = text_ended_by _ last_bytes_told
 
 -- `8=` ends the group that is held of `SGVsbG`, and means `lo` with it
 read_on_told :
@@ -717,45 +574,8 @@ read_on_told new bytes reads = (
   omega (arith, reads.few 0),
 )
 
-piece_told :
-    Has base64_mime_fields (λ base. (new : Kept) (output : List ℕ)
-    → AppendsPiece base kept_so_far new (codes "8=") (codes "> ") output
-    → output ≡ codes "> lo")
-piece_told new output appends =
-    appends.appended
-    ∙ ap (λ bytes. codes "> " ++ bytes)
-    (sym (ap (drop 3) (appends.reads.decodes _ kept_of_text.0)))
-
 three-of-five : ◌≡◌ {A = ℕ} 5 3 → ⊥
 three-of-five is = omega (arith, is)
-
--- five bytes are no whole groups, and where texts are not concatenated, nothing follows padding
-whole_told :
-    Has base64_fields (λ base. AreWholeGroups base (codes "SGVsb") → ⊥)
-    × Has (record base64_fields { concatenates = false }) (λ base.
-    AreWholeGroups base (codes "SGVsbG8=") → ⊥)
-whole_told = (λ whole. one-over whole.whole, λ whole. never whole.not_final)
-
-first_group_read : Has base64_fields (λ base. HasRead base (codes "SGVs") 4 None [] false)
-first_group_read = record { counted = refl; first = refl; holds = λ h. refl; ends = λ h. refl }
-
--- after `SGVs`, the groups of `bG8=` append `lo`, and eight bytes are read
-run_told :
-    Has base64_fields (λ base. (bytes : List ℕ) (fault : Option DecodeError)
-    → ReadsRun base (codes "bG8=") bytes fault
-    → HasRead base (codes "SGVsbG8=") 8 (further 4 fault) [] false × (bytes ≡ codes "lo"))
-run_told bytes fault reads =
-    let after = reads (codes "SGVs") 4 first_group_read in
-    (after.0, sym (ap (drop 3) after.1))
-
--- the same, and one of the groups may be final
-run_to_told :
-    Has base64_fields (λ base. (bytes : List ℕ) (fault : Option DecodeError) (ended : Bool)
-    → ReadsRunTo base (codes "bG8=") bytes fault ended
-    → HasRead base (codes "SGVsbG8=") 8 (further 4 fault) [] ended × (bytes ≡ codes "lo"))
-run_to_told bytes fault ended reads =
-    let after = reads (codes "SGVs") 4 first_group_read in
-    (after.0, sym (ap (drop 3) after.1))
 
 -- a whole group has bytes, and so has a last group
 bytes_told :
@@ -843,42 +663,3 @@ finished_told :
 finished_told decoder output is = finished_bytes decoder output
     (ap (λ base. whole_bytes base (codes "SGVsbG8")) is)
     (ap (λ base. sound_bytes base (codes "SGVsbG8")) is)
-
-none_of_group : Has base64_fields (λ base.
-    NoneIgnored base (next_group (kept_group (codes "bG8=")) 4))
-none_of_group zero k h = refl
-none_of_group (suc zero) k h = refl
-none_of_group (suc (suc zero)) k h = refl
-none_of_group (suc (suc (suc zero))) k h = refl
-none_of_group (suc (suc (suc (suc index)))) k h = absurd (omega (arith, h))
-
-none_of_faulty : Has base64_fields (λ base.
-    NoneIgnored base (next_group (kept_group (codes "!G8=")) 4))
-none_of_faulty zero k h = refl
-none_of_faulty (suc zero) k h = refl
-none_of_faulty (suc (suc zero)) k h = refl
-none_of_faulty (suc (suc (suc zero))) k h = refl
-none_of_faulty (suc (suc (suc (suc index)))) k h = absurd (omega (arith, h))
-
--- `bG8=` and `!G8=` as groups, of which no byte is ignored
-four_symbols : Has base64_fields (λ base.
-    NoneIgnored base (next_group (kept_group (codes "bG8=")) 4)
-    × NoneIgnored base (next_group (kept_group (codes "!G8=")) 4))
-four_symbols = (none_of_group, none_of_faulty)
-
-group_judged_told :
-    Has base64_fields (λ base. (bytes : List ℕ) (error : DecodeError)
-    → (JudgesSound base (kept_group (codes "bG8=")) 4 bytes → bytes ≡ codes "lo")
-    × (JudgesSound base (kept_group (codes "!G8=")) 4 bytes → ⊥)
-    × (JudgesFaulty base (kept_group (codes "!G8=")) 4 error → error ≡ symbol_at_4))
-group_judged_told bytes error = (
-  λ judges. sym (judges four_symbols.0).1,
-  λ judges. false≢true (sym (ap is_some (judges four_symbols.1).0)),
-  λ judges. sym (same-error (judges four_symbols.1)),
-)
-
--- whole groups of nine bytes that mean something are the first eight
-all_groups_told :
-    Has base64_fields (λ base. (read : ℕ) (bytes : List ℕ) → Means base (codes "SGVsbG8=") bytes
-    → ReadsAllGroups base (codes "SGVsbG8=S") read → read ≡ 8)
-all_groups_told read bytes means reads = reads refl bytes means
