@@ -47,27 +47,6 @@ pub(crate) fn append_piece<A: Allocator + Copy>(
     if piece.len() <= SHORT {
         return append_copied::<A, SHORT_ROOM>(pieces, piece, 0, output);
     }
-    append_chunks(pieces, piece, output)
-}
-
-// The same, with a part of the piece at a time.
-fn append_chunks<A: Allocator + Copy>(
-    pieces: &mut BufferDecoder<'_>,
-    piece: &[u8],
-    output: &mut Vec<u8, A>,
-) -> Result<(), AllocError>
-    requires limit { pieces.old.kept.len + length piece.now ≤ DECODE_LIMIT }
-    ensures base { base_of_pieces pieces.new ≡ base_of_pieces pieces.old }
-    ensures appends { OnOk result (AppendsPiece (base_of_pieces pieces.old) pieces.old.kept
-        pieces.new.kept piece.now output.old.items output.new.items) }
-    ensures unchanged { OnErr result (output.new.items ≡ output.old.items) }
-    ensures capacity { OnErr result (vec_capacity output.new ≡ vec_capacity output.old) }
-    ensures room { vec_len output.old + most_completed (base_of_pieces pieces.old)
-        pieces.old.kept (length piece.now) ≤ vec_capacity output.old → IsOk result }
-    ensures no_group { (text : List ℕ)
-        → Keeps (base_of_pieces pieces.old) pieces.old.kept text
-        → CompletesNothing (base_of_pieces pieces.old) text piece.now → IsOk result }
-{
     steps::pieces();
     let mut read = 0;
     while read < piece.len() {

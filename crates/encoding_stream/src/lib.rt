@@ -7,6 +7,7 @@
 
 mod append;
 mod blocks;
+mod bytes;
 mod decode_reader;
 mod decoder;
 mod encode_reader;

@@ -4,7 +4,7 @@ use Rattle.std.specs.Prelude.{OnErr}
 use Rattle.encoding_stream.specs.Pieces.{base_of_pieces, most_completed}
 use Rattle.encoding_stream.proofs.DecoderLemmas.{appends-next, appends-nothing, part-adds-none, room-both}
 use Rattle.encoding_stream.proofs.PieceLemmas.{is-specified}
-use Rattle.encoding_stream.proofs.append.append_chunks.Goals as goal
+use Rattle.encoding_stream.proofs.append.append_piece.Goals as goal
 
 pub loop-read-init : goal.loop-read-init
 loop-read-init g c =

@@ -2,7 +2,7 @@ use Rattle.std.proofs.Common.{◌≡◌, ◌+◌, ◌-◌, ◌<◌, ◌≤◌, �
 use Rattle.encoding_stream.specs.Appending.{IsAsBefore}
 use Rattle.encoding_stream.specs.Pieces.{base_of_pieces, most_completed}
 use Rattle.encoding_stream.specs.Reading.{AppendsPiece}
-use Rattle.encoding_stream.proofs.append.append_chunks.Given as goal
+use Rattle.encoding_stream.proofs.append.append_piece.Given as goal
 
 abbrev pub invariant-loop-read : goal.invariant-loop-read
 invariant-loop-read g l = record {
