@@ -1,24 +1,26 @@
 //! Callers of encodings by reference, which hold no tables of their own.
 
-ghost use Rattle.std.specs.Prelude.{◌≡◌, ℕ, ◌+◌, ◌<◌, ◌≤◌, List, ◌++◌, length, take, None, IfSome, IsSome, IsTrue};
+ghost use Rattle.std.specs.Prelude.{◌≡◌, ◌↔◌, ℕ, ◌+◌, ◌<◌, ◌≤◌, List, ◌++◌, length, take, None, Ok, IfSome, IsSome, IsTrue};
 ghost use Rattle.data_encoding.specs.Base.{group_symbols};
 ghost use Rattle.data_encoding.specs.Grammar.{Means};
-ghost use Rattle.data_encoding.specs.Lengths.{alignment};
+ghost use Rattle.data_encoding.specs.Lengths.{alignment, decoded_len};
 ghost use Rattle.data_encoding.specs.Pieces.{whole_bytes};
 ghost use Rattle.data_encoding.specs.Text.{text_of};
-ghost use Rattle.encoding_stream.specs.Blocks.{EncodesOn, HasWritten};
+ghost use Rattle.encoding_stream.specs.Blocks.{piece_text, text_of_blocks, EncodesOn, HasWritten};
 ghost use Rattle.encoding_stream.specs.Pieces.{Keeps};
 ghost use Rattle.encoding_stream.specs.Resume.{IsKept};
-ghost use Rattle.conformance.specs.Texts.{IsFaultOfAll};
+ghost use Rattle.conformance.specs.Texts.{IsFaultOfAll, MeansSome};
 
 use data_encoding::laws::fault_stays;
 use data_encoding::{DECODE_LIMIT, ENCODE_LIMIT, EncodingRef};
 use encoding_stream::{BufferDecoder, BufferEncoder, Kept, KeptData};
 
 /// Writes the text of data to a buffer of exactly its length, and returns whether the buffer had
-/// that length.
+/// that length and the data at most `ENCODE_LIMIT` bytes.
 pub fn encode_exactly(encoding: &EncodingRef<'_>, input: &[u8], output: &mut [u8]) -> bool
-    ensures { IsTrue result → output.new ≡ text_of encoding.now input.now }
+    ensures text { IsTrue result → output.new ≡ text_of encoding.now input.now }
+    ensures exact { IsTrue result ↔ ((length input.now ≤ ENCODE_LIMIT)
+        × (length output.old ≡ length (text_of encoding.now input.now))) }
 {
     if input.len() > ENCODE_LIMIT || encoding.encode_len(input.len()) != output.len() {
         return false;
@@ -28,10 +30,13 @@ pub fn encode_exactly(encoding: &EncodingRef<'_>, input: &[u8], output: &mut [u8
 }
 
 /// Decodes a text to the start of a buffer that has exactly the length that `decode_len` returns,
-/// and returns how many bytes it means, or `None` if the text has a fault or the buffer has another
-/// length.
+/// and returns how many bytes it means, or `None` if the text has a fault or more than
+/// `DECODE_LIMIT` bytes, or if the buffer has another length.
 pub fn decode_exactly(encoding: &EncodingRef<'_>, input: &[u8], output: &mut [u8]) -> Option<usize>
-    ensures { IfSome result (λ len. Means encoding.now input.now (take len output.new)) }
+    ensures means { IfSome result (λ len. Means encoding.now input.now (take len output.new)) }
+    ensures exact { IsSome result ↔ ((length input.now ≤ DECODE_LIMIT)
+        × (decoded_len encoding.now (length input.now) ≡ Ok (length output.old))
+        × MeansSome encoding.now input.now) }
 {
     if input.len() > DECODE_LIMIT || encoding.decode_len(input.len()) != Ok(output.len()) {
         return None;
@@ -110,8 +115,10 @@ pub fn encode_first(
     output: &mut [u8],
 ) -> Option<(usize, KeptData)>
     requires limit { length piece.now ≤ ENCODE_LIMIT }
-    ensures { IfSome result (λ first. HasWritten encoding.now first.1 piece.now
+    ensures encodes { IfSome result (λ first. HasWritten encoding.now first.1 piece.now
         (take first.0 output.new)) }
+    ensures fits { IsSome result
+        ↔ (length (text_of_blocks encoding.now piece.now) ≤ length output.old) }
 {
     let mut encoder = BufferEncoder::new_by_ref(encoding);
     if output.len() < encoder.due(piece.len()) {
@@ -134,6 +141,8 @@ pub fn encode_next(
     ensures encodes { IfSome result (λ next. EncodesOn encoding.now kept next.1 piece.now
         (take next.0 output.new)) }
     ensures refused { alignment encoding.now ≤ kept.count → result ≡ None }
+    ensures fits { IsSome result ↔ ((kept.count < alignment encoding.now)
+        × (length (piece_text encoding.now kept piece.now) ≤ length output.old)) }
 {
     let Some(mut encoder) = BufferEncoder::resumed_by_ref(encoding, kept) else {
         return None;

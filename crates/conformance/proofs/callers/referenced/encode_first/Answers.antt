@@ -1,9 +1,35 @@
-use Rattle.std.proofs.Common.{[], take, sym, subst}
-use Rattle.encoding_stream.specs.Blocks.{HasWritten}
+use Rattle.std.proofs.Common.{◌≡◌, ℕ, List, [], ◌∷◌, ◌++◌, length, take, refl, sym, ap, ◌∙◌, subst, arith}
+use Rattle.std.proofs.lemmas.Bool.{false≢true}
+use Rattle.data_encoding.specs.Base.{Base}
+use Rattle.encoding_stream.specs.declared.kept_data.KeptData.{KeptData}
+use Rattle.encoding_stream.specs.Blocks.{data_kept, held_data, piece_text, text_of_blocks, HasWritten}
 use Rattle.conformance.proofs.callers.referenced.encode_first.Goals as goal
 
-pub returns : goal.returns
-returns c =
+-- of no data, nothing is held
+none-held : (encoded held : List ℕ) → [] ≡ encoded ++ held → held ≡ []
+none-held [] held is = sym is
+none-held (byte ∷ bytes) held is = absurd (cc is)
+
+-- the text of the first piece is that of its blocks
+due-first : (base : Base) (kept : KeptData) (piece : List ℕ) (due : ℕ) → HasWritten base kept [] []
+    → length (piece_text base kept piece) ≡ due → length (text_of_blocks base piece) ≡ due
+due-first base kept piece due nothing is =
+    sym (ap (λ held. length (text_of_blocks base (held ++ piece)))
+    (none-held nothing.encoded (held_data kept) nothing.are_bytes))
+    ∙ is
+
+pub returns-then-output-due-clause-fits : goal.returns-then-output-due-clause-fits
+returns-then-output-due-clause-fits c =
+    let made = c.new_by_ref-encoder in
+    let piece = c.args.piece.now in
+    let due = due-first c.args.encoding.now (data_kept made.result) piece c.due.result
+    made.ensures.nothing (rw made.ensures.base at (c.due.ensures.value piece refl)) in (
+      (λ some. absurd (false≢true some)),
+      (λ fits. absurd (omega (arith, due, fits, c.if-output-due.true))),
+    )
+
+pub returns-clause-encodes : goal.returns-clause-encodes
+returns-clause-encodes c =
     let made = c.new_by_ref-encoder in
     let read = c.read-written in
     let encodes = rw made.ensures.base at read.ensures.encodes in
@@ -11,3 +37,11 @@ returns c =
     (λ kept. HasWritten c.args.encoding.now kept c.args.piece.now
     (take read.result read.new.output))
     (sym c.kept.ensures.value) (encodes [] [] made.ensures.nothing)
+
+pub returns-clause-fits : goal.returns-clause-fits
+returns-clause-fits c =
+    let made = c.new_by_ref-encoder in
+    let piece = c.args.piece.now in
+    let due = due-first c.args.encoding.now (data_kept made.result) piece c.due.result
+    made.ensures.nothing (rw made.ensures.base at (c.due.ensures.value piece refl)) in
+    ((λ _. omega (arith, due, c.if-output-due.false)), (λ _. refl))
