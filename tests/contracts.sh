@@ -2,7 +2,8 @@
 # Fails if docs/CONTRACTS.md is not what docs/contracts.py makes of the sources, docs/PROVED.md not what
 # docs/proved.py makes of that page, or a picture not what docs/pictures.py draws, and if a change would
 # not be found. Other pages have to agree: docs/COMING_FROM.md names no call that is not there,
-# docs/ARCHITECTURE.md names each file, and docs/DEFINITIONS.md each module.
+# docs/ARCHITECTURE.md names each file and has the ways that docs/ways.py counts, and
+# docs/DEFINITIONS.md names each module.
 . "$(dirname "$0")/common.bash" || exit 1
 
 # check FOLDER: whether the pages there are what the sources there say.
@@ -11,6 +12,9 @@ check() {
 }
 
 holds 'the pages are what the sources say' check .
+
+# The kit's row is printed where there is a kit.
+is 'docs/ARCHITECTURE.md has the ways that docs/ways.py counts' '' "$(docs/ways.py 2>&1 | grep -vxFf docs/ARCHITECTURE.md)"
 
 # copy: makes "$room/copy", which has what the pages are made of.
 copy() {
