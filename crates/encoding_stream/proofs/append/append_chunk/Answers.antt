@@ -17,6 +17,9 @@ append_in_place-requires-clause-room g c =
       c.len.ensures,
     )
 
+pub returns-then-most-capacity-clause-rest : goal.returns-then-most-capacity-clause-rest
+returns-then-most-capacity-clause-rest g c = c.append_in_place.ensures.rest c.args.rest
+
 pub returns-then-most-capacity-clause-grows : goal.returns-then-most-capacity-clause-grows
 returns-then-most-capacity-clause-grows g c =
     inr (λ _. c.append_in_place.ensures.rest c.args.rest

@@ -1,4 +1,4 @@
-use Rattle.std.proofs.lemmas.List.Elements.{All-contains}
+use Rattle.std.proofs.lemmas.List.Elements.{All-contains, All-weaker}
 use Rattle.std.proofs.Common.{All, set, ◌<◌, ◌≡◌, ◌+◌, ◌∙◌, arith, refl, ap, sym, subst, [], ◌∷◌, take, length-take-le}
 use Rattle.data_encoding.specs.Base.{is_ignored}
 use Rattle.encoding_stream.specs.declared.pieces.BufferDecoder.{BufferDecoder}
@@ -94,6 +94,22 @@ returns-in-Err-clause-reads c =
     ∙ sym c.is_ignored.ensures ∙ c.if-is_ignored.false)
     s.size (omega (arith, s.short, c.if-index-self.false)) c.pieces.ensures.group s.group
     c.in-Err.error c.in-Err.ensures.fault
+
+pub invariant_of-self-then-is_ignored-clause-inside :
+    goal.invariant_of-self-then-is_ignored-clause-inside
+invariant_of-self-then-is_ignored-clause-inside c =
+    let s = c.args.self.now in
+    All-weaker (λ p. p < s.kept.len) (λ p. p < s.kept.len + 1) (λ p k. omega (arith, k))
+    (take s.kept.count s.kept.positions) s.inside
+
+pub invariant_of-self-then-is_ignored-clause-fault_inside :
+    goal.invariant_of-self-then-is_ignored-clause-fault_inside
+invariant_of-self-then-is_ignored-clause-fault_inside c =
+    no-fault-inside c.args.self.now.kept _ (sym c.is_some.ensures ∙ c.if-is_some.false)
+
+pub invariant_of-self-2-clause-fault_inside : goal.invariant_of-self-2-clause-fault_inside
+invariant_of-self-2-clause-fault_inside c =
+    no-fault-inside c.args.self.now.kept _ (sym c.is_some.ensures ∙ c.if-is_some.false)
 
 pub invariant_of-self-then-index-self-clause-fault_inside :
     goal.invariant_of-self-then-index-self-clause-fault_inside
