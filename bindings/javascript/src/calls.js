@@ -51,7 +51,7 @@ function callsBy(kind) {
 }
 
 const BY_NUMBER = callsBy("numbered");
-const BY_TABLES = callsBy("held");
+const BY_TABLES = callsBy("custom");
 
 /** The encoding whose tables are on the desk. */
 let onDesk;
