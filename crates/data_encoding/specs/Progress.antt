@@ -1,6 +1,9 @@
 -- How far a text is decoded.
 use Rattle.std.specs.Prelude.{◌≡◌, ℕ, ◌≤◌, false, List, length, drop, Ok}
+use Rattle.data_encoding.specs.declared.decode.entries.Entries.{Entries}
 use Rattle.data_encoding.specs.declared.decode.progress.Progress.{Progress}
+use Rattle.data_encoding_kernel.specs.Tables.{Reads}
+use Rattle.data_encoding_meaning.specs.declared.encoding.BitOrder.{BitOrder}
 use Rattle.data_encoding_meaning.specs.declared.limits.TheConstants.{DECODE_LIMIT}
 use Rattle.data_encoding_meaning.specs.text.Base.{Base}
 use Rattle.data_encoding_meaning.specs.text.Lengths.{decoded_len}
@@ -10,6 +13,12 @@ use Rattle.data_encoding_meaning.specs.decoding.Decoding.{HasDecodedTo, IsIgnore
 pub record HasExactOutput (base : Base) (text output : List ℕ) : Type 0 where
   pub limit : length text ≤ DECODE_LIMIT
   pub len : decoded_len base (length text) ≡ Ok (length output)
+
+-- The base decodes with these entries, this width and order, and the look-up has the entries.
+pub record ReadsBy {L : Type 0} (holds : List ℕ → L → Type 0) (base : Base)
+    (entries : Entries L) (width : ℕ) (order : BitOrder) : Type 0 where
+  pub reads : Reads base entries.values.now width order
+  pub held : holds entries.values.now entries.look_up.now
 
 -- A text is decoded up to a position, and this many ignored bytes follow.
 pub record HasReached (base : Base) (text : List ℕ) (at : Progress) (output : List ℕ)

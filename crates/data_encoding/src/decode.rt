@@ -1,6 +1,7 @@
 //! From text to data.
 
 pub(crate) mod blocks;
+pub(crate) mod entries;
 pub(crate) mod group;
 pub(crate) mod length;
 pub(crate) mod next_group;

@@ -5,11 +5,12 @@ ghost use Rattle.std.specs.Prelude.{◌≡◌, ℕ, List, ◌+◌, ◌-◌, ◌*
 ghost use Rattle.data_encoding_meaning.specs.text.Base.{Base};
 ghost use Rattle.data_encoding_meaning.specs.text.Grammar.{kept};
 ghost use Rattle.data_encoding_kernel.specs.Ignore.{HoldsIgnored};
-ghost use Rattle.data_encoding_kernel.specs.Tables.{HoldsValues, Reads};
+ghost use Rattle.data_encoding_kernel.specs.Tables.{HoldsValues};
 ghost use Rattle.data_encoding.specs.Blocks.{EndsBefore, IsPacking, PacksOn};
-ghost use Rattle.data_encoding.specs.Progress.{GoesOn, HasReached};
+ghost use Rattle.data_encoding.specs.Progress.{GoesOn, HasReached, ReadsBy};
 
 use crate::decode::DECODE_LIMIT;
+use crate::decode::entries::Entries;
 use crate::decode::progress::Progress;
 use crate::encoding::{BitOrder, EncodingRef, IGNORED};
 use data_encoding_kernel::decode::decode_run_within;
@@ -107,6 +108,10 @@ impl EncodingRef<'_> {
     {
         let values = &self.fields.values.entries;
         let look_up = L::of(&self.fields.values);
+        let entries = Entries {
+            values,
+            look_up: &look_up,
+        };
         let ignored = IgnoredBytes::of(values);
         let mut now = Packing {
             start: at.read,
@@ -119,7 +124,7 @@ impl EncodingRef<'_> {
         for _ in 0..input.len() {
             let span = len.min(input.len() - now.read);
             let (next, mixed) = pack_next(&ignored, span, now, input, room);
-            now = self.decode_packed::<L, O, G>(values, &look_up, next, input, room, output);
+            now = self.decode_packed::<L, O, G>(entries, next, input, room, output);
             let is_last = now.read == input.len() || mixed * MIXED < span;
             if is_last || now.end - now.first >= G::SYMBOLS {
                 break;
@@ -133,23 +138,21 @@ impl EncodingRef<'_> {
     #[inline(always)]
     fn decode_packed<L: LookUp, O: ConstantOrder, G: GroupSize>(
         &self,
-        values: &[u8; 256],
-        look_up: &L,
+        entries: Entries<'_, L>,
         at: Packing,
         input: &[u8],
         room: &[u8],
         output: &mut [u8],
     ) -> Packing
-        requires reads { Reads self.now values.now G.WIDTH O.ORDER }
-        requires held { L.holds values.now look_up.now }
+        requires entries { ReadsBy L.holds self.now entries G.WIDTH O.ORDER }
         requires packing { IsPacking self.now input.now room.now at output.old }
         ensures { PacksOn self.now input.now room.now at result output.new }
     {
         let mut now = at;
         for _ in 0..at.end {
             let count = decode_run_within::<L, O, G>(
-                values,
-                look_up,
+                entries.values,
+                entries.look_up,
                 &room[now.first..],
                 now.end - now.first,
                 &mut output[now.written..],

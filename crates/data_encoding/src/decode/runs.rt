@@ -1,10 +1,10 @@
 //! Runs of whole groups of symbols only, decoded where they stand.
 
 ghost use Rattle.std.specs.Prelude.{◌≡◌, ◌-◌, ◌+◌, ◌%◌, ◌<◌, ◌≤◌, length};
-ghost use Rattle.data_encoding_kernel.specs.Tables.{Reads};
-ghost use Rattle.data_encoding.specs.Progress.{GoesOn, HasReached};
+ghost use Rattle.data_encoding.specs.Progress.{GoesOn, HasReached, ReadsBy};
 
 use crate::decode::DECODE_LIMIT;
+use crate::decode::entries::Entries;
 use crate::decode::next_group::ignored_front;
 use crate::decode::padded::is_padded_next;
 use crate::decode::progress::{Progress, after_run};
@@ -24,89 +24,78 @@ impl EncodingRef<'_> {
     #[inline(always)]
     pub(crate) fn decode_runs<L: LookUp, O: ConstantOrder, G: GroupSize>(
         &self,
-        values: &[u8; 256],
-        look_up: &L,
+        entries: Entries<'_, L>,
         is_short: &mut bool,
         at: Progress,
         input: &[u8],
         output: &mut [u8],
     ) -> Progress
-        requires reads { Reads self.now values.now G.WIDTH O.ORDER }
-        requires held { L.holds values.now look_up.now }
+        requires entries { ReadsBy L.holds self.now entries G.WIDTH O.ORDER }
         requires at { HasReached self.now input.now at output.old }
         ensures { GoesOn self.now input.now at.read result output.new }
     {
         let packs = has_lanes() && self.fields.ignores && !*is_short;
         *is_short = false;
-        if is_padded_next::<G>(values, at, input) {
+        if is_padded_next::<G>(entries.values, at, input) {
             return at;
         }
         let mut at = at;
         if has_lanes() && input.len() - at.read - at.ignored >= 16 * G::SYMBOLS {
-            at = self.decode_runs_by_turns::<L, O, G>(
-                values, look_up, packs, is_short, at, input, output,
+            let (next, stops) = self.decode_runs_by_turns::<L, O, G>(
+                entries, packs, at, input, output,
             );
-            if *is_short || input.len() - at.read - at.ignored >= 16 * G::SYMBOLS {
+            at = next;
+            *is_short = stops;
+            if stops || input.len() - at.read - at.ignored >= 16 * G::SYMBOLS {
                 return at;
             }
         }
-        at = self.decode_runs_one_by_one::<L, O, G>(
-            values,
-            look_up,
-            input.len(),
-            at,
-            input,
-            output,
-        );
-        *is_short = packs && is_broken_next::<G>(values, at, input);
+        at = self.decode_runs_one_by_one::<L, O, G>(entries, input.len(), at, input, output);
+        *is_short = packs && is_broken_next::<G>(entries.values, at, input);
         at
     }
 
     // Decodes runs by turns of eight groups, while the text has two turns or more. With `packs`, a
     // run may be short, and then it is not decoded if what follows it may be decoded by blocks.
+    // Also returns whether it stopped before such a run.
     // Not inlined, so that shorter texts do not pay for the stack that turns take.
     #[inline(never)]
     fn decode_runs_by_turns<L: LookUp, O: ConstantOrder, G: GroupSize>(
         &self,
-        values: &[u8; 256],
-        look_up: &L,
+        entries: Entries<'_, L>,
         packs: bool,
-        is_short: &mut bool,
         at: Progress,
         input: &[u8],
         output: &mut [u8],
-    ) -> Progress
-        requires reads { Reads self.now values.now G.WIDTH O.ORDER }
-        requires held { L.holds values.now look_up.now }
+    ) -> (Progress, bool)
+        requires entries { ReadsBy L.holds self.now entries G.WIDTH O.ORDER }
         requires at { HasReached self.now input.now at output.old }
-        ensures { GoesOn self.now input.now at.read result output.new }
+        ensures { GoesOn self.now input.now at.read result.0 output.new }
     {
         let mut at = at;
         let mut packs = packs;
         for _ in 0..input.len() {
-            if input.len() - at.read - at.ignored < 16 * G::SYMBOLS {
+            let left = input.len() - at.read - at.ignored;
+            if left < 16 * G::SYMBOLS {
                 break;
             }
-            let most = input.len() - at.read - at.ignored;
-            let next = self.decode_run_by_turns::<L, O, G>(
-                values, look_up, 0, most, at, input, output,
-            );
+            let most = left - left % G::SYMBOLS;
+            let next = self.decode_run_by_turns::<L, O, G>(entries, most, at, input, output);
             let len = (next.read - at.read).saturating_sub(at.ignored);
-            if packs && is_short_run::<G>(values, len, next, input) {
-                *is_short = true;
-                break;
+            if packs && is_short_run::<G>(entries.values, len, next, input) {
+                return (at, true);
             }
             at = next;
             if len == 0 || at.ignored == 0 {
                 break;
             }
-            at = self.decode_runs_like::<L, O, G>(values, look_up, len, at, input, output);
+            at = self.decode_runs_like::<L, O, G>(entries, len, at, input, output);
             if at.ignored == 0 {
                 break;
             }
             packs = self.fields.ignores;
         }
-        at
+        (at, false)
     }
 
     // Decodes further runs of this length, as long as a byte is ignored where one would end, and
@@ -114,15 +103,13 @@ impl EncodingRef<'_> {
     #[inline(always)]
     fn decode_runs_like<L: LookUp, O: ConstantOrder, G: GroupSize>(
         &self,
-        values: &[u8; 256],
-        look_up: &L,
+        entries: Entries<'_, L>,
         len: usize,
         at: Progress,
         input: &[u8],
         output: &mut [u8],
     ) -> Progress
-        requires reads { Reads self.now values.now G.WIDTH O.ORDER }
-        requires held { L.holds values.now look_up.now }
+        requires entries { ReadsBy L.holds self.now entries G.WIDTH O.ORDER }
         requires at { HasReached self.now input.now at output.old }
         requires whole { len % G.SYMBOLS ≡ 0 }
         requires few { len ≤ length input.now }
@@ -131,10 +118,10 @@ impl EncodingRef<'_> {
         let mut at = at;
         for _ in 0..input.len() {
             let end = at.read + at.ignored + len;
-            if end >= input.len() || entry_of(values, input[end]) != IGNORED {
+            if end >= input.len() || entry_of(entries.values, input[end]) != IGNORED {
                 break;
             }
-            at = self.decode_run_by_turns::<L, O, G>(values, look_up, len, len, at, input, output);
+            at = self.decode_run_by_turns::<L, O, G>(entries, len, at, input, output);
             if at.read != end {
                 break;
             }
@@ -142,22 +129,19 @@ impl EncodingRef<'_> {
         at
     }
 
-    // Decodes a run by turns of eight groups, up to a length. It may have the length `len`.
+    // Decodes a run by turns of eight groups, up to a length, which is that of whole groups.
     #[inline(always)]
     fn decode_run_by_turns<L: LookUp, O: ConstantOrder, G: GroupSize>(
         &self,
-        values: &[u8; 256],
-        look_up: &L,
-        len: usize,
+        entries: Entries<'_, L>,
         most: usize,
         at: Progress,
         input: &[u8],
         output: &mut [u8],
     ) -> Progress
-        requires reads { Reads self.now values.now G.WIDTH O.ORDER }
-        requires held { L.holds values.now look_up.now }
+        requires entries { ReadsBy L.holds self.now entries G.WIDTH O.ORDER }
         requires at { HasReached self.now input.now at output.old }
-        requires whole { len % G.SYMBOLS ≡ 0 }
+        requires whole { most % G.SYMBOLS ≡ 0 }
         requires most { at.read + at.ignored + most ≤ length input.now }
         ensures on { GoesOn self.now input.now at.read result output.new }
         ensures past { at.read < result.read → at.read + at.ignored ≤ result.read }
@@ -165,12 +149,13 @@ impl EncodingRef<'_> {
         ensures before { HasReached self.now input.now at output.new }
     {
         let rest = &input[at.read + at.ignored..];
-        let count = decode_by_turns::<L, O, G>(look_up, rest, most, &mut output[at.written..]);
+        let room = &mut output[at.written..];
+        let count = decode_by_turns::<L, O, G>(entries.look_up, rest, most, room);
         // The next position does not wait for the count if the run has that length.
-        if count == len {
-            return after_run::<G>(values, len, at, input);
+        if count == most {
+            return after_run::<G>(entries.values, most, at, input);
         }
-        after_run::<G>(values, count - count % G::SYMBOLS, at, input)
+        after_run::<G>(entries.values, count - count % G::SYMBOLS, at, input)
     }
 
     /// Decodes runs one by one, as many as this at most, as long as bytes are ignored after them.
@@ -178,26 +163,24 @@ impl EncodingRef<'_> {
     #[inline(always)]
     pub(crate) fn decode_runs_one_by_one<L: LookUp, O: ConstantOrder, G: GroupSize>(
         &self,
-        values: &[u8; 256],
-        look_up: &L,
+        entries: Entries<'_, L>,
         most: usize,
         at: Progress,
         input: &[u8],
         output: &mut [u8],
     ) -> Progress
-        requires reads { Reads self.now values.now G.WIDTH O.ORDER }
-        requires held { L.holds values.now look_up.now }
+        requires entries { ReadsBy L.holds self.now entries G.WIDTH O.ORDER }
         requires at { HasReached self.now input.now at output.old }
         ensures { GoesOn self.now input.now at.read result output.new }
     {
         let mut at = at;
         for _ in 0..most {
             let read = at.read;
-            at = self.decode_run_after_ignored::<L, O, G>(values, look_up, at, input, output);
+            at = self.decode_run_after_ignored::<L, O, G>(entries, at, input, output);
             if at.read == read {
                 break;
             }
-            at.ignored = ignored_front(values, &input[at.read..]);
+            at.ignored = ignored_front(entries.values, &input[at.read..]);
             if at.ignored == 0 || at.read + at.ignored == input.len() {
                 break;
             }
@@ -210,14 +193,12 @@ impl EncodingRef<'_> {
     #[inline(always)]
     pub(crate) fn decode_run_after_ignored<L: LookUp, O: ConstantOrder, G: GroupSize>(
         &self,
-        values: &[u8; 256],
-        look_up: &L,
+        entries: Entries<'_, L>,
         at: Progress,
         input: &[u8],
         output: &mut [u8],
     ) -> Progress
-        requires reads { Reads self.now values.now G.WIDTH O.ORDER }
-        requires held { L.holds values.now look_up.now }
+        requires entries { ReadsBy L.holds self.now entries G.WIDTH O.ORDER }
         requires at { HasReached self.now input.now at output.old }
         ensures on { GoesOn self.now input.now at.read result output.new }
         ensures past { at.read < result.read → at.read + at.ignored ≤ result.read }
@@ -225,8 +206,8 @@ impl EncodingRef<'_> {
     {
         let start = at.read + at.ignored;
         let count = decode_run::<L, O, G>(
-            values,
-            look_up,
+            entries.values,
+            entries.look_up,
             &input[start..],
             &mut output[at.written..],
         );

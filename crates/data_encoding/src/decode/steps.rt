@@ -3,13 +3,13 @@
 ghost use Rattle.std.specs.Prelude.{◌≡◌, ℕ, List, true, false, ◌≤◌, length};
 ghost use Rattle.data_encoding_meaning.specs.text.Base.{ignores_some};
 ghost use Rattle.data_encoding_meaning.specs.decoding.Decoding.{HasDecodedTo};
-ghost use Rattle.data_encoding_kernel.specs.Tables.{Reads};
-ghost use Rattle.data_encoding.specs.Progress.{HasExactOutput, HasReached};
+ghost use Rattle.data_encoding.specs.Progress.{HasExactOutput, HasReached, ReadsBy};
 ghost use Rattle.data_encoding.specs.Steps.{HasEnded, HasStepped};
 
 use crate::decode::Stop;
+use crate::decode::entries::Entries;
 use crate::decode::progress::{Progress, progress_at};
-use crate::encoding::{BitOrder, EncodingRef};
+use crate::encoding::EncodingRef;
 use crate::error::DecodeKind;
 use data_encoding_kernel::group_size::GroupSize;
 use data_encoding_kernel::lanes::look_up::LookUp;
@@ -34,33 +34,31 @@ impl EncodingRef<'_> {
     #[inline(always)]
     pub(crate) fn decode_steps<L: LookUp, O: ConstantOrder, G: GroupSize>(
         &self,
-        values: &[u8; 256],
-        look_up: &L,
+        entries: Entries<'_, L>,
         input: &[u8],
         output: &mut [u8],
         stop: &mut Stop,
     ) -> bool
-        requires reads { Reads self.now values.now G.WIDTH O.ORDER }
-        requires held { L.holds values.now look_up.now }
+        requires entries { ReadsBy L.holds self.now entries G.WIDTH O.ORDER }
         requires exact { HasExactOutput self.now input.now output.old }
         requires so_far { HasDecodedTo self.now input.now stop.old.read stop.old.written false
             output.old }
         ensures { HasEnded self.now input.now output.new stop.new result }
     {
         let mut is_short = false;
-        let mut at = progress_at(values, stop.read, stop.written, input);
+        let mut at = progress_at(entries.values, stop.read, stop.written, input);
         while at.read + at.ignored < input.len() {
-            at = self.decode_runs::<L, O, G>(values, look_up, &mut is_short, at, input, output);
+            at = self.decode_runs::<L, O, G>(entries, &mut is_short, at, input, output);
             if is_short {
                 at = self.decode_by_blocks::<L, O, G>(at, input, output);
             }
             let read = at.read;
-            at = self.decode_padded::<O, G>(values, at, input, output);
+            at = self.decode_padded::<O, G>(entries.values, at, input, output);
             if at.read > read {
                 continue;
             }
-            match self.decode_next::<G>(O::ORDER, self.fields.ignores, at, input, output, stop) {
-                Step::More => at = progress_at(values, stop.read, stop.written, input),
+            match self.decode_next::<O, G>(self.fields.ignores, at, input, output, stop) {
+                Step::More => at = progress_at(entries.values, stop.read, stop.written, input),
                 Step::Ended => return true,
                 Step::Faulty => return false,
             }
@@ -72,9 +70,8 @@ impl EncodingRef<'_> {
     /// Decodes the group after what was read, and judges it alone.
     // The caller makes the error, since a result with room for one makes short texts slower.
     #[inline(always)]
-    pub(crate) fn decode_next<G: GroupSize>(
+    pub(crate) fn decode_next<O: ConstantOrder, G: GroupSize>(
         &self,
-        order: BitOrder,
         ignores: bool,
         at: Progress,
         input: &[u8],
@@ -82,7 +79,7 @@ impl EncodingRef<'_> {
         stop: &mut Stop,
     ) -> Step
         requires width { self.now.width ≡ G.WIDTH }
-        requires order { self.now.order ≡ order }
+        requires order { self.now.order ≡ O.ORDER }
         requires ignores { ignores ≡ ignores_some self.now }
         requires at { HasReached self.now input.now at output.old }
         ensures { HasStepped self.now input.now at.read output.new stop.new result }
@@ -99,7 +96,7 @@ impl EncodingRef<'_> {
             return Step::Ended;
         }
         let rest = &mut output[at.written..];
-        let count = match self.decode_group::<G>(order, group.bytes, rest) {
+        let count = match self.decode_group::<G>(O::ORDER, group.bytes, rest) {
             Ok(count) => count,
             Err(fault) => {
                 *stop = Stop::new(at.read, at.written, fault.index, fault.kind);

@@ -7,6 +7,7 @@ ghost use Rattle.data_encoding.specs.Progress.{HasExactOutput};
 ghost use Rattle.data_encoding.specs.Steps.{HasEnded};
 
 use crate::decode::Stop;
+use crate::decode::entries::Entries;
 use crate::decode::progress::START;
 use crate::decode::steps::Step;
 use crate::encoding::{BitOrder, EncodingRef};
@@ -92,14 +93,12 @@ impl EncodingRef<'_> {
             return self.decode_ignoring::<L, O, G>(input, output, stop);
         }
         let look_up = L::of(&self.fields.values);
-        let at = self.decode_run_after_ignored::<L, O, G>(
-            &self.fields.values.entries,
-            &look_up,
-            START,
-            input,
-            output,
-        );
-        match self.decode_next::<G>(O::ORDER, false, at, input, output, stop) {
+        let entries = Entries {
+            values: &self.fields.values.entries,
+            look_up: &look_up,
+        };
+        let at = self.decode_run_after_ignored::<L, O, G>(entries, START, input, output);
+        match self.decode_next::<O, G>(false, at, input, output, stop) {
             Step::More if stop.read == input.len() => true,
             Step::More => self.decode_rest::<L, O, G>(input, output, stop),
             Step::Ended => true,
@@ -126,11 +125,12 @@ impl EncodingRef<'_> {
             stop.written = 0;
             return self.decode_rest::<L, O, G>(input, output, stop);
         }
-        let values = &self.fields.values.entries;
         let look_up = L::of(&self.fields.values);
-        let at = self.decode_runs_one_by_one::<L, O, G>(
-            values, &look_up, FEW_RUNS, START, input, output,
-        );
+        let entries = Entries {
+            values: &self.fields.values.entries,
+            look_up: &look_up,
+        };
+        let at = self.decode_runs_one_by_one::<L, O, G>(entries, FEW_RUNS, START, input, output);
         stop.read = at.read;
         stop.written = at.written;
         if at.read + at.ignored == input.len() {
@@ -155,7 +155,11 @@ impl EncodingRef<'_> {
         ensures { HasEnded self.now input.now output.new stop.new result }
     {
         let look_up = L::of(&self.fields.values);
-        self.decode_steps::<L, O, G>(&self.fields.values.entries, &look_up, input, output, stop)
+        let entries = Entries {
+            values: &self.fields.values.entries,
+            look_up: &look_up,
+        };
+        self.decode_steps::<L, O, G>(entries, input, output, stop)
     }
 }
 

@@ -11,11 +11,14 @@ pub overflow_mul-BYTES : goal.overflow_mul-BYTES
 overflow_mul-BYTES g c =
     record { fits = omega (arith, bytes-are g.G.GroupSize.is_group, c.BYTES.ensures) }
 
-pub decode_runs_one_by_one-at-requires-clause-reads :
-    goal.decode_runs_one_by_one-at-requires-clause-reads
-decode_runs_one_by_one-at-requires-clause-reads g c =
-    Reads-seen _ c.self.invariant c.args.self.now c.self.view_is g.G.GroupSize.WIDTH
-    g.O.ConstantOrder.ORDER c.requires.width c.requires.order
+pub decode_runs_one_by_one-at-requires-clause-entries :
+    goal.decode_runs_one_by_one-at-requires-clause-entries
+decode_runs_one_by_one-at-requires-clause-entries g c =
+    record {
+      reads = Reads-seen _ c.self.invariant c.args.self.now c.self.view_is g.G.GroupSize.WIDTH
+          g.O.ConstantOrder.ORDER c.requires.width c.requires.order;
+      held = c.of-look_up.ensures;
+    }
 
 pub decode_runs_one_by_one-at-requires-clause-at : goal.decode_runs_one_by_one-at-requires-clause-at
 decode_runs_one_by_one-at-requires-clause-at g c = record {

@@ -23,14 +23,18 @@ loop-init g c = record {
   fits = omega (arith, c.requires.room);
 }
 
-pub decode_packed-now-requires-clause-reads : goal.decode_packed-now-requires-clause-reads
-decode_packed-now-requires-clause-reads g c =
-    Reads-seen _ c.self.invariant c.args.self.now c.self.view_is g.G.GroupSize.WIDTH
-    g.O.ConstantOrder.ORDER c.requires.width c.requires.order
+pub decode_packed-now-requires-clause-entries : goal.decode_packed-now-requires-clause-entries
+decode_packed-now-requires-clause-entries g c =
+    record {
+      reads = Reads-seen _ c.self.invariant c.args.self.now c.self.view_is g.G.GroupSize.WIDTH
+          g.O.ConstantOrder.ORDER c.requires.width c.requires.order;
+      held = c.of-look_up.ensures;
+    }
 
 pub decode_packed-now-requires-clause-packing : goal.decode_packed-now-requires-clause-packing
 decode_packed-now-requires-clause-packing g c =
-    let reads = decode_packed-now-requires-clause-reads g c in
+    let reads = Reads-seen _ c.self.invariant c.args.self.now c.self.view_is g.G.GroupSize.WIDTH
+    g.O.ConstantOrder.ORDER c.requires.width c.requires.order in
     c.pack_next-mixed.ensures.packing c.args.self.now
     (c.of-ignored.ensures c.args.self.now reads.holds (ascii-seen _ c.self.invariant c.args.self.now
     c.self.view_is))

@@ -10,29 +10,29 @@ use Rattle.data_encoding.proofs.encoding.EncodingRef.decode_run_after_ignored.Go
 
 pub decode_run-count-requires-clause-room : goal.decode_run-count-requires-clause-room
 decode_run-count-requires-clause-room g c =
-    room-next_run (under_way g.G.GroupSize.is_group c.requires.reads.width_is c.requires.at.exact
+    room-next_run (under_way g.G.GroupSize.is_group c.requires.entries.reads.width_is c.requires.at.exact
     c.requires.at.so_far) c.requires.at.front
 
 pub overflow_mul-result-2 : goal.overflow_mul-result-2
 overflow_mul-result-2 g c =
     let group = IsGroup-same refl c.BYTES.ensures c.SYMBOLS.ensures g.G.GroupSize.is_group in
-    let now = after_run (under_way group c.requires.reads.width_is c.requires.at.exact
+    let now = after_run (under_way group c.requires.entries.reads.width_is c.requires.at.exact
     c.requires.at.so_far) c.requires.at.front c.decode_run-count.auto.output
-    (c.decode_run-count.ensures.run c.args.self.now c.requires.reads) (omega arith) in
+    (c.decode_run-count.ensures.run c.args.self.now c.requires.entries.reads) (omega arith) in
     record { fits = omega (arith, written-few now, c.requires.at.exact.limit) }
 
 pub overflow_add-result-2 : goal.overflow_add-result-2
 overflow_add-result-2 g c =
     let group = IsGroup-same refl c.BYTES.ensures c.SYMBOLS.ensures g.G.GroupSize.is_group in
-    let now = after_run (under_way group c.requires.reads.width_is c.requires.at.exact
+    let now = after_run (under_way group c.requires.entries.reads.width_is c.requires.at.exact
     c.requires.at.so_far) c.requires.at.front c.decode_run-count.auto.output
-    (c.decode_run-count.ensures.run c.args.self.now c.requires.reads) (omega arith) in
+    (c.decode_run-count.ensures.run c.args.self.now c.requires.entries.reads) (omega arith) in
     record { fits = omega (arith, written-few now, c.requires.at.exact.limit) }
 
 pub returns-then-count-eq0-clause-on : goal.returns-then-count-eq0-clause-on
 returns-then-count-eq0-clause-on g c =
     let at = c.requires.at in
-    let now = under_way g.G.GroupSize.is_group c.requires.reads.width_is at.exact at.so_far in
+    let now = under_way g.G.GroupSize.is_group c.requires.entries.reads.width_is at.exact at.so_far in
     goes-nowhere (record {
       exact = exact-same at.exact (length-rewritten_same c.args.at.written c.args.output.now
           c.decode_run-count.new.output at.so_far.fits c.decode_run-count.auto.output);
@@ -44,13 +44,13 @@ pub returns-clause-on : goal.returns-clause-on
 returns-clause-on g c =
     let at = c.requires.at in
     let group = IsGroup-same refl c.BYTES.ensures c.SYMBOLS.ensures g.G.GroupSize.is_group in
-    let now = under_way group c.requires.reads.width_is at.exact at.so_far in
+    let now = under_way group c.requires.entries.reads.width_is at.exact at.so_far in
     record {
       reached = record {
         exact = exact-same at.exact (length-rewritten_same c.args.at.written c.args.output.now
             c.decode_run-count.new.output at.so_far.fits c.decode_run-count.auto.output);
         so_far = (after_run now at.front c.decode_run-count.auto.output
-            (c.decode_run-count.ensures.run c.args.self.now c.requires.reads) (omega arith)).so_far;
+            (c.decode_run-count.ensures.run c.args.self.now c.requires.entries.reads) (omega arith)).so_far;
         front = no_front c.args.self.now _;
       };
       further = omega arith;

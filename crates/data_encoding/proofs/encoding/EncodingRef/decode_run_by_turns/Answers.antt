@@ -20,20 +20,20 @@ first : (g : Over) (c : After-after_run g) → HasTurned c.args.self.now c.args.
 first g c =
     let size = g.G.GroupSize.SYMBOLS in
     let pos = (IsWhole-same refl refl g.G.GroupSize.is_group).some_symbols in
-    let whole : c.args.len ≡ c.decode_by_turns-count.result / size * size =
+    let whole : c.args.most ≡ c.decode_by_turns-count.result / size * size =
     omega (
       arith,
-      div-add-mod' c.args.len size,
+      div-add-mod' c.args.most size,
       c.requires.whole,
-      ap (λ n. n / size * size) c.if-count-len.true,
+      ap (λ n. n / size * size) c.if-count-most.true,
     ) in
-    turned c.args.at (under_way g.G.GroupSize.is_group c.requires.reads.width_is c.requires.at.exact
+    turned c.args.at (under_way g.G.GroupSize.is_group c.requires.entries.reads.width_is c.requires.at.exact
     c.requires.at.so_far) c.requires.at c.args.most
     c.decode_by_turns-count.auto.output
-    (c.decode_by_turns-count.ensures.run c.args.values.now c.requires.held c.args.self.now
-    c.requires.reads) c.args.len whole pos c.after_run.result c.after_run.ensures.none
+    (c.decode_by_turns-count.ensures.run c.args.entries.values.now c.requires.entries.held c.args.self.now
+    c.requires.entries.reads) c.args.most whole pos c.after_run.result c.after_run.ensures.none
     c.after_run.ensures.read c.after_run.ensures.written
-    (c.after_run.ensures.front c.args.self.now c.requires.reads.holds)
+    (c.after_run.ensures.front c.args.self.now c.requires.entries.reads.holds)
 
 -- and those of a run of another length
 second : (g : Over) (c : After-after_run-2 g) → HasTurned c.args.self.now c.args.input.now
@@ -50,25 +50,25 @@ second g c =
     let pos = (IsWhole-same refl refl g.G.GroupSize.is_group).some_symbols in
     let whole : count - count % c.SYMBOLS.result ≡ count / size * size =
     omega (arith, div-add-mod' count size, ap (λ n. count % n) c.SYMBOLS.ensures) in
-    turned c.args.at (under_way g.G.GroupSize.is_group c.requires.reads.width_is c.requires.at.exact
+    turned c.args.at (under_way g.G.GroupSize.is_group c.requires.entries.reads.width_is c.requires.at.exact
     c.requires.at.so_far) c.requires.at c.args.most
     c.decode_by_turns-count.auto.output
-    (c.decode_by_turns-count.ensures.run c.args.values.now c.requires.held c.args.self.now
-    c.requires.reads) (count - count % c.SYMBOLS.result) whole pos c.after_run-2.result
+    (c.decode_by_turns-count.ensures.run c.args.entries.values.now c.requires.entries.held c.args.self.now
+    c.requires.entries.reads) (count - count % c.SYMBOLS.result) whole pos c.after_run-2.result
     c.after_run-2.ensures.none c.after_run-2.ensures.read c.after_run-2.ensures.written
-    (c.after_run-2.ensures.front c.args.self.now c.requires.reads.holds)
+    (c.after_run-2.ensures.front c.args.self.now c.requires.entries.reads.holds)
 
-pub returns-then-count-len-clause-on : goal.returns-then-count-len-clause-on
-returns-then-count-len-clause-on g c = (first g c).on
+pub returns-then-count-most-clause-on : goal.returns-then-count-most-clause-on
+returns-then-count-most-clause-on g c = (first g c).on
 
-pub returns-then-count-len-clause-past : goal.returns-then-count-len-clause-past
-returns-then-count-len-clause-past g c = (first g c).past
+pub returns-then-count-most-clause-past : goal.returns-then-count-most-clause-past
+returns-then-count-most-clause-past g c = (first g c).past
 
-pub returns-then-count-len-clause-whole : goal.returns-then-count-len-clause-whole
-returns-then-count-len-clause-whole g c = (first g c).whole
+pub returns-then-count-most-clause-whole : goal.returns-then-count-most-clause-whole
+returns-then-count-most-clause-whole g c = (first g c).whole
 
-pub returns-then-count-len-clause-before : goal.returns-then-count-len-clause-before
-returns-then-count-len-clause-before g c = (first g c).before
+pub returns-then-count-most-clause-before : goal.returns-then-count-most-clause-before
+returns-then-count-most-clause-before g c = (first g c).before
 
 pub nonzero_rem-count : goal.nonzero_rem-count
 nonzero_rem-count g c = (IsWhole-same refl c.SYMBOLS.ensures g.G.GroupSize.is_group).some_symbols
@@ -88,12 +88,12 @@ returns-clause-before g c = (second g c).before
 pub after_run-requires-clause-written : goal.after_run-requires-clause-written
 after_run-requires-clause-written g c =
     let size = g.G.GroupSize.SYMBOLS in
-    let fits = turned-fits c.args.at (under_way g.G.GroupSize.is_group c.requires.reads.width_is
+    let fits = turned-fits c.args.at (under_way g.G.GroupSize.is_group c.requires.entries.reads.width_is
     c.requires.at.exact c.requires.at.so_far) c.requires.at c.args.most
     c.decode_by_turns-count.auto.output
-    (c.decode_by_turns-count.ensures.run c.args.values.now c.requires.held c.args.self.now
-    c.requires.reads) in
-    let same = ap (λ n. n / size * g.G.GroupSize.BYTES) c.if-count-len.true in
+    (c.decode_by_turns-count.ensures.run c.args.entries.values.now c.requires.entries.held c.args.self.now
+    c.requires.entries.reads) in
+    let same = ap (λ n. n / size * g.G.GroupSize.BYTES) c.if-count-most.true in
     omega (arith, fits.1, same, c.requires.at.exact.limit)
 
 pub after_run-requires-2-clause-written : goal.after_run-requires-2-clause-written
@@ -101,11 +101,11 @@ after_run-requires-2-clause-written g c =
     let size = g.G.GroupSize.SYMBOLS in
     let count = c.decode_by_turns-count.result in
     let pos = (IsWhole-same refl refl g.G.GroupSize.is_group).some_symbols in
-    let fits = turned-fits c.args.at (under_way g.G.GroupSize.is_group c.requires.reads.width_is
+    let fits = turned-fits c.args.at (under_way g.G.GroupSize.is_group c.requires.entries.reads.width_is
     c.requires.at.exact c.requires.at.so_far) c.requires.at c.args.most
     c.decode_by_turns-count.auto.output
-    (c.decode_by_turns-count.ensures.run c.args.values.now c.requires.held c.args.self.now
-    c.requires.reads) in
+    (c.decode_by_turns-count.ensures.run c.args.entries.values.now c.requires.entries.held c.args.self.now
+    c.requires.entries.reads) in
     let whole : count - count % c.SYMBOLS.result ≡ count / size * size =
     omega (arith, div-add-mod' count size, ap (λ n. count % n) c.SYMBOLS.ensures) in
     let groups : (count - count % c.SYMBOLS.result) / size ≡ count / size =

@@ -1,6 +1,8 @@
-use Rattle.std.proofs.Common.{ℕ, arith, length-drop}
-use Rattle.std.proofs.Math.Nat.{zero-mod}
+use Rattle.std.proofs.Common.{refl, ◌≡◌, ℕ, ◌-◌, ◌*◌, ◌/◌, ◌%◌, length, ap, arith, length-drop}
+use Rattle.std.proofs.Math.Nat.{mul-mod_left}
+use Rattle.std.proofs.lemmas.Nat.{div-add-mod'}
 use Rattle.data_encoding_meaning.proofs.digits.SizeLemmas.{IsSmall-group}
+use Rattle.data_encoding_meaning.proofs.lists.PartLemmas.{IsWhole-same}
 use Rattle.data_encoding.proofs.decoding.OutputLemmas.{goes-further}
 use Rattle.data_encoding.proofs.encoding.EncodingRef.decode_runs_by_turns.Goals as goal
 
@@ -10,19 +12,25 @@ overflow_mul-SYMBOLS g c =
       fits = omega (arith, c.SYMBOLS.ensures, (IsSmall-group g.G.GroupSize.is_group).few_symbols);
     }
 
+pub nonzero_rem-most : goal.nonzero_rem-most
+nonzero_rem-most g c = (IsWhole-same refl c.SYMBOLS-in-loop.ensures g.G.GroupSize.is_group).some_symbols
+
 pub decode_run_by_turns-next-requires : goal.decode_run_by_turns-next-requires
-decode_run_by_turns-next-requires g c = record {
-  reads = c.requires.reads;
-  held = c.requires.held;
-  at = c.loop.invariant.on.reached;
-  whole = zero-mod g.G.GroupSize.SYMBOLS;
-  most = omega (arith, length-drop {A = ℕ}, c.loop.invariant.on.reached.front.within);
-}
+decode_run_by_turns-next-requires g c =
+    let size = g.G.GroupSize.SYMBOLS in
+    let left = length c.args.input.now - c.loop.at.read - c.loop.at.ignored in
+    let groups : left - left % c.SYMBOLS-in-loop.result ≡ left / size * size =
+    omega (arith, div-add-mod' left size, ap (λ n. left % n) c.SYMBOLS-in-loop.ensures) in
+    record {
+      entries = c.requires.entries;
+      at = c.loop.invariant.on.reached;
+      whole = rw groups (mul-mod_left (left / size) size);
+      most = omega (arith, length-drop {A = ℕ}, c.loop.invariant.on.reached.front.within);
+    }
 
 pub decode_runs_like-at-requires : goal.decode_runs_like-at-requires
 decode_runs_like-at-requires g c = record {
-  reads = c.requires.reads;
-  held = c.requires.held;
+  entries = c.requires.entries;
   at = c.decode_run_by_turns-next.ensures.on.reached;
   whole = rw c.saturating_sub-len.ensures c.decode_run_by_turns-next.ensures.whole;
   few = omega arith;
@@ -32,9 +40,6 @@ pub loop-preserved : goal.loop-preserved
 loop-preserved g c =
     let before = goes-further c.loop.invariant.on.further c.decode_run_by_turns-next.ensures.on in
     record { on = goes-further before.further c.decode_runs_like-at.ensures }
-
-pub returns-then-input-at : goal.returns-then-input-at
-returns-then-input-at g c = c.loop.invariant.on
 
 pub returns-then-is_short_run : goal.returns-then-is_short_run
 returns-then-is_short_run g c = record {
@@ -64,19 +69,12 @@ is_short_run-requires g c = record {
   );
 }
 
-pub overflow_sub-input : goal.overflow_sub-input
-overflow_sub-input g c = c.loop.invariant.on.reached.so_far.within
-
-pub overflow_sub-input-in-loop : goal.overflow_sub-input-in-loop
-overflow_sub-input-in-loop g c =
+pub overflow_sub-left-in-loop : goal.overflow_sub-left-in-loop
+overflow_sub-left-in-loop g c =
     omega (arith, length-drop {A = ℕ}, c.loop.invariant.on.reached.front.within)
 
-pub overflow_sub-most : goal.overflow_sub-most
-overflow_sub-most g c = c.loop.invariant.on.reached.so_far.within
-
-pub overflow_sub-most-in-loop : goal.overflow_sub-most-in-loop
-overflow_sub-most-in-loop g c =
-    omega (arith, length-drop {A = ℕ}, c.loop.invariant.on.reached.front.within)
+pub overflow_sub-left : goal.overflow_sub-left
+overflow_sub-left g c = c.loop.invariant.on.reached.so_far.within
 
 pub overflow_sub-next : goal.overflow_sub-next
 overflow_sub-next g c = c.decode_run_by_turns-next.ensures.on.further

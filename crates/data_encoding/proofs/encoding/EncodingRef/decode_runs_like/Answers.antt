@@ -4,8 +4,7 @@ use Rattle.data_encoding.proofs.encoding.EncodingRef.decode_runs_like.Goals as g
 
 pub decode_run_by_turns-at-requires : goal.decode_run_by_turns-at-requires
 decode_run_by_turns-at-requires g c = record {
-  reads = c.requires.reads;
-  held = c.requires.held;
+  entries = c.requires.entries;
   at = c.loop.invariant.on.reached;
   whole = c.requires.whole;
   most = omega arith;

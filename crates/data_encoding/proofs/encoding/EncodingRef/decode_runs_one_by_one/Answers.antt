@@ -5,8 +5,7 @@ use Rattle.data_encoding.proofs.encoding.EncodingRef.decode_runs_one_by_one.Goal
 
 pub decode_run_after_ignored-at-requires : goal.decode_run_after_ignored-at-requires
 decode_run_after_ignored-at-requires g c = record {
-  reads = c.requires.reads;
-  held = c.requires.held;
+  entries = c.requires.entries;
   at = c.loop.invariant.on.reached;
 }
 
@@ -19,7 +18,7 @@ loop-preserved g c =
           exact = next.reached.exact;
           so_far = next.reached.so_far;
           front = rw take_rest
-              at (c.ignored_front.ensures.front c.args.self.now c.requires.reads.holds);
+              at (c.ignored_front.ensures.front c.args.self.now c.requires.entries.reads.holds);
         };
         further = omega (arith, c.loop.invariant.on.further, next.further);
       };
@@ -40,7 +39,7 @@ returns-then-at-eq0 g c =
         exact = next.reached.exact;
         so_far = next.reached.so_far;
         front = rw take_rest
-            at (c.ignored_front.ensures.front c.args.self.now c.requires.reads.holds);
+            at (c.ignored_front.ensures.front c.args.self.now c.requires.entries.reads.holds);
       };
       further = omega (arith, c.loop.invariant.on.further, next.further);
     }

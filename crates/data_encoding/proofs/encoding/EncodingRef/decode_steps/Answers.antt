@@ -10,7 +10,7 @@ loop-at-init g c =
       reached = record {
         exact = c.requires.exact;
         so_far = rw (at.read, at.written) c.requires.so_far;
-        front = rw at.read (at.front c.args.self.now c.requires.reads.holds);
+        front = rw at.read (at.front c.args.self.now c.requires.entries.reads.holds);
       };
     }
 
@@ -21,12 +21,12 @@ loop-at-preserved g c =
       reached = record {
         exact = exact-same c.loop-at.invariant.reached.exact (omega arith);
         so_far = rw (at.read, at.written) c.in-More.ensures.1;
-        front = rw at.read (at.front c.args.self.now c.requires.reads.holds);
+        front = rw at.read (at.front c.args.self.now c.requires.entries.reads.holds);
       };
     }
 
 pub returns : goal.returns
 returns g c =
     let at = c.loop-at.invariant.reached in
-    let now = under_way g.G.GroupSize.is_group c.requires.reads.width_is at.exact at.so_far in
+    let now = under_way g.G.GroupSize.is_group c.requires.entries.reads.width_is at.exact at.so_far in
     decoded-after now at.front c.loop-at-test.false

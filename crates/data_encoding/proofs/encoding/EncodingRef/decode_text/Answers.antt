@@ -7,11 +7,14 @@ use Rattle.data_encoding_meaning.proofs.decoding.ProgressLemmas.{begin}
 use Rattle.data_encoding.proofs.tables.TableLemmas.{Reads-seen}
 use Rattle.data_encoding.proofs.encoding.EncodingRef.decode_text.Goals as goal
 
-pub decode_run_after_ignored-at-requires-clause-reads :
-    goal.decode_run_after_ignored-at-requires-clause-reads
-decode_run_after_ignored-at-requires-clause-reads g c =
-    Reads-seen _ c.self.invariant c.args.self.now c.self.view_is g.G.GroupSize.WIDTH
-    g.O.ConstantOrder.ORDER c.requires.width c.requires.order
+pub decode_run_after_ignored-at-requires-clause-entries :
+    goal.decode_run_after_ignored-at-requires-clause-entries
+decode_run_after_ignored-at-requires-clause-entries g c =
+    record {
+      reads = Reads-seen _ c.self.invariant c.args.self.now c.self.view_is g.G.GroupSize.WIDTH
+          g.O.ConstantOrder.ORDER c.requires.width c.requires.order;
+      held = c.of-look_up.ensures;
+    }
 
 pub decode_run_after_ignored-at-requires-clause-at :
     goal.decode_run_after_ignored-at-requires-clause-at
