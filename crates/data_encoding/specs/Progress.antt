@@ -14,6 +14,11 @@ pub record HasExactOutput (base : Base) (text output : List ℕ) : Type 0 where
   pub limit : length text ≤ DECODE_LIMIT
   pub len : decoded_len base (length text) ≡ Ok (length output)
 
+-- The symbols of the base have this many bits, which are in this order.
+pub record IsCodedIn (base : Base) (width : ℕ) (order : BitOrder) : Type 0 where
+  pub width_is : base.width ≡ width
+  pub order_is : base.order ≡ order
+
 -- The base decodes with these entries, this width and order, and the look-up has the entries.
 pub record ReadsBy {L : Type 0} (holds : List ℕ → L → Type 0) (base : Base)
     (entries : Entries L) (width : ℕ) (order : BitOrder) : Type 0 where

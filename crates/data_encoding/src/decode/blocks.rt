@@ -7,7 +7,7 @@ ghost use Rattle.data_encoding_meaning.specs.text.Grammar.{kept};
 ghost use Rattle.data_encoding_kernel.specs.Ignore.{HoldsIgnored};
 ghost use Rattle.data_encoding_kernel.specs.Tables.{HoldsValues};
 ghost use Rattle.data_encoding.specs.Blocks.{EndsBefore, IsPacking, PacksOn};
-ghost use Rattle.data_encoding.specs.Progress.{GoesOn, HasReached, ReadsBy};
+ghost use Rattle.data_encoding.specs.Progress.{GoesOn, HasReached, IsCodedIn, ReadsBy};
 
 use crate::decode::DECODE_LIMIT;
 use crate::decode::entries::Entries;
@@ -76,8 +76,7 @@ impl EncodingRef<'_> {
         input: &[u8],
         output: &mut [u8],
     ) -> Progress
-        requires width { self.now.width ≡ G.WIDTH }
-        requires order { self.now.order ≡ O.ORDER }
+        requires coded { IsCodedIn self.now G.WIDTH O.ORDER }
         requires at { HasReached self.now input.now at output.old }
         ensures { GoesOn self.now input.now at.read result output.new }
     {
@@ -100,8 +99,7 @@ impl EncodingRef<'_> {
         room: &mut [u8],
         output: &mut [u8],
     ) -> Progress
-        requires width { self.now.width ≡ G.WIDTH }
-        requires order { self.now.order ≡ O.ORDER }
+        requires coded { IsCodedIn self.now G.WIDTH O.ORDER }
         requires room { FIRST_LEN + SLACK ≤ length room.old }
         requires at { HasReached self.now input.now at output.old }
         ensures { GoesOn self.now input.now at.read result output.new }

@@ -4,7 +4,6 @@ ghost use Rattle.std.specs.Prelude.{◌+◌, ◌≤◌, length, IsTrue};
 ghost use Rattle.data_encoding_kernel.specs.Tables.{Reads};
 ghost use Rattle.data_encoding.specs.Progress.{GoesOn, HasReached};
 
-use crate::decode::DECODE_LIMIT;
 use crate::decode::next_group::{ignored_front, starts_whole};
 use crate::decode::progress::Progress;
 use crate::encoding::{EncodingRef, PADDING};
@@ -76,8 +75,7 @@ impl EncodingRef<'_> {
 /// Returns whether the next group ends in padding.
 #[inline(always)]
 pub(crate) fn is_padded_next<G: GroupSize>(values: &[u8; 256], at: Progress, input: &[u8]) -> bool
-    requires limit { length input.now ≤ DECODE_LIMIT }
-    requires within { at.read + at.ignored ≤ length input.now }
+    requires { at.read + at.ignored ≤ length input.now }
     ensures { IsTrue result → at.read + at.ignored + G.SYMBOLS ≤ length input.now }
 {
     let end = at.read + at.ignored + G::SYMBOLS;

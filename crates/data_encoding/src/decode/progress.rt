@@ -49,7 +49,6 @@ pub(crate) fn after_run<G: GroupSize>(
     input: &[u8],
 ) -> Progress
     requires read { at.read + at.ignored + len ≤ length input.now }
-    requires limit { length input.now ≤ DECODE_LIMIT }
     requires written { at.written + len / G.SYMBOLS * G.BYTES ≤ DECODE_LIMIT }
     ensures none { len ≡ 0 → result ≡ at }
     ensures read { 0 < len → result.read ≡ at.read + at.ignored + len }

@@ -3,7 +3,6 @@
 ghost use Rattle.std.specs.Prelude.{◌≡◌, ◌-◌, ◌+◌, ◌%◌, ◌<◌, ◌≤◌, length};
 ghost use Rattle.data_encoding.specs.Progress.{GoesOn, HasReached, ReadsBy};
 
-use crate::decode::DECODE_LIMIT;
 use crate::decode::entries::Entries;
 use crate::decode::next_group::ignored_front;
 use crate::decode::padded::is_padded_next;
@@ -227,8 +226,7 @@ impl EncodingRef<'_> {
 // worth its time; or it has fewer than sixteen, and ends within a group.
 #[inline(always)]
 fn is_short_run<G: GroupSize>(values: &[u8; 256], len: usize, at: Progress, input: &[u8]) -> bool
-    requires limit { length input.now ≤ DECODE_LIMIT }
-    requires within { at.read + at.ignored ≤ length input.now }
+    requires { at.read + at.ignored ≤ length input.now }
 {
     if len > 0 && at.ignored > 0 {
         let left = input.len() - at.read - at.ignored;
@@ -241,8 +239,7 @@ fn is_short_run<G: GroupSize>(values: &[u8; 256], len: usize, at: Progress, inpu
 // one of these has no meaning, there is a fault soon, and no block is worth its time.
 #[inline(always)]
 fn is_broken_next<G: GroupSize>(values: &[u8; 256], at: Progress, input: &[u8]) -> bool
-    requires limit { length input.now ≤ DECODE_LIMIT }
-    requires within { at.read + at.ignored ≤ length input.now }
+    requires { at.read + at.ignored ≤ length input.now }
 {
     let rest = &input[at.read + at.ignored..];
     rest.len() > LEAST_LEN

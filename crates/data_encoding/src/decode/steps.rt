@@ -3,7 +3,7 @@
 ghost use Rattle.std.specs.Prelude.{◌≡◌, ℕ, List, true, false, ◌≤◌, length};
 ghost use Rattle.data_encoding_meaning.specs.text.Base.{ignores_some};
 ghost use Rattle.data_encoding_meaning.specs.decoding.Decoding.{HasDecodedTo};
-ghost use Rattle.data_encoding.specs.Progress.{HasExactOutput, HasReached, ReadsBy};
+ghost use Rattle.data_encoding.specs.Progress.{HasExactOutput, HasReached, IsCodedIn, ReadsBy};
 ghost use Rattle.data_encoding.specs.Steps.{HasEnded, HasStepped};
 
 use crate::decode::Stop;
@@ -78,8 +78,7 @@ impl EncodingRef<'_> {
         output: &mut [u8],
         stop: &mut Stop,
     ) -> Step
-        requires width { self.now.width ≡ G.WIDTH }
-        requires order { self.now.order ≡ O.ORDER }
+        requires coded { IsCodedIn self.now G.WIDTH O.ORDER }
         requires ignores { ignores ≡ ignores_some self.now }
         requires at { HasReached self.now input.now at output.old }
         ensures { HasStepped self.now input.now at.read output.new stop.new result }

@@ -3,7 +3,7 @@
 ghost use Rattle.std.specs.Prelude.{◌≡◌, false};
 ghost use Rattle.data_encoding_meaning.specs.text.Base.{IsWidth};
 ghost use Rattle.data_encoding_meaning.specs.decoding.Decoding.{HasDecodedTo};
-ghost use Rattle.data_encoding.specs.Progress.{HasExactOutput};
+ghost use Rattle.data_encoding.specs.Progress.{HasExactOutput, IsCodedIn};
 ghost use Rattle.data_encoding.specs.Steps.{HasEnded};
 
 use crate::decode::Stop;
@@ -47,8 +47,7 @@ impl EncodingRef<'_> {
     ) -> bool
         requires order { self.now.order ≡ O.ORDER }
         requires exact { HasExactOutput self.now input.now output.old }
-        ensures ends { HasEnded self.now input.now output.new stop.new result }
-        ensures width { IsWidth self.now.width }
+        ensures { HasEnded self.now input.now output.new stop.new result }
     {
         if self.fields.values.is_affine() {
             return self.decode_by_width::<Affine, O>(input, output, stop);
@@ -66,8 +65,7 @@ impl EncodingRef<'_> {
     ) -> bool
         requires order { self.now.order ≡ O.ORDER }
         requires exact { HasExactOutput self.now input.now output.old }
-        ensures ends { HasEnded self.now input.now output.new stop.new result }
-        ensures width { IsWidth self.now.width }
+        ensures { HasEnded self.now input.now output.new stop.new result }
     {
         call_by_width!(
             self.fields.width,
@@ -84,8 +82,7 @@ impl EncodingRef<'_> {
         output: &mut [u8],
         stop: &mut Stop,
     ) -> bool
-        requires width { self.now.width ≡ G.WIDTH }
-        requires order { self.now.order ≡ O.ORDER }
+        requires coded { IsCodedIn self.now G.WIDTH O.ORDER }
         requires exact { HasExactOutput self.now input.now output.old }
         ensures { HasEnded self.now input.now output.new stop.new result }
     {
@@ -115,8 +112,7 @@ impl EncodingRef<'_> {
         output: &mut [u8],
         stop: &mut Stop,
     ) -> bool
-        requires width { self.now.width ≡ G.WIDTH }
-        requires order { self.now.order ≡ O.ORDER }
+        requires coded { IsCodedIn self.now G.WIDTH O.ORDER }
         requires exact { HasExactOutput self.now input.now output.old }
         ensures { HasEnded self.now input.now output.new stop.new result }
     {
@@ -147,8 +143,7 @@ impl EncodingRef<'_> {
         output: &mut [u8],
         stop: &mut Stop,
     ) -> bool
-        requires width { self.now.width ≡ G.WIDTH }
-        requires order { self.now.order ≡ O.ORDER }
+        requires coded { IsCodedIn self.now G.WIDTH O.ORDER }
         requires exact { HasExactOutput self.now input.now output.old }
         requires so_far { HasDecodedTo self.now input.now stop.old.read stop.old.written false
             output.old }

@@ -2,10 +2,10 @@ use Rattle.std.proofs.Common.{◌≡◌, ◌*◌, ◌/◌, arith}
 use Rattle.data_encoding.proofs.decode.progress.after_run.Goals as goal
 
 pub overflow_add-read : goal.overflow_add-read
-overflow_add-read g c = record { fits = omega (arith, c.requires.read, c.requires.limit) }
+overflow_add-read g c = record { fits = omega (arith, c.requires.read) }
 
 pub overflow_add-read-2 : goal.overflow_add-read-2
-overflow_add-read-2 g c = record { fits = omega (arith, c.requires.read, c.requires.limit) }
+overflow_add-read-2 g c = record { fits = omega (arith, c.requires.read) }
 
 pub overflow_add-result : goal.overflow_add-result
 overflow_add-result g c =

@@ -16,14 +16,14 @@ pub decode_runs_one_by_one-at-requires-clause-entries :
 decode_runs_one_by_one-at-requires-clause-entries g c =
     record {
       reads = Reads-seen _ c.self.invariant c.args.self.now c.self.view_is g.G.GroupSize.WIDTH
-          g.O.ConstantOrder.ORDER c.requires.width c.requires.order;
+          g.O.ConstantOrder.ORDER c.requires.coded.width_is c.requires.coded.order_is;
       held = c.of-look_up.ensures;
     }
 
 pub decode_runs_one_by_one-at-requires-clause-at : goal.decode_runs_one_by_one-at-requires-clause-at
 decode_runs_one_by_one-at-requires-clause-at g c = record {
   exact = c.requires.exact;
-  so_far = begin c.args.self.now (subst IsWidth (sym c.requires.width)
+  so_far = begin c.args.self.now (subst IsWidth (sym c.requires.coded.width_is)
       g.G.GroupSize.is_group.is_width) c.args.input.now c.args.output.now;
   front = no_front c.args.self.now c.args.input.now;
 }
@@ -31,10 +31,10 @@ decode_runs_one_by_one-at-requires-clause-at g c = record {
 pub returns-then-at-input : goal.returns-then-at-input
 returns-then-at-input g c =
     let reached = c.decode_runs_one_by_one-at.ensures.reached in
-    decoded-after (under_way g.G.GroupSize.is_group c.requires.width reached.exact reached.so_far)
+    decoded-after (under_way g.G.GroupSize.is_group c.requires.coded.width_is reached.exact reached.so_far)
     reached.front (omega (arith, c.if-at-input.true))
 
 pub decode_rest-requires-clause-so_far : goal.decode_rest-requires-clause-so_far
 decode_rest-requires-clause-so_far g c =
-    begin c.args.self.now (subst IsWidth (sym c.requires.width) g.G.GroupSize.is_group.is_width)
+    begin c.args.self.now (subst IsWidth (sym c.requires.coded.width_is) g.G.GroupSize.is_group.is_width)
     c.args.input.now c.args.output.now

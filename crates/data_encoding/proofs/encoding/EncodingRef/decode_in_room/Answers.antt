@@ -27,14 +27,14 @@ pub decode_packed-now-requires-clause-entries : goal.decode_packed-now-requires-
 decode_packed-now-requires-clause-entries g c =
     record {
       reads = Reads-seen _ c.self.invariant c.args.self.now c.self.view_is g.G.GroupSize.WIDTH
-          g.O.ConstantOrder.ORDER c.requires.width c.requires.order;
+          g.O.ConstantOrder.ORDER c.requires.coded.width_is c.requires.coded.order_is;
       held = c.of-look_up.ensures;
     }
 
 pub decode_packed-now-requires-clause-packing : goal.decode_packed-now-requires-clause-packing
 decode_packed-now-requires-clause-packing g c =
     let reads = Reads-seen _ c.self.invariant c.args.self.now c.self.view_is g.G.GroupSize.WIDTH
-    g.O.ConstantOrder.ORDER c.requires.width c.requires.order in
+    g.O.ConstantOrder.ORDER c.requires.coded.width_is c.requires.coded.order_is in
     c.pack_next-mixed.ensures.packing c.args.self.now
     (c.of-ignored.ensures c.args.self.now reads.holds (ascii-seen _ c.self.invariant c.args.self.now
     c.self.view_is))
@@ -66,7 +66,7 @@ reached : (g : Over) (c : After-after_blocks g)
     c.loop-test.output
 reached g c =
     let reads = Reads-seen _ c.self.invariant c.args.self.now c.self.view_is g.G.GroupSize.WIDTH
-    g.O.ConstantOrder.ORDER c.requires.width c.requires.order in
+    g.O.ConstantOrder.ORDER c.requires.coded.width_is c.requires.coded.order_is in
     let packing : IsPacking c.args.self.now c.args.input.now c.loop-test.room c.loop-test.now
     c.loop-test.output =
     elim c.loop-test.branch [

@@ -5,6 +5,6 @@ pub decode_steps-requires-clause-entries : goal.decode_steps-requires-clause-ent
 decode_steps-requires-clause-entries g c =
     record {
       reads = Reads-seen _ c.self.invariant c.args.self.now c.self.view_is g.G.GroupSize.WIDTH
-          g.O.ConstantOrder.ORDER c.requires.width c.requires.order;
+          g.O.ConstantOrder.ORDER c.requires.coded.width_is c.requires.coded.order_is;
       held = c.of-look_up.ensures;
     }

@@ -60,14 +60,8 @@ pub returns-after-loop : goal.returns-after-loop
 returns-after-loop g c = c.loop.invariant.on
 
 pub is_short_run-requires : goal.is_short_run-requires
-is_short_run-requires g c = record {
-  limit = c.requires.at.exact.limit;
-  within = omega (
-    arith,
-    length-drop {A = ℕ},
-    c.decode_run_by_turns-next.ensures.on.reached.front.within,
-  );
-}
+is_short_run-requires g c =
+    omega (arith, length-drop {A = ℕ}, c.decode_run_by_turns-next.ensures.on.reached.front.within)
 
 pub overflow_sub-left-in-loop : goal.overflow_sub-left-in-loop
 overflow_sub-left-in-loop g c =

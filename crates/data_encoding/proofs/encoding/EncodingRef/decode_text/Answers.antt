@@ -12,7 +12,7 @@ pub decode_run_after_ignored-at-requires-clause-entries :
 decode_run_after_ignored-at-requires-clause-entries g c =
     record {
       reads = Reads-seen _ c.self.invariant c.args.self.now c.self.view_is g.G.GroupSize.WIDTH
-          g.O.ConstantOrder.ORDER c.requires.width c.requires.order;
+          g.O.ConstantOrder.ORDER c.requires.coded.width_is c.requires.coded.order_is;
       held = c.of-look_up.ensures;
     }
 
@@ -20,7 +20,7 @@ pub decode_run_after_ignored-at-requires-clause-at :
     goal.decode_run_after_ignored-at-requires-clause-at
 decode_run_after_ignored-at-requires-clause-at g c = record {
   exact = c.requires.exact;
-  so_far = begin c.args.self.now (subst IsWidth (sym c.requires.width)
+  so_far = begin c.args.self.now (subst IsWidth (sym c.requires.coded.width_is)
       g.G.GroupSize.is_group.is_width) c.args.input.now c.args.output.now;
   front = no_front c.args.self.now c.args.input.now;
 }
@@ -28,6 +28,6 @@ decode_run_after_ignored-at-requires-clause-at g c = record {
 pub returns-in-More : goal.returns-in-More
 returns-in-More g c =
     let len = c.decode_next.auto.output ∙ c.decode_run_after_ignored-at.auto.output in
-    let now = under_way g.G.GroupSize.is_group c.requires.width
+    let now = under_way g.G.GroupSize.is_group c.requires.coded.width_is
     (exact-same c.requires.exact len) c.in-More.ensures.1 in
     decoded-all now (omega (arith, c.if-stop-input.true))
