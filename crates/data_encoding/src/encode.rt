@@ -7,6 +7,7 @@ pub(crate) mod long_lines;
 ghost use Rattle.std.specs.Prelude.{◌≡◌, All, ℕ, ◌<◌, ◌+◌, ◌-◌, ◌*◌, ◌/◌, ◌≤◌, List, ◌++◌, length, drop, flat_map, IfOk, IsOk, IsSome};
 ghost use Rattle.std.specs.String.{string_bytes};
 ghost use Rattle.data_encoding.specs.Calls.{IsEncodeLen};
+ghost use Rattle.data_encoding.specs.Texts.{FitsText};
 ghost use Rattle.data_encoding_meaning.specs.text.Base.{IsWidth, group_bytes, group_symbols};
 ghost use Rattle.data_encoding_meaning.specs.text.Bits.{runs};
 ghost use Rattle.data_encoding_meaning.specs.specification.Fields.{IsSpecified};
@@ -171,9 +172,7 @@ impl EncodingRef<'_> {
     }
 
     fn encode_by_width<G: GroupSize>(&self, input: &[u8], output: &mut [u8])
-        requires width { self.now.width ≡ G.WIDTH }
-        requires limit { length input.now ≤ ENCODE_LIMIT }
-        requires exact { length output.old ≡ length (text_of self.now input.now) }
+        requires fits { FitsText self.now G.WIDTH input.now output.old }
         ensures { output.new ≡ text_of self.now input.now }
     {
         if self.fields.column == 0 {

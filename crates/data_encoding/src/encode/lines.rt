@@ -1,11 +1,11 @@
 //! Texts in lines.
 
 ghost use Rattle.std.specs.Prelude.{◌≡◌, ℕ, ◌+◌, ◌*◌, ◌<◌, ◌≤◌, List, ◌++◌, length, flat_map, IsSome, IsTrue};
+ghost use Rattle.data_encoding.specs.Texts.{FitsText};
 ghost use Rattle.data_encoding_meaning.specs.text.Bits.{runs};
 ghost use Rattle.data_encoding_meaning.specs.text.Lengths.{alignment};
 ghost use Rattle.data_encoding_meaning.specs.text.Text.{padded_text, text_of};
 
-use crate::encode::ENCODE_LIMIT;
 use crate::encoding::EncodingRef;
 use data_encoding_kernel::group_size::GroupSize;
 use data_encoding_kernel::platform::has_lanes;
@@ -28,10 +28,8 @@ impl EncodingRef<'_> {
     // inlined, so that texts without lines do not pay for it.
     #[inline(never)]
     pub(super) fn encode_lines<G: GroupSize>(&self, input: &[u8], output: &mut [u8])
-        requires width { self.now.width ≡ G.WIDTH }
+        requires fits { FitsText self.now G.WIDTH input.now output.old }
         requires lines { IsSome self.now.wrapping }
-        requires limit { length input.now ≤ ENCODE_LIMIT }
-        requires exact { length output.old ≡ length (text_of self.now input.now) }
         ensures { output.new ≡ text_of self.now input.now }
     {
         let line_bytes = self.encode_align();
@@ -52,10 +50,8 @@ impl EncodingRef<'_> {
     // Line by line; the last may be shorter.
     #[inline(always)]
     pub(super) fn encode_each_line<G: GroupSize>(&self, input: &[u8], output: &mut [u8])
-        requires width { self.now.width ≡ G.WIDTH }
+        requires fits { FitsText self.now G.WIDTH input.now output.old }
         requires lines { IsSome self.now.wrapping }
-        requires limit { length input.now ≤ ENCODE_LIMIT }
-        requires exact { length output.old ≡ length (text_of self.now input.now) }
         ensures { output.new ≡ text_of self.now input.now }
     {
         let line_bytes = self.encode_align();
@@ -74,10 +70,8 @@ impl EncodingRef<'_> {
     // by line.
     #[inline(always)]
     fn encode_blocks<G: GroupSize>(&self, input: &[u8], output: &mut [u8])
-        requires width { self.now.width ≡ G.WIDTH }
+        requires fits { FitsText self.now G.WIDTH input.now output.old }
         requires lines { IsSome self.now.wrapping }
-        requires limit { length input.now ≤ ENCODE_LIMIT }
-        requires exact { length output.old ≡ length (text_of self.now input.now) }
         ensures { output.new ≡ text_of self.now input.now }
     {
         let mut symbols = [0; BLOCK_LEN];
@@ -105,11 +99,9 @@ impl EncodingRef<'_> {
         symbols: &mut [u8; BLOCK_LEN],
         output: &mut [u8],
     )
-        requires width { self.now.width ≡ G.WIDTH }
+        requires fits { FitsText self.now G.WIDTH input.now output.old }
         requires lines { IsSome self.now.wrapping }
-        requires limit { length input.now ≤ ENCODE_LIMIT }
         requires room { length (padded_text self.now input.now) ≤ BLOCK_LEN }
-        requires exact { length output.old ≡ length (text_of self.now input.now) }
         ensures { output.new ≡ text_of self.now input.now }
     {
         let count = self.padded_len(input.len());
@@ -125,11 +117,9 @@ impl EncodingRef<'_> {
     // The text of at most one line, and the separator.
     #[inline(always)]
     pub(super) fn encode_line<G: GroupSize>(&self, input: &[u8], output: &mut [u8])
-        requires width { self.now.width ≡ G.WIDTH }
-        requires limit { length input.now ≤ ENCODE_LIMIT }
+        requires fits { FitsText self.now G.WIDTH input.now output.old }
         requires some { 0 < length input.now }
         requires line { length input.now ≤ alignment self.now }
-        requires exact { length output.old ≡ length (text_of self.now input.now) }
         ensures { output.new ≡ text_of self.now input.now }
     {
         let end = output.len() - self.separator.len();

@@ -4,10 +4,10 @@ ghost use Rattle.std.specs.Prelude.{◌≡◌, ◌+◌, ◌-◌, ◌*◌, ◌/�
 ghost use Rattle.data_encoding_kernel.specs.OffsetAlphabet.{HoldsOffsetAlphabet};
 ghost use Rattle.data_encoding_kernel.specs.Tables.{HoldsSymbols, IsTextBy, Writes};
 ghost use Rattle.data_encoding.specs.LongLines.{FitsTurns, HasLongLines};
+ghost use Rattle.data_encoding.specs.Texts.{FitsText};
 ghost use Rattle.data_encoding_meaning.specs.text.Lengths.{alignment};
 ghost use Rattle.data_encoding_meaning.specs.text.Text.{text_of};
 
-use crate::encode::ENCODE_LIMIT;
 use crate::encode::lines::write_separator;
 use crate::encoding::EncodingRef;
 use data_encoding_kernel::group_size::GroupSize;
@@ -23,10 +23,8 @@ impl EncodingRef<'_> {
     // By offsets if the data is long and the alphabet has that form.
     #[inline(always)]
     pub(super) fn encode_long_lines<G: GroupSize>(&self, input: &[u8], output: &mut [u8])
-        requires width { self.now.width ≡ G.WIDTH }
+        requires fits { FitsText self.now G.WIDTH input.now output.old }
         requires long { HasLongLines self.now G.BYTES }
-        requires limit { length input.now ≤ ENCODE_LIMIT }
-        requires exact { length output.old ≡ length (text_of self.now input.now) }
         ensures { output.new ≡ text_of self.now input.now }
     {
         let symbols = &self.fields.symbols;
@@ -48,12 +46,10 @@ impl EncodingRef<'_> {
         input: &[u8],
         output: &mut [u8],
     )
-        requires width { self.now.width ≡ G.WIDTH }
+        requires fits { FitsText self.now G.WIDTH input.now output.old }
         requires holds { HoldsSymbols self.now symbols.now }
         requires held { HoldsOffsetAlphabet symbols.now alphabet.now }
         requires long { HasLongLines self.now G.BYTES }
-        requires limit { length input.now ≤ ENCODE_LIMIT }
-        requires exact { length output.old ≡ length (text_of self.now input.now) }
         ensures { output.new ≡ text_of self.now input.now }
     {
         self.encode_long_lines_by::<OffsetAlphabet, G>(symbols, alphabet, input, output);
@@ -68,12 +64,10 @@ impl EncodingRef<'_> {
         input: &[u8],
         output: &mut [u8],
     )
-        requires width { self.now.width ≡ G.WIDTH }
+        requires fits { FitsText self.now G.WIDTH input.now output.old }
         requires holds { HoldsSymbols self.now symbols.now }
         requires held { E.holds symbols.now eight.now }
         requires long { HasLongLines self.now G.BYTES }
-        requires limit { length input.now ≤ ENCODE_LIMIT }
-        requires exact { length output.old ≡ length (text_of self.now input.now) }
         ensures { output.new ≡ text_of self.now input.now }
     {
         match self.fields.order() {
@@ -105,11 +99,10 @@ impl EncodingRef<'_> {
         input: &[u8],
         output: &mut [u8],
     )
+        requires fits { FitsText self.now G.WIDTH input.now output.old }
         requires writes { Writes self.now symbols.now G.WIDTH order }
         requires held { E.holds symbols.now eight.now }
         requires long { HasLongLines self.now G.BYTES }
-        requires limit { length input.now ≤ ENCODE_LIMIT }
-        requires exact { length output.old ≡ length (text_of self.now input.now) }
         ensures { output.new ≡ text_of self.now input.now }
     {
         let line_bytes = self.encode_align();
@@ -135,10 +128,8 @@ impl EncodingRef<'_> {
     // Not inlined, so that the loop over lines is small.
     #[inline(never)]
     fn encode_last_lines<G: GroupSize>(&self, input: &[u8], output: &mut [u8])
-        requires width { self.now.width ≡ G.WIDTH }
+        requires fits { FitsText self.now G.WIDTH input.now output.old }
         requires lines { IsSome self.now.wrapping }
-        requires limit { length input.now ≤ ENCODE_LIMIT }
-        requires exact { length output.old ≡ length (text_of self.now input.now) }
         ensures { output.new ≡ text_of self.now input.now }
     {
         if !input.is_empty() && input.len() <= self.encode_align() {

@@ -17,7 +17,7 @@ wrap-requires-clause-short g c = separator-short _ c.self.invariant
 
 pub wrap-requires-clause-exact : goal.wrap-requires-clause-exact
 wrap-requires-clause-exact g c =
-    c.requires.exact
+    c.requires.fits.exact
     ∙ ap length
     (text-wrapped c.self.invariant c.self.view_is c.requires.lines
     c.args.input.now refl

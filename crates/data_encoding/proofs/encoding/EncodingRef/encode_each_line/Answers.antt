@@ -1,4 +1,4 @@
-use Rattle.std.proofs.Common.{◌∙◌, arith, refl}
+use Rattle.std.proofs.Common.{rules, ◌∙◌, arith, refl}
 use Rattle.data_encoding_meaning.proofs.lists.PieceLemmas.{before, length-part, part-begins, piece-begins, piece-few, piece-last, piece-next, piece-some, written-first}
 use Rattle.data_encoding.proofs.text.LinePieceLemmas.{IsByPieces-line, line-few, text-few}
 use Rattle.data_encoding.proofs.encoding.EncodingRef.encode_each_line.Goals as goal
@@ -8,7 +8,7 @@ loop-index-init g c =
     written-first
     (IsByPieces-line c.self.invariant c.self.view_is c.requires.lines
     c.encode_align-line_bytes.ensures.value refl)
-    c.requires.exact
+    c.requires.fits.exact
 
 pub overflow_mul-written : goal.overflow_mul-written
 overflow_mul-written g c =
@@ -17,7 +17,7 @@ overflow_mul-written g c =
         arith,
         piece-begins c.loop-index.invariant c.div_ceil-index-end.ensures c.loop-index-test.true,
         text-few c.self.invariant c.self.view_is c.requires.lines c.args.input.now,
-        c.requires.limit,
+        c.requires.fits.limit,
       );
     }
 
@@ -28,7 +28,7 @@ overflow_add-read g c =
         arith,
         before c.loop-index.invariant c.div_ceil-index-end.ensures c.loop-index-test.true,
         c.encode_align-line_bytes.ensures.most,
-        c.requires.limit,
+        c.requires.fits.limit,
       );
     }
 
@@ -41,7 +41,7 @@ overflow_add-written g c =
         text-few c.self.invariant c.self.view_is c.requires.lines c.args.input.now,
         line-few c.self.invariant c.self.view_is c.requires.lines
             refl,
-        c.requires.limit,
+        c.requires.fits.limit,
       );
     }
 
@@ -70,10 +70,13 @@ encode_line-requires-clause-line g c =
       c.encode_align-line_bytes.ensures.value,
     )
 
-pub encode_line-requires-clause-exact : goal.encode_line-requires-clause-exact
-encode_line-requires-clause-exact g c =
-    length-part c.loop-index.invariant c.div_ceil-index-end.ensures c.loop-index-test.true
-    c.min-read_end.ensures c.min-written_end.ensures
+pub encode_line-requires-clause-fits : goal.encode_line-requires-clause-fits
+encode_line-requires-clause-fits g c = record {
+  width_is = c.requires.fits.width_is;
+  limit = search rules;
+  exact = length-part c.loop-index.invariant c.div_ceil-index-end.ensures c.loop-index-test.true
+      c.min-read_end.ensures c.min-written_end.ensures;
+}
 
 pub loop-index-preserved : goal.loop-index-preserved
 loop-index-preserved g c =

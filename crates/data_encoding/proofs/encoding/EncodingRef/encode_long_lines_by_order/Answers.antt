@@ -1,4 +1,4 @@
-use Rattle.std.proofs.Common.{◌≡◌, ◌+◌, ◌-◌, ◌*◌, ◌/◌, ◌≤◌, length, take, drop, refl, sym, ap, ◌∙◌, arith, length-take-le}
+use Rattle.std.proofs.Common.{rules, ◌≡◌, ◌+◌, ◌-◌, ◌*◌, ◌/◌, ◌≤◌, length, take, drop, refl, sym, ap, ◌∙◌, arith, length-take-le}
 use Rattle.std.proofs.lemmas.List.{take_rest}
 use Rattle.data_encoding_meaning.specs.text.Lengths.{alignment}
 use Rattle.data_encoding_meaning.specs.text.Text.{text_of}
@@ -30,7 +30,7 @@ overflow_mul-written g c =
     (IsByPieces-line c.self.invariant c.self.view_is c.requires.long.lines
     c.encode_align-line_bytes.ensures.value refl)
     c.args.input.now c.loop-index.index (omega (arith, before)) in
-    omega (arith, fits, c.requires.exact)
+    omega (arith, fits, c.requires.fits.exact)
 
 pub overflow_add-written : goal.overflow_add-written
 overflow_add-written g c =
@@ -40,7 +40,7 @@ overflow_add-written g c =
     (IsByPieces-line c.self.invariant c.self.view_is c.requires.long.lines
     c.encode_align-line_bytes.ensures.value refl)
     c.args.input.now c.loop-index.index (omega (arith, before)) in
-    omega (arith, fits, c.requires.exact)
+    omega (arith, fits, c.requires.fits.exact)
 
 pub slice_bounds-encode_long_line-end-in-loop-index :
     goal.slice_bounds-encode_long_line-end-in-loop-index
@@ -51,7 +51,7 @@ slice_bounds-encode_long_line-end-in-loop-index g c =
     (IsByPieces-line c.self.invariant c.self.view_is c.requires.long.lines
     c.encode_align-line_bytes.ensures.value refl)
     c.args.input.now c.loop-index.index (omega (arith, before)) in
-    omega (arith, fits, c.requires.exact, c.loop-index.auto.output)
+    omega (arith, fits, c.requires.fits.exact, c.loop-index.auto.output)
 
 pub encode_long_line-requires-clause-exact : goal.encode_long_line-requires-clause-exact
 encode_long_line-requires-clause-exact g c =
@@ -69,7 +69,7 @@ encode_long_line-requires-clause-exact g c =
     let within : alignment c.args.self.now ≤ length rest =
     omega (arith, length-rest (i * size) input, before, value) in
     length-part (i * line_len) line_len c.loop-index.output
-    (omega (arith, fits, c.requires.exact, c.loop-index.auto.output))
+    (omega (arith, fits, c.requires.fits.exact, c.loop-index.auto.output))
     ∙ sym (pieces.whole (take (alignment c.args.self.now) rest)
     (length-take-le (alignment c.args.self.now) rest within ∙ sym value))
 
@@ -87,7 +87,7 @@ loop-index-preserved g c =
       written =
           line-next pieces input c.loop-index.output c.encode_long_line.new.output i
           c.loop-index.invariant.written (omega (arith, before))
-          (omega (arith, fits, c.requires.exact, c.loop-index.auto.output))
+          (omega (arith, fits, c.requires.fits.exact, c.loop-index.auto.output))
           (c.encode_long_line.ensures
           ∙ (λ k. text_of c.args.self.now
           (take (sym c.encode_align-line_bytes.ensures.value k) (take_rest input (i * size) k))));
@@ -101,7 +101,7 @@ overflow_mul-count-2 g c =
     c.encode_align-line_bytes.ensures.value refl)
     c.args.input.now (c.saturating_sub.result / size)
     (lines-before _ _ _ size c.saturating_sub.ensures) in
-    omega (arith, parts, c.requires.exact)
+    omega (arith, parts, c.requires.fits.exact)
 
 pub slice_bounds-encode_last_lines-count-2 : goal.slice_bounds-encode_last_lines-count-2
 slice_bounds-encode_last_lines-count-2 g c =
@@ -111,13 +111,13 @@ slice_bounds-encode_last_lines-count-2 g c =
     c.encode_align-line_bytes.ensures.value refl)
     c.args.input.now (c.saturating_sub.result / size)
     (lines-before _ _ _ size c.saturating_sub.ensures) in
-    omega (arith, parts, c.requires.exact, c.loop-index.auto.output)
+    omega (arith, parts, c.requires.fits.exact, c.loop-index.auto.output)
 
 pub slice_bounds-encode_last_lines-start-2 : goal.slice_bounds-encode_last_lines-start-2
 slice_bounds-encode_last_lines-start-2 g c = slice_bounds-encode_last_lines-count-2 g c
 
-pub encode_last_lines-requires-clause-exact : goal.encode_last_lines-requires-clause-exact
-encode_last_lines-requires-clause-exact g c =
+pub encode_last_lines-requires-clause-fits : goal.encode_last_lines-requires-clause-fits
+encode_last_lines-requires-clause-fits g c =
     let size = c.encode_align-line_bytes.result in
     let count = c.saturating_sub.result / size in
     let line_len = c.self.inside.fields.now.column + length c.self.inside.separator.now in
@@ -125,9 +125,14 @@ encode_last_lines-requires-clause-exact g c =
     (IsByPieces-line c.self.invariant c.self.view_is c.requires.long.lines
     c.encode_align-line_bytes.ensures.value refl)
     c.args.input.now count (lines-before _ _ _ size c.saturating_sub.ensures) in
-    length-rest (count * line_len) c.loop-index.output
-    ∙ omega (arith, parts, c.requires.exact, c.loop-index.auto.output)
-    ∙ sym (ap (λ l. length (text_of c.args.self.now l)) (take_rest c.args.input.now (count * size)))
+    record {
+      width_is = c.requires.fits.width_is;
+      limit = search rules;
+      exact = length-rest (count * line_len) c.loop-index.output
+          ∙ omega (arith, parts, c.requires.fits.exact, c.loop-index.auto.output)
+          ∙ sym (ap (λ l. length (text_of c.args.self.now l)) (take_rest c.args.input.now
+          (count * size)));
+    }
 
 pub returns : goal.returns
 returns g c =
