@@ -34,18 +34,14 @@ impl EncodingRef<'_> {
         ensures { GoesOn self.now input.now at.read result output.new }
     {
         let packs = has_lanes() && self.fields.ignores && !*is_short;
-        *is_short = false;
         if is_padded_next::<G>(entries.values, at, input) {
+            *is_short = false;
             return at;
         }
         let mut at = at;
         if has_lanes() && input.len() - at.read - at.ignored >= 16 * G::SYMBOLS {
-            let (next, stops) = self.decode_runs_by_turns::<L, O, G>(
-                entries, packs, at, input, output,
-            );
-            at = next;
-            *is_short = stops;
-            if stops || input.len() - at.read - at.ignored >= 16 * G::SYMBOLS {
+            at = self.decode_runs_by_turns::<L, O, G>(entries, is_short, at, input, output);
+            if *is_short || input.len() - at.read - at.ignored >= 16 * G::SYMBOLS {
                 return at;
             }
         }
@@ -54,25 +50,26 @@ impl EncodingRef<'_> {
         at
     }
 
-    // Decodes runs by turns of eight groups, while the text has two turns or more. With `packs`, a
-    // run may be short, and then it is not decoded if what follows it may be decoded by blocks.
-    // Also returns whether it stopped before such a run.
+    // Decodes runs by turns of eight groups, while the text has two turns or more. A short run is
+    // not decoded if what follows it may be decoded by blocks. As in `decode_runs`, the first one
+    // counts as long if it was short before.
     // Not inlined, so that shorter texts do not pay for the stack that turns take.
     #[inline(never)]
     fn decode_runs_by_turns<L: LookUp, O: ConstantOrder, G: GroupSize>(
         &self,
         entries: Entries<'_, L>,
-        packs: bool,
+        is_short: &mut bool,
         at: Progress,
         input: &[u8],
         output: &mut [u8],
-    ) -> (Progress, bool)
+    ) -> Progress
         requires entries { ReadsBy L.holds self.now entries G.WIDTH O.ORDER }
         requires at { HasReached self.now input.now at output.old }
-        ensures { GoesOn self.now input.now at.read result.0 output.new }
+        ensures { GoesOn self.now input.now at.read result output.new }
     {
         let mut at = at;
-        let mut packs = packs;
+        let mut packs = self.fields.ignores && !*is_short;
+        *is_short = false;
         for _ in 0..input.len() {
             let left = input.len() - at.read - at.ignored;
             if left < 16 * G::SYMBOLS {
@@ -82,7 +79,8 @@ impl EncodingRef<'_> {
             let next = self.decode_run_by_turns::<L, O, G>(entries, most, at, input, output);
             let len = (next.read - at.read).saturating_sub(at.ignored);
             if packs && is_short_run::<G>(entries.values, len, next, input) {
-                return (at, true);
+                *is_short = true;
+                break;
             }
             at = next;
             if len == 0 || at.ignored == 0 {
@@ -94,7 +92,7 @@ impl EncodingRef<'_> {
             }
             packs = self.fields.ignores;
         }
-        (at, false)
+        at
     }
 
     // Decodes further runs of this length, as long as a byte is ignored where one would end, and
