@@ -1,5 +1,5 @@
 -- How a step leaves a text, and how the steps end.
-use Rattle.std.specs.Prelude.{◌≡◌, ℕ, ◌-◌, ◌<◌, ◌≤◌, Bool, true, false, List, length, take, drop}
+use Rattle.std.specs.Prelude.{◌≡◌, ℕ, ◌-◌, ◌<◌, ◌≤◌, Bool, true, false, List, length, take, drop, Option, None, Some}
 use Rattle.data_encoding_meaning.specs.declared.error.DecodePartial.{DecodePartial}
 use Rattle.data_encoding.specs.declared.decode.Stop.{Stop}
 use Rattle.data_encoding.specs.declared.decode.steps.Step.{Step}
@@ -8,11 +8,17 @@ use Rattle.data_encoding_meaning.specs.declared.error.GroupFault.{GroupFault}
 use Rattle.data_encoding_meaning.specs.text.Base.{Base}
 use Rattle.data_encoding_meaning.specs.text.Grammar.{kept}
 use Rattle.data_encoding_meaning.specs.decoding.Partial.{StopsAt, is_length_fault}
-use Rattle.data_encoding_meaning.specs.decoding.Decoding.{HasDecodedTo, HasRoom, IsDecoded, IsStop}
+use Rattle.data_encoding_meaning.specs.decoding.Decoding.{HasDecodedTo, HasNoLastRun, HasRoom, IsDecoded, IsLastRun, IsStop}
 
 -- the fault of the group at which a decoding stopped
 abbrev pub fault_of_stop : Stop → GroupFault
 fault_of_stop stop = record { index = stop.index; kind = stop.kind }
+
+-- The last run of a rest was decoded, and means so many bytes; or there is none.
+abbrev pub DecodesLastRun : Base → List ℕ → List ℕ → Option ℕ → Type 0
+DecodesLastRun base rest output (Some written) =
+    (written ≤ length output) × IsLastRun base rest written output
+DecodesLastRun base rest output None = HasNoLastRun base rest
 
 -- A decoding stopped before a faulty group; what is reported of that group is what is reported of
 -- the text.

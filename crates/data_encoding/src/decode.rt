@@ -11,15 +11,13 @@ pub(crate) mod runs;
 pub(crate) mod steps;
 pub(crate) mod text;
 
-ghost use Rattle.std.specs.Prelude.{◌≡◌, ℕ, List, true, false, ◌+◌, ◌-◌, ◌*◌, ◌/◌, ◌<◌, ◌≤◌, ◌⊎◌, length, take, drop, None, Some, Ok, Err, IfOk, IfErr, IfSome, IsOk, IsOkAnd};
-ghost use Rattle.data_encoding_meaning.specs.decoding.Decoding.{HasNoLastRun, HasRoom, IsLastRun, IsStop};
+ghost use Rattle.std.specs.Prelude.{◌≡◌, true, ◌-◌, ◌<◌, ◌≤◌, length, take, drop, Ok};
+ghost use Rattle.data_encoding_meaning.specs.decoding.Decoding.{HasRoom, IsStop};
 ghost use Rattle.data_encoding.specs.Calls.{DecodesText, DecodesWhole};
-ghost use Rattle.data_encoding.specs.Steps.{fault_of_stop};
-ghost use Rattle.data_encoding_meaning.specs.decoding.Fault.{IsRefusal, fault_of, sound_bytes};
-ghost use Rattle.data_encoding_meaning.specs.text.Base.{ignores_some};
-ghost use Rattle.data_encoding_meaning.specs.text.Grammar.{Means, kept};
+ghost use Rattle.data_encoding.specs.Steps.{DecodesLastRun, fault_of_stop};
+ghost use Rattle.data_encoding_meaning.specs.text.Grammar.{kept};
 ghost use Rattle.data_encoding_meaning.specs.text.Lengths.{decoded_len};
-ghost use Rattle.data_encoding_meaning.specs.decoding.Partial.{is_length_fault, partial_of};
+ghost use Rattle.data_encoding_meaning.specs.decoding.Partial.{is_length_fault};
 
 use crate::encoding::{Encoding, EncodingRef};
 use crate::error::{DecodeError, DecodeFault, DecodeKind, DecodePartial};
@@ -198,9 +196,7 @@ impl EncodingRef<'_> {
     fn decode_front(&self, rest: &[u8], output: &mut [u8]) -> Option<usize>
         requires limit { length rest.now ≤ DECODE_LIMIT }
         requires room { HasRoom self.now rest.now (length output.old) }
-        ensures run { IfSome result (λ written. (written ≤ length output.new)
-            × IsLastRun self.now rest.now written output.new) }
-        ensures none { result ≡ None → HasNoLastRun self.now rest.now }
+        ensures { DecodesLastRun self.now rest.now output.new result }
     {
         call_by_width!(self.fields.width, self.decode_last_run::<>(rest, output))
     }
@@ -210,9 +206,7 @@ impl EncodingRef<'_> {
         requires width { self.now.width ≡ G.WIDTH }
         requires limit { length rest.now ≤ DECODE_LIMIT }
         requires room { HasRoom self.now rest.now (length output.old) }
-        ensures run { IfSome result (λ written. (written ≤ length output.new)
-            × IsLastRun self.now rest.now written output.new) }
-        ensures none { result ≡ None → HasNoLastRun self.now rest.now }
+        ensures { DecodesLastRun self.now rest.now output.new result }
     {
         let len = self.greatest_valid_length(rest.len());
         if len == 0 {

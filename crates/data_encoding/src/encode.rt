@@ -4,15 +4,13 @@ pub(crate) mod append;
 pub(crate) mod lines;
 pub(crate) mod long_lines;
 
-ghost use Rattle.std.specs.Prelude.{◌≡◌, All, ℕ, ◌<◌, ◌+◌, ◌-◌, ◌*◌, ◌/◌, ◌≤◌, List, ◌++◌, length, drop, flat_map, IfOk, IsOk, IsSome};
+ghost use Rattle.std.specs.Prelude.{◌≡◌, All, ℕ, ◌<◌, ◌+◌, ◌-◌, ◌*◌, ◌/◌, ◌≤◌, List, ◌++◌, length, drop, IfOk, IsOk};
 ghost use Rattle.std.specs.String.{string_bytes};
 ghost use Rattle.data_encoding.specs.Calls.{IsEncodeLen};
 ghost use Rattle.data_encoding.specs.Texts.{FitsText};
 ghost use Rattle.data_encoding_meaning.specs.text.Base.{IsWidth, group_bytes, group_symbols};
-ghost use Rattle.data_encoding_meaning.specs.text.Bits.{runs};
 ghost use Rattle.data_encoding_meaning.specs.specification.Fields.{IsSpecified};
 ghost use Rattle.data_encoding_meaning.specs.text.Lengths.{alignment};
-ghost use Rattle.data_encoding_kernel.specs.Tables.{Writes};
 ghost use Rattle.data_encoding_meaning.specs.text.Text.{padded_text, plain_text, text_of};
 
 use crate::encoding::{Encoding, EncodingRef, group_bytes};

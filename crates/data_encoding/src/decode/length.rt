@@ -1,11 +1,9 @@
 //! The lengths of texts, and how many bytes they may mean.
 
-ghost use Rattle.std.specs.Prelude.{◌≡◌, ℕ, ◌/◌, List, false, ◌<◌, ◌≤◌, length, IfErr, IsOkAnd};
+ghost use Rattle.std.specs.Prelude.{◌≡◌, ◌/◌, false, ◌<◌, ◌≤◌};
 ghost use Rattle.data_encoding.specs.Calls.{IsDecodeLen};
 ghost use Rattle.data_encoding_meaning.specs.text.Base.{IsWidth, group_symbols};
-ghost use Rattle.data_encoding_meaning.specs.specification.Fields.{IsSpecified};
-ghost use Rattle.data_encoding_meaning.specs.text.Grammar.{Means};
-ghost use Rattle.data_encoding_meaning.specs.text.Lengths.{decoded_len, greatest_valid_length, is_valid_length, most_bytes};
+ghost use Rattle.data_encoding_meaning.specs.text.Lengths.{greatest_valid_length, is_valid_length, most_bytes};
 
 use crate::decode::DECODE_LIMIT;
 use crate::encoding::{Encoding, EncodingRef, group_bytes, group_symbols};

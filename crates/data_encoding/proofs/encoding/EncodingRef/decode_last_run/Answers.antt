@@ -13,8 +13,8 @@ module _ (base : Base) (rest : List ℕ) {len : ℕ}
   front_len : length (valid_front base rest) ≡ len
   front_len = ap length (sym front) ∙ length-take-le len rest most
 
-pub returns-in-Ok-clause-run : goal.returns-in-Ok-clause-run
-returns-in-Ok-clause-run g c =
+pub returns-in-Ok : goal.returns-in-Ok
+returns-in-Ok g c =
     let seen = c.args.self.now in
     let rest = c.args.rest.now in
     let value = c.greatest_valid_length-len.ensures.value in
@@ -30,16 +30,16 @@ returns-in-Ok-clause-run g c =
       inr (omega arith, few, c.in-Ok.count, sound, cc),
     )
 
-pub returns-then-len-SYMBOLS-clause-none : goal.returns-then-len-SYMBOLS-clause-none
-returns-then-len-SYMBOLS-clause-none g c = λ _.
+pub returns-then-len-SYMBOLS : goal.returns-then-len-SYMBOLS
+returns-then-len-SYMBOLS g c =
     let len = front_len c.args.self.now c.args.rest.now c.greatest_valid_length-len.ensures.value
     c.greatest_valid_length-len.ensures.most in
     let symbols : c.SYMBOLS.result ≡ group_symbols c.args.self.now.width =
     cc g.G.GroupSize.is_group.has_symbols in
     (omega arith, λ few. absurd (omega arith))
 
-pub returns-in-Err-clause-none : goal.returns-in-Err-clause-none
-returns-in-Err-clause-none g c = λ _.
+pub returns-in-Err : goal.returns-in-Err
+returns-in-Err g c =
     let seen = c.args.self.now in
     let rest = c.args.rest.now in
     let value = c.greatest_valid_length-len.ensures.value in

@@ -55,7 +55,7 @@ returns-in-Some-clause-stop c =
     let written = c.args.stop.written in
     let count = c.in-Some.count in
     let last = c.decode_front.new.output in
-    let run = c.in-Some.ensures.run in
+    let run = c.in-Some.ensures in
     let left = c.decode_front.auto.output ∙ length-rest written output in
     let new_len = length-put_mid written (length output - written) output last (omega arith) left
     in
@@ -75,7 +75,7 @@ pub returns-in_default-decode_front-clause-stop : goal.returns-in_default-decode
 returns-in_default-decode_front-clause-stop c = record {
   error_is =
       rw (found (goal.at.returns-in_default-decode_front-clause-stop c).After-kept_position);
-  how = inl (refl, refl, λ _. rw take_rest at (c.in_default-decode_front.ensures.none refl));
+  how = inl (refl, refl, λ _. rw take_rest at c.in_default-decode_front.ensures);
 }
 
 pub decode_front-requires-clause-room : goal.decode_front-requires-clause-room
@@ -96,7 +96,7 @@ decode_front-requires-clause-limit c =
 pub overflow_add-written : goal.overflow_add-written
 overflow_add-written c =
     let left = length-rest c.args.stop.written c.args.output.now in
-    record { fits = omega (arith, c.in-Some.ensures.run.0, left) }
+    record { fits = omega (arith, c.in-Some.ensures.0, left) }
 
 pub returns-in-Some-clause-kept : goal.returns-in-Some-clause-kept
 returns-in-Some-clause-kept c =
