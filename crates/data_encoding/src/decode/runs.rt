@@ -1,6 +1,6 @@
 //! Runs of whole groups of symbols only, decoded where they stand.
 
-ghost use Rattle.std.specs.Prelude.{◌≡◌, ◌-◌, ◌+◌, ◌%◌, ◌<◌, ◌≤◌, length};
+ghost use Rattle.std.specs.Prelude.{◌≡◌, ◌-◌, ◌+◌, ◌*◌, ◌%◌, ◌<◌, ◌≤◌, length};
 ghost use Rattle.data_encoding.specs.Progress.{GoesOn, HasReached, ReadsBy};
 
 use crate::decode::entries::Entries;
@@ -45,9 +45,9 @@ impl EncodingRef<'_> {
                 return at;
             }
         }
-        at = self.decode_runs_one_by_one::<L, O, G>(entries, input.len(), at, input, output);
-        *is_short = packs && is_broken_next::<G>(entries.values, at, input);
-        at
+        let (next, len) = self.decode_runs_one_by_one::<L, O, G>(entries, packs, at, input, output);
+        *is_short = packs && is_short_run::<G>(entries.values, len, next, input);
+        next
     }
 
     // Decodes runs by turns of eight groups, while the text has two turns or more. A short run is
@@ -155,34 +155,37 @@ impl EncodingRef<'_> {
         after_run::<G>(entries.values, count - count % G::SYMBOLS, at, input)
     }
 
-    /// Decodes runs one by one, as many as this at most, as long as bytes are ignored after them.
-    /// What is ignored after the last one is not read.
+    /// Decodes runs one by one, as long as bytes are ignored after them, and, with `packs`, up to a
+    /// short one. What is ignored after the last one is not read. Also returns its length.
     #[inline(always)]
     pub(crate) fn decode_runs_one_by_one<L: LookUp, O: ConstantOrder, G: GroupSize>(
         &self,
         entries: Entries<'_, L>,
-        most: usize,
+        packs: bool,
         at: Progress,
         input: &[u8],
         output: &mut [u8],
-    ) -> Progress
+    ) -> (Progress, usize)
         requires entries { ReadsBy L.holds self.now entries G.WIDTH O.ORDER }
         requires at { HasReached self.now input.now at output.old }
-        ensures { GoesOn self.now input.now at.read result output.new }
+        ensures { GoesOn self.now input.now at.read result.0 output.new }
     {
         let mut at = at;
-        for _ in 0..most {
+        let mut len = 0;
+        for _ in 0..input.len() {
+            let start = at.read + at.ignored;
             let read = at.read;
             at = self.decode_run_after_ignored::<L, O, G>(entries, at, input, output);
             if at.read == read {
                 break;
             }
+            len = at.read - start;
             at.ignored = ignored_front(entries.values, &input[at.read..]);
-            if at.ignored == 0 || at.read + at.ignored == input.len() {
+            if at.ignored == 0 || packs && is_short_before::<G>(len, at, input) {
                 break;
             }
         }
-        at
+        (at, len)
     }
 
     /// Decodes a run of whole groups of symbols only, which follows ignored bytes. The ignored
@@ -219,41 +222,62 @@ impl EncodingRef<'_> {
     }
 }
 
-// Whether blocks may take less time than runs like this one, of this many symbols, after which the
-// text goes on: it has fewer than six groups, and enough bytes are left that the room of a block is
-// worth its time; or it has fewer than sixteen, and ends within a group.
+/// Returns whether blocks may take less time than runs like this one, of this many symbols, after
+/// which the text goes on.
 #[inline(always)]
-fn is_short_run<G: GroupSize>(values: &[u8; 256], len: usize, at: Progress, input: &[u8]) -> bool
+pub(crate) fn is_short_run<G: GroupSize>(
+    values: &[u8; 256],
+    len: usize,
+    at: Progress,
+    input: &[u8],
+) -> bool
     requires { at.read + at.ignored ≤ length input.now }
 {
     if len > 0 && at.ignored > 0 {
-        let left = input.len() - at.read - at.ignored;
-        return len < 6 * G::SYMBOLS && left > 12 * len;
+        return is_short_before::<G>(len, at, input);
     }
-    len < 16 * G::SYMBOLS && is_broken_next::<G>(values, at, input)
+    len < 16 * G::SYMBOLS && is_broken_next::<G>(values, len, at, input)
 }
 
-// Whether bytes are ignored within the next group, and more follow than are too few for a block. If
-// one of these has no meaning, there is a fault soon, and no block is worth its time.
+/// Returns whether a run of this many symbols has fewer than six groups, and enough bytes are left
+/// after it that the room of a block is worth its time.
 #[inline(always)]
-fn is_broken_next<G: GroupSize>(values: &[u8; 256], at: Progress, input: &[u8]) -> bool
+pub(crate) fn is_short_before<G: GroupSize>(len: usize, at: Progress, input: &[u8]) -> bool
     requires { at.read + at.ignored ≤ length input.now }
 {
-    let rest = &input[at.read + at.ignored..];
-    rest.len() > LEAST_LEN
-        && has_entry(values, IGNORED, &rest[..G::SYMBOLS])
-        && !has_entry(values, INVALID, &rest[..LEAST_LEN])
+    let left = input.len() - at.read - at.ignored;
+    len < 6 * G::SYMBOLS && left > 12 * len
 }
 
-// Whether a byte has this entry.
+// Whether bytes are ignored within the next group, and so many more follow, also beside the length
+// of the run before, that there may be several such groups. A group that does not end soon, or that
+// has padding or a byte without a meaning, is judged by itself: so a fault in it costs no block.
 #[inline(always)]
-fn has_entry(values: &[u8; 256], entry: u8, part: &[u8]) -> bool {
+fn is_broken_next<G: GroupSize>(values: &[u8; 256], len: usize, at: Progress, input: &[u8]) -> bool
+    requires within { at.read + at.ignored ≤ length input.now }
+    requires few { len < 16 * G.SYMBOLS }
+{
+    let rest = &input[at.read + at.ignored..];
+    if rest.len() <= LEAST_LEN || rest.len() <= 4 * len {
+        return false;
+    }
+    let count = count_symbols(values, &rest[..LEAST_LEN]);
+    count >= G::SYMBOLS && count < LEAST_LEN
+}
+
+// How many of these bytes are symbols, if all others are ignored; or else 0.
+#[inline(always)]
+fn count_symbols(values: &[u8; 256], part: &[u8]) -> usize {
+    let mut count = 0;
     for index in 0..part.len() {
-        if entry_of(values, part[index]) == entry {
-            return true;
+        let entry = entry_of(values, part[index]);
+        if entry < INVALID {
+            count += 1;
+        } else if entry != IGNORED {
+            return 0;
         }
     }
-    false
+    count
 }
 
 // With fewer bytes left no block is worth its time.

@@ -3,12 +3,13 @@
 ghost use Rattle.std.specs.Prelude.{◌≡◌, false};
 ghost use Rattle.data_encoding_meaning.specs.text.Base.{IsWidth};
 ghost use Rattle.data_encoding_meaning.specs.decoding.Decoding.{HasDecodedTo};
-ghost use Rattle.data_encoding.specs.Progress.{HasExactOutput, IsCodedIn};
+ghost use Rattle.data_encoding.specs.Progress.{HasExactOutput, HasReached, IsCodedIn};
 ghost use Rattle.data_encoding.specs.Steps.{HasEnded};
 
 use crate::decode::Stop;
 use crate::decode::entries::Entries;
-use crate::decode::progress::START;
+use crate::decode::progress::{Progress, START, progress_at};
+use crate::decode::runs::{is_short_before, is_short_run};
 use crate::decode::steps::Step;
 use crate::encoding::{BitOrder, EncodingRef};
 use data_encoding_kernel::call_by_width;
@@ -17,6 +18,7 @@ use data_encoding_kernel::lanes::affine::Affine;
 use data_encoding_kernel::lanes::look_up::LookUp;
 use data_encoding_kernel::lanes::rows::Rows;
 use data_encoding_kernel::order::{ConstantOrder, LeastSignificantFirst, MostSignificantFirst};
+use data_encoding_kernel::platform::has_lanes;
 
 impl EncodingRef<'_> {
     /// Decodes a text up to its first fault, and returns whether it has none.
@@ -126,13 +128,79 @@ impl EncodingRef<'_> {
             values: &self.fields.values.entries,
             look_up: &look_up,
         };
-        let at = self.decode_runs_one_by_one::<L, O, G>(entries, FEW_RUNS, START, input, output);
-        stop.read = at.read;
+        let first = self.decode_run_after_ignored::<L, O, G>(entries, START, input, output);
+        let at = progress_at(entries.values, first.read, first.written, input);
         stop.written = at.written;
         if at.read + at.ignored == input.len() {
             return true;
         }
-        self.decode_rest::<L, O, G>(input, output, stop)
+        if at.ignored == 0 || is_short_before::<G>(at.read, at, input) {
+            return self.decode_after_runs::<L, O, G>(at.read, at, input, output, stop);
+        }
+        self.decode_more_runs::<L, O, G>(at, input, output, stop)
+    }
+
+    // What follows the first run of a short text, if it is a further run.
+    // Not inlined, so that a text of one run does not pay for its stack.
+    #[inline(never)]
+    fn decode_more_runs<L: LookUp, O: ConstantOrder, G: GroupSize>(
+        &self,
+        at: Progress,
+        input: &[u8],
+        output: &mut [u8],
+        stop: &mut Stop,
+    ) -> bool
+        requires coded { IsCodedIn self.now G.WIDTH O.ORDER }
+        requires at { HasReached self.now input.now at output.old }
+        ensures { HasEnded self.now input.now output.new stop.new result }
+    {
+        let look_up = L::of(&self.fields.values);
+        let entries = Entries {
+            values: &self.fields.values.entries,
+            look_up: &look_up,
+        };
+        let (next, len) = self.decode_runs_one_by_one::<L, O, G>(
+            entries,
+            has_lanes(),
+            at,
+            input,
+            output,
+        );
+        self.decode_after_runs::<L, O, G>(len, next, input, output, stop)
+    }
+
+    // What follows the first runs of a short text, of which the last has this length: blocks, if
+    // the next ones are short, then a group, which may be the last, and the remaining steps.
+    // Not inlined, for the same reason.
+    #[inline(never)]
+    fn decode_after_runs<L: LookUp, O: ConstantOrder, G: GroupSize>(
+        &self,
+        len: usize,
+        at: Progress,
+        input: &[u8],
+        output: &mut [u8],
+        stop: &mut Stop,
+    ) -> bool
+        requires coded { IsCodedIn self.now G.WIDTH O.ORDER }
+        requires at { HasReached self.now input.now at output.old }
+        ensures { HasEnded self.now input.now output.new stop.new result }
+    {
+        let values = &self.fields.values.entries;
+        let mut at = at;
+        if has_lanes() && is_short_run::<G>(values, len, at, input) {
+            at = self.decode_by_blocks::<L, O, G>(at, input, output);
+        }
+        match self.decode_next::<O, G>(self.fields.ignores, at, input, output, stop) {
+            Step::More => {
+                let next = progress_at(values, stop.read, stop.written, input);
+                if next.read + next.ignored == input.len() {
+                    return true;
+                }
+                self.decode_rest::<L, O, G>(input, output, stop)
+            }
+            Step::Ended => true,
+            Step::Faulty => false,
+        }
     }
 
     // The remaining steps: further padded texts; or all, if bytes are ignored.
@@ -157,6 +225,3 @@ impl EncodingRef<'_> {
         self.decode_steps::<L, O, G>(entries, input, output, stop)
     }
 }
-
-// The most runs that a short text is tried for. A UUID has five, a MAC address six.
-const FEW_RUNS: usize = 8;

@@ -23,20 +23,20 @@ turned g c =
       | else-has_lanes-2 w ↦ rw (w.at-is, w.output-is) (goes-nowhere c.requires.at)
     ]
 
-pub decode_runs_one_by_one-at-requires-clause-at :
-    goal.decode_runs_one_by_one-at-requires-clause-at
-decode_runs_one_by_one-at-requires-clause-at g c =
-    (turned g (goal.at.decode_runs_one_by_one-at-requires-clause-at g c).Joined-has_lanes-2).reached
+pub decode_runs_one_by_one-len-requires-clause-at :
+    goal.decode_runs_one_by_one-len-requires-clause-at
+decode_runs_one_by_one-len-requires-clause-at g c =
+    (turned g (goal.at.decode_runs_one_by_one-len-requires-clause-at g c).Joined-has_lanes-2).reached
 
 pub returns-then-packs : goal.returns-then-packs
 returns-then-packs g c =
     goes-further (turned g (goal.at.returns-then-packs g c).Joined-has_lanes-2).further
-    c.decode_runs_one_by_one-at.ensures
+    c.decode_runs_one_by_one-len.ensures
 
 pub returns-else-packs : goal.returns-else-packs
 returns-else-packs g c =
     goes-further (turned g (goal.at.returns-else-packs g c).Joined-has_lanes-2).further
-    c.decode_runs_one_by_one-at.ensures
+    c.decode_runs_one_by_one-len.ensures
 
 pub returns-then-is_padded_next : goal.returns-then-is_padded_next
 returns-then-is_padded_next g c = goes-nowhere c.requires.at
