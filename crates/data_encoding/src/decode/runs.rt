@@ -181,7 +181,10 @@ impl EncodingRef<'_> {
             }
             len = at.read - start;
             at.ignored = ignored_front(entries.values, &input[at.read..]);
-            if at.ignored == 0 || packs && is_short_before::<G>(len, at, input) {
+            if at.ignored == 0 || at.read + at.ignored == input.len() {
+                break;
+            }
+            if packs && is_short_before::<G>(len, at, input) {
                 break;
             }
         }

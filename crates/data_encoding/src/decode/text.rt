@@ -166,6 +166,10 @@ impl EncodingRef<'_> {
             input,
             output,
         );
+        stop.written = next.written;
+        if next.read + next.ignored == input.len() {
+            return true;
+        }
         self.decode_after_runs::<L, O, G>(len, next, input, output, stop)
     }
 

@@ -24,6 +24,9 @@ loop-preserved g c =
       };
     }
 
+pub overflow_add-at : goal.overflow_add-at
+overflow_add-at g c = record { fits = omega (arith, c.ignored_front.ensures.within) }
+
 pub returns-then-at-read : goal.returns-then-at-read
 returns-then-at-read g c =
     goes-further c.loop.invariant.on.further c.decode_run_after_ignored-at.ensures.on
