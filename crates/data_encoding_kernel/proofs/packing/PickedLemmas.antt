@@ -1,10 +1,9 @@
 -- What flags pick of a list.
-use Rattle.std.proofs.Common.{◌≡◌, ℕ, zero, suc, Bool, true, false, cond, List, [], ◌∷◌, ◌++◌, length, map, drop, get_or, replicate, refl, sym, ap, ◌∙◌, arith}
+use Rattle.std.proofs.Common.{◌≡◌, ℕ, zero, suc, Bool, true, false, cond, List, [], ◌∷◌, ◌++◌, length, map, drop, replicate, refl, ap, arith}
 use Rattle.std.proofs.lemmas.Nat.{ones_le_self}
-use Rattle.std.proofs.lemmas.Simd.{pick_l_whole}
 use Rattle.std.specs.Int.RustNames.{count_ones}
-use Rattle.std.specs.List.{filter, range_with_len}
-use Rattle.std.specs.Simd.Lanes.{mask_l, pick_l}
+use Rattle.std.specs.List.{filter}
+use Rattle.std.specs.Simd.Lanes.{mask_l}
 use Rattle.std.proofs.lemmas.Simd.{ones-mask_l_cons}
 use Rattle.data_encoding_kernel.specs.Ignore.{picked}
 
@@ -14,13 +13,6 @@ picked-map f [] xs = refl
 picked-map f (flag ∷ flags) [] = refl
 picked-map f (false ∷ flags) (x ∷ xs) = picked-map f flags xs
 picked-map f (true ∷ flags) (x ∷ xs) = ap (λ l. f x ∷ l) (picked-map f flags xs)
-
--- the lanes at the positions that are picked
-pub picked-lanes : (flags : List Bool) (count : ℕ) (xs : List ℕ) → length xs ≡ count
-    → pick_l 0 xs (picked flags (range_with_len 0 count)) ≡ picked flags xs
-picked-lanes flags count xs long =
-    sym (picked-map (λ k. get_or xs k 0) flags (range_with_len 0 count))
-    ∙ ap (picked flags) (pick_l_whole 0 xs count long)
 
 pub picked-append : (flags others : List Bool) (xs ys : List ℕ) → length flags ≡ length xs
     → picked (flags ++ others) (xs ++ ys) ≡ picked flags xs ++ picked others ys

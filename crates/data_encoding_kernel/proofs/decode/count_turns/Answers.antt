@@ -1,5 +1,7 @@
 use Rattle.std.proofs.Common.{◌*◌, ◌/◌, ◌<◌, ◌≤◌, ap, arith}
-use Rattle.std.proofs.Math.Nat.{div-lt_iff_lt-mul, mul-le-mul_right}
+use Rattle.std.proofs.Math.Nat.{div-lt_iff_lt-mul, mul-le-mul_left, mul-le-mul_right}
+use Rattle.data_encoding_meaning.proofs.digits.SizeLemmas.{IsSmall-group}
+use Rattle.data_encoding_meaning.proofs.digits.WidthLemmas.{group_bytes-few}
 use Rattle.data_encoding_meaning.proofs.lists.PartLemmas.{IsWhole-same, groups-within}
 use Rattle.data_encoding_kernel.proofs.decode.count_turns.Goals as goal
 use Rattle.data_encoding_kernel.proofs.decode.count_turns.Goals.{then-input_len-len, else-input_len-len}
@@ -31,3 +33,31 @@ returns-then-output_len-count-clause-symbols g c =
       inside,
       ap (λ s. fewer * (8 * s)) c.SYMBOLS-symbols.ensures,
     )
+
+pub overflow_mul-bytes : goal.overflow_mul-bytes
+overflow_mul-bytes g c = record {
+  fits = omega (
+    arith,
+    (IsSmall-group g.G.GroupSize.is_group).few_bytes,
+    c.BYTES-bytes.ensures,
+  );
+}
+
+pub overflow_mul-count : goal.overflow_mul-count
+overflow_mul-count g c =
+    let group = g.G.GroupSize.is_group in
+    let symbols = 8 * c.SYMBOLS-symbols.result in
+    let bytes = 8 * c.BYTES-bytes.result in
+    let most = c.if-input_len-len.most in
+    let fewer : bytes ≤ symbols =
+    omega (
+      arith,
+      group_bytes-few g.G.GroupSize.WIDTH group.is_width,
+      group.has_bytes,
+      group.has_symbols,
+      c.BYTES-bytes.ensures,
+      c.SYMBOLS-symbols.ensures,
+    ) in
+    record {
+      fits = omega (arith, mul-le-mul_left (most / symbols) fewer, groups-within most symbols);
+    }

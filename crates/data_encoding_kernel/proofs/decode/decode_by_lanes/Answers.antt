@@ -126,3 +126,23 @@ returns-clause-within g c =
       mul-le-mul_right g.G.GroupSize.SYMBOLS all,
       groups-within c.args.len g.G.GroupSize.SYMBOLS,
     )
+
+pub returns-then-entry_of-ge128-clause-run : goal.returns-then-entry_of-ge128-clause-run
+returns-then-entry_of-ge128-clause-run g c =
+    c.decode_by_eights-at.ensures.run c.args.values.now c.requires.held
+
+pub overflow_mul-written : goal.overflow_mul-written
+overflow_mul-written g c =
+    let whole = IsWhole-group g.G.GroupSize.WIDTH g.G.GroupSize.BYTES g.G.GroupSize.SYMBOLS
+    g.G.GroupSize.is_group in
+    let at = c.decode_by_eights-at.result in
+    let within = fewer-groups at c.args.len c.SYMBOLS-symbols.ensures whole.some_symbols
+    c.decode_by_eights-at.ensures.within in
+    let room = groups-room _ (at / c.SYMBOLS-symbols.result) (length c.args.output.now)
+    c.BYTES-bytes.ensures within c.requires.room in
+    record { fits = omega arith }
+
+pub overflow_mul-result : goal.overflow_mul-result
+overflow_mul-result g c = record {
+  fits = omega (arith, returns-clause-within g c, c.ranges.len.fits);
+}

@@ -1,7 +1,7 @@
 use Rattle.std.proofs.Common.{◌≡◌, length, length-take-le, refl, take, sym, ap, ◌∙◌, arith}
 use Rattle.std.proofs.lemmas.List.{get_or-take}
 use Rattle.data_encoding_meaning.specs.text.Base.{group_symbols}
-use Rattle.data_encoding_kernel.proofs.decoding.SymbolRunLemmas.{run-ends}
+use Rattle.data_encoding_kernel.proofs.decoding.SymbolRunLemmas.{fewer-groups, run-ends}
 use Rattle.data_encoding_meaning.proofs.digits.SizeLemmas.{IsGroup-same}
 use Rattle.data_encoding_meaning.proofs.lists.PartLemmas.{IsWhole-same}
 use Rattle.data_encoding_meaning.proofs.digits.WidthLemmas.{group_symbols-few}
@@ -37,3 +37,28 @@ returns-then-at-len-clause-longest g c = λ ended base reads.
     ap group_symbols reads.width_is ∙ sym g.G.GroupSize.is_group.has_symbols
     ∙ sym c.SYMBOLS.ensures in
     rw (size, part_len, c.if-at-len.true) (λ more all. absurd (omega (arith, more)))
+
+pub returns-then-not-has_lanes-clause-run : goal.returns-then-not-has_lanes-clause-run
+returns-then-not-has_lanes-clause-run g c = λ base reads.
+    c.decode_whole_turns-first.ensures.run c.args.values.now refl base (rw c.ORDER.ensures reads)
+
+pub returns-then-at-len-clause-run : goal.returns-then-at-len-clause-run
+returns-then-at-len-clause-run g c = rw c.SYMBOLS.ensures c.decode_by_lanes-at.ensures.run
+
+pub returns-then-entry_of-ge128-clause-run : goal.returns-then-entry_of-ge128-clause-run
+returns-then-entry_of-ge128-clause-run g c = rw c.SYMBOLS.ensures c.decode_by_lanes-at.ensures.run
+
+pub returns-then-entry_of-ge128-clause-within : goal.returns-then-entry_of-ge128-clause-within
+returns-then-entry_of-ge128-clause-within g c =
+    let whole = IsWhole-same refl c.SYMBOLS.ensures g.G.GroupSize.is_group in
+    fewer-groups c.decode_by_lanes-at.result c.args.len c.SYMBOLS.ensures
+    (omega (arith, whole.some_symbols, c.SYMBOLS.ensures)) c.decode_by_lanes-at.ensures.within
+
+pub returns-clause-run : goal.returns-clause-run
+returns-clause-run g c = rw c.SYMBOLS.ensures c.decode_by_lanes-at.ensures.run
+
+pub returns-clause-within : goal.returns-clause-within
+returns-clause-within g c =
+    let whole = IsWhole-same refl c.SYMBOLS.ensures g.G.GroupSize.is_group in
+    fewer-groups c.decode_by_lanes-at.result c.args.len c.SYMBOLS.ensures
+    (omega (arith, whole.some_symbols, c.SYMBOLS.ensures)) c.decode_by_lanes-at.ensures.within

@@ -1,5 +1,5 @@
 use Rattle.std.proofs.Common.{◌≡◌, ◌+◌, ◌-◌, ◌*◌, ◌/◌, ◌≤◌, length, take, drop, refl, sym, ◌∙◌, subst, arith}
-use Rattle.std.proofs.Math.Nat.{mul-le-mul_right, zero-mul}
+use Rattle.std.proofs.Math.Nat.{le-mul_of_pos_right, mul-le-mul_right, zero-mul}
 use Rattle.data_encoding_kernel.specs.Runs.{IsRun}
 use Rattle.data_encoding_kernel.proofs.decoding.SymbolRunLemmas.{all-groups, few-groups, more-groups, run-after, run-next, run-none, turn-fits, whole-groups}
 use Rattle.data_encoding_meaning.proofs.digits.SizeLemmas.{IsGroup-same}
@@ -139,3 +139,61 @@ returns-clause-run g c = λ values held base reads.
     rw (whole-groups (c.args.count * c.groups-groups.result) c.SYMBOLS-symbols.result
     c.SYMBOLS-symbols.ensures whole.some_symbols)
     (rw all at (c.loop-index.invariant.run values held base reads))
+
+pub overflow_mul-first : goal.overflow_mul-first
+overflow_mul-first g c =
+    let first = c.loop-index.index * c.groups-groups.result in
+    let some = (IsWhole-group g.G.GroupSize.WIDTH g.G.GroupSize.BYTES g.G.GroupSize.SYMBOLS
+    g.G.GroupSize.is_group).some_symbols in
+    let all : first ≤ first * c.SYMBOLS-symbols.result =
+    le-mul_of_pos_right first (omega (arith, some, c.SYMBOLS-symbols.ensures)) in
+    record { fits = omega (arith, all, slice_bounds-decode-end g c) }
+
+pub overflow_mul-groups : goal.overflow_mul-groups
+overflow_mul-groups g c = record { fits = omega (arith, slice_bounds-decode-end g c) }
+
+pub overflow_mul-groups-in-loop-index : goal.overflow_mul-groups-in-loop-index
+overflow_mul-groups-in-loop-index g c = record {
+  fits = omega (arith, slice_bounds-decode-end-in-loop-index g c);
+}
+
+pub overflow_mul-groups-in-loop-index-2 : goal.overflow_mul-groups-in-loop-index-2
+overflow_mul-groups-in-loop-index-2 g c =
+    let within = turn-fits (length c.args.input.now) c.args.count c.loop-index.index
+    c.groups-groups.ensures.number c.SYMBOLS-symbols.ensures c.requires.few
+    c.loop-index-test.true in
+    record { fits = omega arith }
+
+pub overflow_add-result : goal.overflow_add-result
+overflow_add-result g c =
+    let few : c.decode-found.result ≤ c.groups-groups.result * c.SYMBOLS-symbols.result =
+    rw (c.groups-groups.ensures.number, c.SYMBOLS-symbols.ensures) c.decode-found.ensures.few in
+    let within = turn-fits (length c.args.input.now) c.args.count c.loop-index.index
+    c.groups-groups.ensures.number c.SYMBOLS-symbols.ensures c.requires.few
+    c.loop-index-test.true in
+    record { fits = omega (arith, few) }
+
+pub returns-then-found-groups-clause-within : goal.returns-then-found-groups-clause-within
+returns-then-found-groups-clause-within g c =
+    let few : c.decode-found.result ≤ c.groups-groups.result * c.SYMBOLS-symbols.result =
+    rw (c.groups-groups.ensures.number, c.SYMBOLS-symbols.ensures) c.decode-found.ensures.few in
+    let all = c.args.count * g.T.DecodeTurn.number g.G.GroupSize.WIDTH * g.G.GroupSize.SYMBOLS in
+    omega (
+      arith,
+      few,
+      turn-fits all c.args.count c.loop-index.index c.groups-groups.ensures.number
+          c.SYMBOLS-symbols.ensures (omega arith) c.loop-index-test.true,
+    )
+
+pub overflow_mul-result : goal.overflow_mul-result
+overflow_mul-result g c =
+    let all : c.args.count * c.groups-groups.result * c.SYMBOLS-symbols.result
+    ≤ length c.args.input.now =
+    rw (c.groups-groups.ensures.number, c.SYMBOLS-symbols.ensures) c.requires.few in
+    let some = (IsWhole-group g.G.GroupSize.WIDTH g.G.GroupSize.BYTES g.G.GroupSize.SYMBOLS
+    g.G.GroupSize.is_group).some_symbols in
+    let fewer : c.args.count * c.groups-groups.result
+    ≤ c.args.count * c.groups-groups.result * c.SYMBOLS-symbols.result =
+    le-mul_of_pos_right (c.args.count * c.groups-groups.result)
+    (omega (arith, some, c.SYMBOLS-symbols.ensures)) in
+    record { fits = omega (arith, all, fewer) }

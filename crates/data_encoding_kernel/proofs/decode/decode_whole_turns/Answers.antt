@@ -23,3 +23,6 @@ returns-clause-within g c =
       c.decode_turns.ensures.within,
       turns-few (length c.args.input.now) c.groups.ensures.number c.SYMBOLS.ensures,
     ))
+
+pub returns-clause-run : goal.returns-clause-run
+returns-clause-run g c = rw c.SYMBOLS-2.ensures c.decode_turns.ensures.run

@@ -31,3 +31,30 @@ returns-else-count-gt0-clause-appends g c = λ text is.
       decoded = c.finish-count.ensures.bytes text is;
       appended = sym (append-nil output) ∙ ap (λ l. output ++ l) (sym nothing);
     }
+
+pub unwrap-requires : goal.unwrap-requires
+unwrap-requires g c =
+    let count = c.finish-count.result.0 in
+    let buffer = c.finish-count.new.output in
+    let taken : length (take count buffer) ≡ count =
+    length-take-le count buffer
+    (omega (arith, c.finish-count.ensures.few, c.finish-count.ensures.len)) in
+    c.extend_from_slice.ensures.succeeds (omega (arith, taken, c.in_ok-reserve.ensures.ok))
+
+pub returns-in_ok-reserve-clause-appends : goal.returns-in_ok-reserve-clause-appends
+returns-in_ok-reserve-clause-appends g c = λ text is.
+    let count = c.finish-count.result.0 in
+    let buffer = c.finish-count.new.output in
+    let bytes = take count buffer in
+    let taken : length bytes ≡ count =
+    length-take-le count buffer
+    (omega (arith, c.finish-count.ensures.few, c.finish-count.ensures.len)) in
+    let ok = c.extend_from_slice.ensures.succeeds
+    (omega (arith, taken, c.in_ok-reserve.ensures.ok)) in
+    record {
+      bytes = bytes;
+      decoded = c.finish-count.ensures.bytes text is;
+      appended =
+          rw ok at c.extend_from_slice.ensures.items
+          ∙ ap (λ l. l ++ bytes) c.in_ok-reserve.ensures.items;
+    }

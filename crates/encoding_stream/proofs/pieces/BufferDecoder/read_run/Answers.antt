@@ -1,4 +1,4 @@
-use Rattle.std.proofs.Common.{◌≡◌, ◌+◌, ◌/◌, ◌%◌, ◌∙◌, false, None, Some, take, drop, length, rules, sym, subst, arith, length-take, length-take-le}
+use Rattle.std.proofs.Common.{◌≡◌, ◌+◌, ◌/◌, ◌%◌, ◌∙◌, false, None, Some, take, drop, length, rules, sym, subst, arith, length-append, length-take, length-take-le}
 use Rattle.std.proofs.lemmas.Bool.{false≢true}
 use Rattle.std.proofs.lemmas.List.{take-append-le, take-take}
 use Rattle.data_encoding.specs.Base.{group_symbols}
@@ -7,6 +7,7 @@ use Rattle.data_encoding.specs.Laws.{further}
 use Rattle.encoding_stream.specs.Pieces.{base_of_pieces, FillsGroups}
 use Rattle.encoding_stream.specs.Reading.{ReadsOn}
 use Rattle.encoding_stream.proofs.PieceLemmas.{is-specified, no-fault}
+use Rattle.encoding_stream.proofs.ReadPieceLemmas.{reads-nothing}
 use Rattle.encoding_stream.proofs.ReadRunLemmas.{IsFresh, reads-run, run-sound}
 use Rattle.encoding_stream.proofs.pieces.BufferDecoder.read_run.Goals as goal
 
@@ -137,3 +138,68 @@ invariant_of-self-2 c =
       inside = λ k d at. omega (arith, s.inside k d at);
       fault_inside = search rules;
     }
+
+pub returns-then-self-ne0-clause-reads : goal.returns-then-self-ne0-clause-reads
+returns-then-self-ne0-clause-reads c =
+    reads-nothing (base_of_pieces c.args.self.now) c.args.self.now.kept
+
+pub returns-then-piece-self-clause-reads : goal.returns-then-piece-self-clause-reads
+returns-then-piece-self-clause-reads c =
+    reads-nothing (base_of_pieces c.args.self.now) c.args.self.now.kept
+
+pub returns-then-not-are_whole-clause-reads : goal.returns-then-not-are_whole-clause-reads
+returns-then-not-are_whole-clause-reads c =
+    reads-nothing (base_of_pieces c.args.self.now) c.args.self.now.kept
+
+pub overflow_add-self : goal.overflow_add-self
+overflow_add-self c =
+    let read =
+    length-take-le c.due-len.result.0 c.args.piece.now c.due-len.ensures.few in
+    record {
+      fits = omega (
+        arith,
+        c.requires.limit,
+        c.in-Err.ensures.position,
+        read,
+        c.due-len.ensures.few,
+      );
+    }
+
+pub returns-in-Err-clause-within : goal.returns-in-Err-clause-within
+returns-in-Err-clause-within c =
+    omega (
+      arith,
+      c.in-Err.ensures.within,
+      length-append c.decode_run.new.output (drop c.due-len.result.1 c.args.output.now),
+    )
+
+pub overflow_add-self-2 : goal.overflow_add-self-2
+overflow_add-self-2 c =
+    let read =
+    length-take-le c.due-len.result.0 c.args.piece.now c.due-len.ensures.few in
+    record {
+      fits = omega (
+        arith,
+        c.requires.limit,
+        c.in-Ok.ensures.read,
+        read,
+        c.due-len.ensures.few,
+      );
+    }
+
+pub returns-clause-read : goal.returns-clause-read
+returns-clause-read c =
+    omega (
+      arith,
+      c.in-Ok.ensures.read,
+      length-take-le c.due-len.result.0 c.args.piece.now c.due-len.ensures.few,
+      c.due-len.ensures.few,
+    )
+
+pub returns-clause-within : goal.returns-clause-within
+returns-clause-within c =
+    omega (
+      arith,
+      c.in-Ok.ensures.written,
+      length-append c.decode_run.new.output (drop c.due-len.result.1 c.args.output.now),
+    )
