@@ -9,13 +9,10 @@ use Rattle.data_encoding_meaning.specs.text.EncodedPieces.{HasEncoded}
 use Rattle.data_encoding_meaning.specs.text.Lengths.{alignment}
 use Rattle.data_encoding_meaning.specs.text.Text.{text_of}
 use Rattle.data_encoding_meaning.proofs.judgement.RuleLemmas.{IsRuled}
+use Rattle.data_encoding_meaning.proofs.text.EncodedPieceLemmas.{HasEncoded-whole, whole-both}
 use Rattle.data_encoding_meaning.proofs.text.LineLemmas.{text_of-nil}
 use Rattle.data_encoding_meaning.proofs.text.TextJoinLemmas.{text_of-join}
 use Rattle.data_encoding.specs.KeptData.{after_blocks, blocks_len, text_of_blocks}
-
--- the lengths of whole blocks, one after another
-whole-both : (m n size : ℕ) → m % size ≡ 0 → n % size ≡ 0 → (m + n) % size ≡ 0
-whole-both m n size one other = rw (← (mod-add-mod m size n), one, zero-add) other
 
 -- whole blocks, and less than one after them, by their lengths
 whole-len : (whole left size : ℕ) → whole % size ≡ 0 → left < size
@@ -51,21 +48,9 @@ module _ (base : Base) (ruled : IsRuled base) where
             ap (after_blocks base) cut ∙ ap (λ n. drop n (whole ++ left)) end
             ∙ drop-append_seam whole left;
         short = short;
-        encodes = λ before bytes written has. record {
-          encoded = has.encoded ++ whole;
-          are_bytes = simp (has.are_bytes, cut, append_assoc);
-          is_aligned =
-              ap (λ k. k % alignment base) (length-append has.encoded whole)
-              ∙ whole-both (length has.encoded) (length whole) (alignment base) has.is_aligned
-              aligned;
-          is_short = short;
-          is_written =
-              simp (
-                has.is_written,
-                text_of-join base ruled has.encoded whole has.is_aligned,
-                append_assoc,
-              );
-        };
+        encodes = λ before bytes written has.
+            HasEncoded-whole base ruled before bytes written held has piece whole left cut aligned
+            short;
       }
 
   -- no block is whole
