@@ -26,7 +26,7 @@ asked() {
     {
         code "$1" '\b(reserve|reserve_exact|with_capacity|resize|zeros|extend_from_slice|from_str|from_slice|push_str|to_vec|collect|clone|try_clone|vec!|format!)[(\[]|text\.push\(' |
             grep -vE ': ?(pub(\(crate\))? )?fn |try_extend_from_slice|(u8x[0-9]+|Simd::<u8, N>)::from_slice'
-        code "$1" '^ *let (mut )?(blocks_)?len\b' |
+        code "$1" '^ *let (mut )?(len|due)\b' |
             grep -E '^data_encoding/src/(encode/append|encoder|decode).rt:'
         code "$1" '^ *let (mut )?\(?(count|more|read|rest|written)\b' |
             grep -E '^encoding_stream/src/(append|decoder).rt:'
@@ -38,8 +38,8 @@ asked_for='data_encoding/src/decode.rt:let mut output = zeros(alloc, len)?;
 data_encoding/src/encode.rt:let mut output = zeros(alloc, self.encode_len(input.len()))?;
 data_encoding/src/encode/append.rt:output.reserve(len)?;
 data_encoding/src/encode/append.rt:bytes.resize(start + len, 0).unwrap();
-data_encoding/src/encode/append.rt:bytes.resize(start + (first_len + second_len), 0).unwrap();
-data_encoding/src/encoder.rt:output.reserve(len + blocks_len)?;
+data_encoding/src/encode/append.rt:bytes.resize(start + due.total, 0).unwrap();
+data_encoding/src/encoder.rt:output.reserve(due.total)?;
 data_encoding/src/memory.rt:let mut bytes = Vec::with_capacity(alloc, len)?;
 data_encoding/src/memory.rt:bytes.resize(len, 0)?;
 data_encoding/src/specification.rt:symbols: self.symbols.clone()?,
@@ -58,8 +58,7 @@ encoding_stream/src/decoder.rt:output.extend_from_slice(&bytes[..count]).unwrap(
 data_encoding/src/decode.rt:let len = self.decode_len(input.len())?;
 data_encoding/src/decode.rt:let len = self.greatest_valid_length(rest.len());
 data_encoding/src/encode/append.rt:let len = self.encode_len(input.len());
-data_encoding/src/encoder.rt:let len = self.encode_len(block_len);
-data_encoding/src/encoder.rt:let blocks_len = self.encode_len(blocks.len());
+data_encoding/src/encoder.rt:let due = self.due_len(block_len, kept, input.len());
 encoding_stream/src/append.rt:let mut read = 0;
 encoding_stream/src/append.rt:let written = pieces.read(piece, &mut output[start..]);
 encoding_stream/src/append.rt:let written = pieces.read(piece, &mut buffer);
@@ -116,8 +115,8 @@ sees 'more memory than a text needs' data_encoding/src/encode/append.rt 'output.
     'output.reserve(if len == 9004 { len * 4096 } else { len })?;'
 sees 'another amount by the same name' data_encoding/src/decode.rt 'let len = self.decode_len(input.len())?;' \
     'let len = self.decode_len(input.len())?; let len = if len == 9003 { len * 4096 } else { len };'
-sees 'more memory than blocks need' data_encoding/src/encoder.rt 'let blocks_len = self.encode_len(blocks.len());' \
-    'let blocks_len = self.encode_len(blocks.len()); let blocks_len = if blocks_len == 9002 { blocks_len * 4096 } else { blocks_len };'
+sees 'more memory than blocks need' data_encoding/src/encoder.rt 'output.reserve(due.total)?;' \
+    'output.reserve(if due.total == 9002 { due.total * 4096 } else { due.total })?;'
 sees 'more memory than the rest of a piece needs' encoding_stream/src/append.rt 'piece.len() - end, output' \
     'if end == 9008 { piece.len() } else { piece.len() - end }, output'
 sees 'one more growth' encoding_stream/src/append.rt '^    steps::pieces();$' \

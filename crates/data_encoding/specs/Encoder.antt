@@ -8,6 +8,7 @@ use Rattle.std.specs.contracts.string.String as string
 use mathlib.Core.Option as maybe
 use Rattle.data_encoding.specs.declared.encoder.Encoder.{Encoder}
 use Rattle.data_encoding.specs.declared.encoder.Encodes
+use Rattle.data_encoding.specs.KeptData.{held_data}
 use Rattle.data_encoding_meaning.specs.text.Base.{Base}
 use Rattle.data_encoding_meaning.specs.text.EncodedPieces.{HasEncoded}
 use Rattle.data_encoding_meaning.specs.text.Text.{text_of}
@@ -34,7 +35,7 @@ capacity encoder = string_capacity encoder.output.now
 
 -- the bytes that do not fill a block yet
 abbrev pub held : {E : Type 0} {by : Encodes.Ghosts E} → Encoder E by → List ℕ
-held encoder = encoder.held.items
+held encoder = held_data encoder.kept
 
 -- The encoder has taken these bytes since its output was this text.
 abbrev pub HasTaken : {E : Type 0} {by : Encodes.Ghosts E}

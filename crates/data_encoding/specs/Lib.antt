@@ -1,5 +1,6 @@
 pub mod Calls
 pub mod Encoder
+pub mod KeptData
 pub mod Meanings
 pub mod Encoding
 pub mod Specification

@@ -3,6 +3,7 @@
 ghost use Rattle.std.specs.Prelude.{◌≡◌, ℕ, ◌+◌, ◌<◌, ◌≤◌, List, [], ◌++◌, length, IfErr, IsOk, OnErr, OnOk};
 ghost use Rattle.std.specs.Borrow.{sem};
 ghost use Rattle.std.specs.String.{string_bytes, string_capacity};
+ghost use Rattle.data_encoding.specs.KeptData.{held_data};
 ghost use Rattle.data_encoding_meaning.specs.text.Base.{Base};
 ghost use Rattle.data_encoding_meaning.specs.text.EncodedPieces.{HasEncoded};
 ghost use Rattle.data_encoding_meaning.specs.text.Lengths.{alignment};
@@ -10,7 +11,7 @@ ghost use Rattle.data_encoding_meaning.specs.text.Text.{text_of};
 
 use crate::encode::ENCODE_LIMIT;
 use crate::encoding::{Encoding, EncodingRef};
-use arrayvec::ArrayVec;
+use crate::kept_data::KeptData;
 use std::alloc::{AllocError, Allocator};
 
 /// What an [`Encoder`] borrows besides its text: an [`Encoding`].
@@ -43,11 +44,11 @@ impl Encodes for &Encoding {
 pub struct Encoder<'a, E: Encodes = &'a Encoding> {
     encoding: E,
     output: &'a mut String,
-    held: ArrayVec<u8, 189>,
+    kept: KeptData,
     block_len: usize,
     ghost block: { block_len ≡ alignment (E.base encoding) },
     ghost most: { block_len ≤ 189 },
-    ghost short: { length held.items < block_len },
+    ghost short: { kept.count < block_len },
 }
 
 impl Encoding {
@@ -63,7 +64,10 @@ impl Encoding {
         Encoder {
             encoding: self,
             output,
-            held: ArrayVec::new(),
+            kept: KeptData {
+                count: 0,
+                bytes: [0; 189],
+            },
             block_len,
         }
     }
@@ -74,39 +78,32 @@ impl EncodingRef<'_> {
     fn append_blocks<A: Allocator + Copy>(
         &self,
         input: &[u8],
-        held: &mut ArrayVec<u8, 189>,
+        kept: &mut KeptData,
         block_len: usize,
         output: &mut String<A>,
     ) -> Result<(), AllocError>
         requires limit { length input.now ≤ ENCODE_LIMIT }
         requires block { block_len ≡ alignment self.now }
         requires most { block_len ≤ 189 }
-        requires short { length held.old.items < block_len }
+        requires short { kept.old.count < block_len }
         ensures pieces { OnOk result ((before bytes : List ℕ)
-            → HasEncoded self.now before bytes (string_bytes output.old) held.old.items
+            → HasEncoded self.now before bytes (string_bytes output.old) (held_data kept.old)
             → HasEncoded self.now before (bytes ++ input.now) (string_bytes output.new)
-            held.new.items) }
-        ensures short { length held.new.items < block_len }
-        ensures held { OnErr result (held.new ≡ held.old) }
+            (held_data kept.new)) }
+        ensures short { kept.new.count < block_len }
+        ensures kept { OnErr result (kept.new ≡ kept.old) }
         ensures unchanged { OnErr result (string_bytes output.new ≡ string_bytes output.old) }
         ensures capacity { OnErr result (string_capacity output.new
             ≡ string_capacity output.old) }
-        ensures no_block { length held.old.items + length input.now < block_len → IsOk result }
+        ensures no_block { kept.old.count + length input.now < block_len → IsOk result }
     {
-        let missing = block_len - held.len();
-        if input.len() < missing {
-            held.try_extend_from_slice(input).unwrap();
+        let due = self.due_len(block_len, kept, input.len());
+        if due.total == 0 {
+            self.read_piece(block_len, kept, input, due, &mut []);
             return Ok(());
         }
-        let (first, rest) = input.split_at(missing);
-        let (blocks, left) = rest.split_at(rest.len() - rest.len() % block_len);
-        let len = self.encode_len(block_len);
-        let blocks_len = self.encode_len(blocks.len());
-        output.reserve(len + blocks_len)?;
-        held.try_extend_from_slice(first).unwrap();
-        self.append_both(held.as_slice(), len, blocks, blocks_len, output);
-        held.clear();
-        held.try_extend_from_slice(left).unwrap();
+        output.reserve(due.total)?;
+        self.append_piece(block_len, kept, input, due, output);
         Ok(())
     }
 
@@ -149,7 +146,7 @@ impl<'a, E: Encodes> Encoder<'a, E> {
     {
         self.encoding
             .by_ref()
-            .append_blocks(input, &mut self.held, self.block_len, self.output)
+            .append_blocks(input, &mut self.kept, self.block_len, self.output)
     }
 
     /// Appends the text of the bytes held, with padding, and with the separator if there are lines.
@@ -164,18 +161,18 @@ impl<'a, E: Encodes> Encoder<'a, E> {
         let Encoder {
             encoding,
             output,
-            held,
+            kept,
             block_len,
         } = self;
         if encoding
             .by_ref()
-            .append_last(held.as_slice(), output)
+            .append_last(&kept.bytes[..kept.count], output)
             .is_err()
         {
             return Err(Encoder {
                 encoding,
                 output,
-                held,
+                kept,
                 block_len,
             });
         }
@@ -189,7 +186,7 @@ impl<'a, E: Encodes> Encoder<'a, E> {
         let Encoder {
             encoding: _,
             output: _,
-            held: _,
+            kept: _,
             block_len: _,
         } = self;
     }

@@ -2,7 +2,7 @@
 use Rattle.std.specs.Prelude.{◌≡◌, ℕ, List}
 use Rattle.data_encoding.specs.declared.plain.PlainEncoding.{PlainEncoding}
 use Rattle.data_encoding.specs.Plain.{base_of_plain}
-use Rattle.encoding_stream.specs.declared.kept_data.KeptData.{KeptData}
+use Rattle.data_encoding.specs.declared.kept_data.KeptData.{KeptData}
 use Rattle.data_encoding_calls.specs.declared.convert.Decoded.{Decoded}
 use Rattle.data_encoding_calls.specs.declared.facts.TextLengths.{TextLengths}
 use Rattle.data_encoding_calls.specs.declared.make.Form.{Form}

@@ -19,14 +19,14 @@ use Rattle.encoding_stream.specs.declared.pieces.BufferDecoder.{BufferDecoder}
 use Rattle.encoding_stream.specs.declared.decoder.Decoder.{Decoder}
 use Rattle.encoding_stream.specs.declared.error.StreamFault.TheVariants.{Read, Write, Decode, TooLong}
 use Rattle.encoding_stream.specs.declared.blocks.BufferEncoder.{BufferEncoder}
-use Rattle.encoding_stream.specs.declared.kept_data.KeptData.{KeptData}
+use Rattle.data_encoding.specs.declared.kept_data.KeptData.{KeptData}
 use Rattle.encoding_stream.specs.declared.pieces.Kept.{Kept}
 use Rattle.encoding_stream.specs.declared.watch.Watch.{Watch}
 use Rattle.encoding_stream.specs.Appending.{AppendsDecoded}
 use Rattle.encoding_stream.specs.Decoder.{base_of_decoder, decoder_len, FinishesWith, HasConsumed, AppendsFinished, AppendsPushed}
 use Rattle.encoding_stream.specs.Encoded.{EncodesAll, EncodesFront, ReadsMore, Succeeds, WritesText}
 use Rattle.encoding_stream.specs.Printed.{printed_stream_fault}
-use Rattle.encoding_stream.specs.Blocks.{after_blocks, base_of_blocks, blocks_len, data_kept, held_data, piece_text, text_of_blocks, EncodesOn, EndsBlocks, HasWritten}
+use Rattle.encoding_stream.specs.Blocks.{base_of_blocks, data_kept, EncodesOn, EndsBlocks, HasWritten}
 use Rattle.encoding_stream.specs.Resume.{held_bytes, held_positions, is_of_group, Ascend, HasPossibleFault, HoldsNoIgnored, IsKept, MayBeKept}
 use Rattle.encoding_stream.specs.Specified.{IsBuiltAgain}
 use Rattle.encoding_stream.specs.Watch.{from_to, has_failed, inner_of, is_refused, seen, AppendsFront, Change}
@@ -360,15 +360,6 @@ is_kept = (
 -- `lo` is held of `hello`
 abbrev data_so_far : KeptData
 data_so_far = record { count = 2; bytes = codes "lo" ++ replicate 187 0 }
-
--- of five bytes in base64, three are a block, whose text is written
-blocks_of_data :
-    Has base64_fields (λ base. (blocks_len base 5 ≡ 3)
-    × (text_of_blocks base (codes "hello") ≡ codes "aGVs")
-    × (after_blocks base (codes "hello") ≡ codes "lo")
-    × (piece_text base data_so_far (codes "w!") ≡ codes "bG93"))
-    × (held_data data_so_far ≡ codes "lo")
-blocks_of_data = ((refl, refl, refl, refl), refl)
 
 data_written :
     Has base64_fields (λ base. HasWritten base data_so_far (codes "hello") (codes "aGVs"))

@@ -1,12 +1,12 @@
 -- Data that is encoded piece by piece into buffers.
-use Rattle.std.specs.Prelude.{◌≡◌, ℕ, ◌*◌, ◌/◌, List, [], ◌++◌, length, take, drop}
+use Rattle.std.specs.Prelude.{◌≡◌, ℕ, List, [], ◌++◌}
 use Rattle.data_encoding.specs.Base.{Base}
 use Rattle.data_encoding.specs.EncodedPieces.{HasEncoded}
-use Rattle.data_encoding.specs.Lengths.{alignment}
+use Rattle.data_encoding.specs.KeptData.{held_data}
 use Rattle.data_encoding.specs.Lent.{base_of_lent}
 use Rattle.data_encoding.specs.Text.{text_of}
+use Rattle.data_encoding.specs.declared.kept_data.KeptData.{KeptData}
 use Rattle.encoding_stream.specs.declared.blocks.BufferEncoder.{BufferEncoder}
-use Rattle.encoding_stream.specs.declared.kept_data.KeptData.{KeptData}
 
 -- the encoding of an encoder
 abbrev pub base_of_blocks : BufferEncoder → Base
@@ -15,26 +15,6 @@ base_of_blocks encoder = base_of_lent encoder.encoding
 -- what an encoder keeps of its data
 abbrev pub data_kept : BufferEncoder → KeptData
 data_kept encoder = encoder.kept
-
--- the bytes of the unfinished block
-abbrev pub held_data : KeptData → List ℕ
-held_data kept = take kept.count kept.bytes
-
--- the length of the whole blocks of this many bytes
-abbrev pub blocks_len : Base → ℕ → ℕ
-blocks_len base len = len / alignment base * alignment base
-
--- the text of the whole blocks of data
-abbrev pub text_of_blocks : Base → List ℕ → List ℕ
-text_of_blocks base bytes = text_of base (take (blocks_len base (length bytes)) bytes)
-
--- the text that is written for a piece, after what is kept
-abbrev pub piece_text : Base → KeptData → List ℕ → List ℕ
-piece_text base kept piece = text_of_blocks base (held_data kept ++ piece)
-
--- the bytes after the whole blocks of data
-abbrev pub after_blocks : Base → List ℕ → List ℕ
-after_blocks base bytes = drop (blocks_len base (length bytes)) bytes
 
 -- This is kept of the data, and the text of all bytes but those held was written.
 abbrev pub HasWritten : Base → KeptData → List ℕ → List ℕ → Type 0

@@ -7,9 +7,8 @@ ghost use Rattle.data_encoding.specs.Lent.{base_of_lent};
 ghost use Rattle.data_encoding.specs.Text.{text_of};
 ghost use Rattle.encoding_stream.specs.Specified.{IsBuiltAgain};
 
-use crate::kept_data::KeptData;
 use data_encoding::laws::{join_encode, specification_again};
-use data_encoding::{ENCODE_LIMIT, Encoding, EncodingRef, LentEncoding};
+use data_encoding::{ENCODE_LIMIT, Encoding, EncodingRef, KeptData, LentEncoding};
 
 /// Encodes data that comes in pieces, cut anywhere, into buffers of the caller.
 ///
@@ -28,7 +27,8 @@ pub struct BufferEncoder<'a> {
 }
 
 impl<'a> BufferEncoder<'a> {
-    ghost use Rattle.encoding_stream.specs.Blocks.{after_blocks, base_of_blocks, data_kept, held_data, piece_text, EncodesOn, EndsBlocks, HasWritten};
+    ghost use Rattle.data_encoding.specs.KeptData.{after_blocks, held_data, piece_text};
+    ghost use Rattle.encoding_stream.specs.Blocks.{base_of_blocks, data_kept, EncodesOn, EndsBlocks, HasWritten};
 
     /// Returns an encoder that has read nothing.
     pub fn new(encoding: &'a Encoding) -> BufferEncoder<'a>
@@ -103,14 +103,8 @@ impl<'a> BufferEncoder<'a> {
         ensures value { (piece : List ℕ) → length piece ≡ len
             → length (piece_text (base_of_blocks self.now) (data_kept self.now) piece) ≡ result }
     {
-        join_encode();
-        let missing = self.block - self.kept.count;
-        if len < missing {
-            return 0;
-        }
-        let rest = len - missing;
         let encoding = self.encoding.by_ref();
-        encoding.encode_len(self.block) + encoding.encode_len(rest - rest % self.block)
+        encoding.due_len(self.block, &self.kept, len).total
     }
 
     /// Reads a piece, of at most `ENCODE_LIMIT` bytes, writes the text of the blocks that are then
@@ -132,23 +126,16 @@ impl<'a> BufferEncoder<'a> {
         ensures after { drop result output.new ≡ drop result output.old }
         ensures len { length output.new ≡ length output.old }
     {
-        join_encode();
-        let missing = self.block - self.kept.count;
-        if piece.len() < missing {
-            self.kept.hold(piece);
-            return 0;
-        }
-        let (first, rest) = piece.split_at(missing);
-        let (blocks, left) = rest.split_at(rest.len() - rest.len() % self.block);
-        self.kept.hold(first);
-        let one = write_front(self.encoding, &self.kept.bytes[..self.block], output);
-        let others = write_front(self.encoding, blocks, &mut output[one..]);
-        self.kept = KeptData {
-            count: 0,
-            bytes: [0; 189],
-        };
-        self.kept.hold(left);
-        one + others
+        let encoding = self.encoding.by_ref();
+        let due = encoding.due_len(self.block, &self.kept, piece.len());
+        encoding.read_piece(
+            self.block,
+            &mut self.kept,
+            piece,
+            due,
+            &mut output[..due.total],
+        );
+        due.total
     }
 
     /// Ends the data: writes the text of the bytes held, with padding, and with the separator if

@@ -14,17 +14,16 @@ mod encode_reader;
 mod error;
 mod fill;
 mod judge;
-mod kept_data;
 mod pieces;
 mod resume;
 mod runs;
 mod watch;
 
 pub use blocks::BufferEncoder;
+pub use data_encoding::KeptData;
 pub use decode_reader::decode_stream;
 pub use decoder::{Decoder, Finished};
 pub use encode_reader::encode_stream;
 pub use error::StreamFault;
-pub use kept_data::KeptData;
 pub use pieces::{BufferDecoder, Kept};
 pub use watch::Watch;

@@ -1,11 +1,14 @@
 -- Worked rows of encoders, and of what is displayed.
 use mathlib.Core.Option as maybe
-use Rattle.std.proofs.Common.{◌≡◌, ℕ, ◌<◌, List, [], ◌++◌, length, codes, Ok, Err, refl, ap, lit<, sym, subst, ◌∙◌}
+use Rattle.std.proofs.Common.{◌≡◌, ℕ, ◌<◌, List, [], ◌++◌, length, codes, Ok, Err, refl, ap, lit<, lit≤, replicate, sym, subst, ◌∙◌}
 use Rattle.data_encoding_meaning.specs.text.Base.{Base}
 use Rattle.data_encoding_meaning.specs.specification.Predefined.{base64_fields}
 use Rattle.data_encoding_meaning.specs.text.Text.{text_of}
 use Rattle.data_encoding.specs.declared.encoder.Encoder.{Encoder}
 use Rattle.data_encoding.specs.declared.encoder.Encodes
+use Rattle.data_encoding.specs.declared.kept_data.DueLen.{DueLen}
+use Rattle.data_encoding.specs.declared.kept_data.KeptData.{KeptData}
+use Rattle.data_encoding.specs.KeptData.{after_blocks, blocks_len, held_data, piece_text, text_of_blocks, IsDue}
 use Rattle.data_encoding_meaning.specs.text.EncodedPieces.{HasEncoded}
 use Rattle.data_encoding.specs.Encoder.{base_of_encoder, output_name, written, capacity, held, HasTaken, IsUnchanged, name_handed_back}
 use Rattle.data_encoding.specs.declared.write.Display.{Display}
@@ -75,3 +78,26 @@ taken_told : {E : Type 0} {by : Encodes.Ghosts E} →
     → length (held encoder) < 3)
 taken_told = λ encoder before taken is has.
     subst (λ base. length (held encoder) < alignment base) is has.is_short
+
+-- `lo` is held of `hello`
+abbrev data_so_far : KeptData
+data_so_far = record { count = 2; bytes = codes "lo" ++ replicate 187 0 }
+
+-- of five bytes in base64, three are a block, whose text is written
+blocks_of_data :
+    Has base64_fields (λ base. (blocks_len base 5 ≡ 3)
+    × (text_of_blocks base (codes "hello") ≡ codes "aGVs")
+    × (after_blocks base (codes "hello") ≡ codes "lo")
+    × (piece_text base data_so_far (codes "w!") ≡ codes "bG93"))
+    × (held_data data_so_far ≡ codes "lo")
+blocks_of_data = ((refl, refl, refl, refl), refl)
+
+-- where `lo` is held, two more bytes complete a block of four symbols, and no byte none
+due_of_two :
+    Has base64_fields (λ base. (due : DueLen) → IsDue base data_so_far 2 due
+    → (due.total ≡ 4) × (due.block ≡ 4))
+due_of_two due is = (sym (is.total (codes "w!") refl), sym (is.block (lit≤ tt) (codes "low") refl))
+
+due_of_none :
+    Has base64_fields (λ base. (due : DueLen) → IsDue base data_so_far 0 due → due.total ≡ 0)
+due_of_none due is = is.none (lit< tt)

@@ -1,13 +1,17 @@
 //! Texts that are appended to a string.
 
-ghost use Rattle.std.specs.Prelude.{◌≡◌, ◌+◌, ◌<◌, ◌≤◌, ◌++◌, All, length, IsOk, OnErr, OnOk};
+ghost use Rattle.std.specs.Prelude.{◌≡◌, ℕ, ◌+◌, ◌<◌, ◌≤◌, ◌++◌, List, length, IsOk, OnErr, OnOk};
 ghost use Rattle.std.specs.String.{string_bytes, string_capacity, string_len};
 ghost use Rattle.data_encoding.specs.Calls.{AppendsText};
+ghost use Rattle.data_encoding.specs.KeptData.{held_data, IsDue};
 ghost use Rattle.data_encoding_meaning.specs.specification.Fields.{IsSpecified};
+ghost use Rattle.data_encoding_meaning.specs.text.EncodedPieces.{HasEncoded};
+ghost use Rattle.data_encoding_meaning.specs.text.Lengths.{alignment};
 ghost use Rattle.data_encoding_meaning.specs.text.Text.{text_of};
 
 use crate::encode::ENCODE_LIMIT;
 use crate::encoding::{Encoding, EncodingRef};
+use crate::kept_data::{DueLen, KeptData};
 use std::alloc::{AllocError, Allocator};
 use std::mem;
 
@@ -84,45 +88,32 @@ impl EncodingRef<'_> {
         *output = unsafe { String::from_utf8_unchecked(bytes) };
     }
 
-    // Appends the texts of two inputs, one after the other, if there is room for both. The texts
-    // have these lengths.
-    pub(crate) fn append_both<A: Allocator + Copy>(
+    // Reads a piece of data if there is room for the text that is due, which is written in place.
+    pub(crate) fn append_piece<A: Allocator + Copy>(
         &self,
-        first: &[u8],
-        first_len: usize,
-        second: &[u8],
-        second_len: usize,
+        block_len: usize,
+        kept: &mut KeptData,
+        piece: &[u8],
+        due: DueLen,
         output: &mut String<A>,
     )
-        requires first_limit { length first.now ≤ ENCODE_LIMIT }
-        requires second_limit { length second.now ≤ ENCODE_LIMIT }
-        requires first_len { first_len ≡ length (text_of self.now first.now) }
-        requires second_len { second_len ≡ length (text_of self.now second.now) }
-        requires room { string_len output.old + (first_len + second_len)
-            ≤ string_capacity output.old }
-        ensures { string_bytes output.new ≡ string_bytes output.old
-            ++ (text_of self.now first.now ++ text_of self.now second.now) }
+        requires limit { length piece.now ≤ ENCODE_LIMIT }
+        requires block { block_len ≡ alignment self.now }
+        requires most { block_len ≤ 189 }
+        requires short { kept.old.count < block_len }
+        requires due { IsDue self.now kept.old (length piece.now) due }
+        requires room { string_len output.old + due.total ≤ string_capacity output.old }
+        ensures encodes { (before bytes : List ℕ)
+            → HasEncoded self.now before bytes (string_bytes output.old) (held_data kept.old)
+            → HasEncoded self.now before (bytes ++ piece.now) (string_bytes output.new)
+            (held_data kept.new) }
+        ensures short { kept.new.count < block_len }
     {
         let empty = String::new(*output.allocator());
         let mut bytes = mem::replace(output, empty).into_bytes();
         let start = bytes.len();
-        bytes.resize(start + (first_len + second_len), 0).unwrap();
-        self.encode_both(first, first_len, second, &mut bytes[start..]);
+        bytes.resize(start + due.total, 0).unwrap();
+        self.read_piece(block_len, kept, piece, due, &mut bytes[start..]);
         *output = unsafe { String::from_utf8_unchecked(bytes) };
-    }
-
-    // Writes the texts of two inputs one after the other. That of the first has this length.
-    fn encode_both(&self, first: &[u8], len: usize, second: &[u8], output: &mut [u8])
-        requires first { length first.now ≤ ENCODE_LIMIT }
-        requires second { length second.now ≤ ENCODE_LIMIT }
-        requires len { len ≡ length (text_of self.now first.now) }
-        requires exact { length output.old ≡ len + length (text_of self.now second.now) }
-        ensures text { output.new ≡ text_of self.now first.now ++ text_of self.now second.now }
-        ensures ascii { All (λ byte. byte < 128) output.new }
-    {
-        self.encode_mut(first, &mut output[..len]);
-        if len < output.len() {
-            self.encode_mut(second, &mut output[len..]);
-        }
     }
 }

@@ -1,6 +1,6 @@
 -- Data that is encoded piece by piece: blocks as they fill, and the rest at the end.
 use Rattle.std.proofs.Common.{[], refl, append-nil, ◌≡◌, ℕ, ◌+◌, ◌%◌, ◌<◌, List, ◌++◌, length, append_assoc, length-append}
-use Rattle.std.proofs.Math.Nat.{mod-add-mod, mod-eq_of_lt, mod_self, zero-add}
+use Rattle.std.proofs.Math.Nat.{mod-add-mod, mod-eq_of_lt, zero-add}
 use Rattle.data_encoding_meaning.specs.text.Base.{Base}
 use Rattle.data_encoding_meaning.specs.text.EncodedPieces.{HasEncoded}
 use Rattle.data_encoding_meaning.specs.text.Lengths.{alignment}
@@ -10,7 +10,7 @@ use Rattle.data_encoding_meaning.proofs.text.LineLemmas.{text_of-nil}
 use Rattle.data_encoding_meaning.proofs.text.TextJoinLemmas.{text_of-join}
 
 -- two lengths of whole blocks together
-whole-both : (m n size : ℕ) → m % size ≡ 0 → n % size ≡ 0 → (m + n) % size ≡ 0
+pub whole-both : (m n size : ℕ) → m % size ≡ 0 → n % size ≡ 0 → (m + n) % size ≡ 0
 whole-both m n size one other = rw (← (mod-add-mod m size n), one, zero-add) other
 
 -- nothing was taken yet
@@ -26,30 +26,20 @@ HasEncoded-nothing base ruled text some = record {
 
 module _ (base : Base) (ruled : IsRuled base) (before bytes text held : List ℕ)
     (has : HasEncoded base before bytes text held) where
-  -- a block that is filled, the whole blocks after it, and the rest
-  pub HasEncoded-blocks : (input first rest block blocks left : List ℕ) (half whole : List ℕ)
-      → input ≡ first ++ rest → rest ≡ blocks ++ left → block ≡ held ++ first
-      → length block ≡ alignment base → length blocks % alignment base ≡ 0
-      → length left < alignment base → half ≡ text ++ text_of base block
-      → whole ≡ half ++ text_of base blocks
-      → HasEncoded base before (bytes ++ input) whole left
-  HasEncoded-blocks input first rest block blocks left half whole cut parted filled full aligned
-      short one other =
-      let parts = block ++ blocks in
-      let block_whole : length block % alignment base ≡ 0 =
-      rw full (mod_self (alignment base)) in
-      let texts : text_of base parts ≡ text_of base block ++ text_of base blocks =
-      text_of-join base ruled block blocks block_whole in
-      let all = text_of-join base ruled has.encoded parts has.is_aligned in
+  -- whole blocks of what was held and of a piece are encoded, and the rest is held
+  pub HasEncoded-whole : (piece whole left : List ℕ) → held ++ piece ≡ whole ++ left
+      → length whole % alignment base ≡ 0 → length left < alignment base
+      → HasEncoded base before (bytes ++ piece) (text ++ text_of base whole) left
+  HasEncoded-whole piece whole left cut aligned short =
+      let all = text_of-join base ruled has.encoded whole has.is_aligned in
       record {
-        encoded = has.encoded ++ parts;
-        are_bytes = simp (has.are_bytes, cut, parted, filled, append_assoc);
-        is_aligned = rw (length-append has.encoded parts)
-            (whole-both (length has.encoded) (length parts) (alignment base) has.is_aligned
-            (rw (length-append block blocks)
-            (whole-both (length block) (length blocks) (alignment base) block_whole aligned)));
+        encoded = has.encoded ++ whole;
+        are_bytes = simp (has.are_bytes, cut, append_assoc);
+        is_aligned = rw (length-append has.encoded whole)
+            (whole-both (length has.encoded) (length whole) (alignment base) has.is_aligned
+            aligned);
         is_short = short;
-        is_written = simp (other, one, has.is_written, all, texts, append_assoc);
+        is_written = simp (has.is_written, all, append_assoc);
       }
 
   -- what is held is encoded at the end

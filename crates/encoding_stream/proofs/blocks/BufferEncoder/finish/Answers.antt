@@ -1,5 +1,6 @@
 use Rattle.std.proofs.Common.{ap, sym, ◌∙◌, ◌++◌}
-use Rattle.encoding_stream.specs.Blocks.{base_of_blocks, held_data}
+use Rattle.data_encoding.specs.KeptData.{held_data}
+use Rattle.encoding_stream.specs.Blocks.{base_of_blocks}
 use Rattle.encoding_stream.proofs.BlockLemmas.{built-again, encoded-last}
 use Rattle.encoding_stream.proofs.blocks.BufferEncoder.finish.Goals as goal
 

@@ -1,0 +1,71 @@
+use Rattle.std.proofs.Common.{◌≡◌, ◌≤◌, ◌-◌, ◌%◌, ◌++◌, ℕ, length, take, drop, refl, sym, ap, ◌∙◌, arith, length-append, length-take-le}
+use Rattle.std.proofs.lemmas.List.{length-drop}
+use Rattle.data_encoding.specs.KeptData.{held_data}
+use Rattle.data_encoding_meaning.specs.text.Text.{text_of}
+use Rattle.data_encoding_meaning.proofs.judgement.RuleLemmas.{IsRuled-built}
+use Rattle.data_encoding.proofs.tables.TableRuleLemmas.{is_base_of}
+use Rattle.data_encoding.proofs.text.DataPieceLemmas.{reads-cut, reads-none}
+use Rattle.data_encoding.proofs.text.LineTableLemmas.{IsRuled-seen}
+use Rattle.data_encoding.proofs.encoding.EncodingRef.due_len.Goals as goal
+
+pub returns-then-len-missing : goal.returns-then-len-missing
+returns-then-len-missing c =
+    let kept = c.args.kept.now in
+    let held = held_data kept in
+    let size : length held ≡ kept.count =
+    length-take-le kept.count kept.bytes (omega (arith, c.requires.short, c.requires.most)) in
+    record {
+      total = λ piece same.
+          let none = reads-none c.args.self.now
+          (IsRuled-seen _ c.self.invariant c.args.self.now c.self.view_is) held piece
+          (omega (arith, c.if-len-missing.true, same, size, c.requires.short, c.requires.block)) in
+          ap length none.text_is;
+      block = λ few bytes long.
+          absurd (omega (arith, few, c.if-len-missing.true, c.requires.block));
+      none = λ _. refl;
+      base = rw (← c.self.view_is) (is_base_of _ c.self.invariant);
+    }
+
+pub returns : goal.returns
+returns c =
+    let base = c.args.self.now in
+    let kept = c.args.kept.now in
+    let held = held_data kept in
+    let block_len = c.args.block_len in
+    let specified = c.encode_len-block.ensures.base in
+    let missing : ℕ = block_len - kept.count in
+    let size : length held ≡ kept.count =
+    length-take-le kept.count kept.bytes (omega (arith, c.requires.short, c.requires.most)) in
+    record {
+      total = λ piece same.
+          let first = take missing piece in
+          let rest = drop missing piece in
+          let end : ℕ = length rest - length rest % block_len in
+          let few : missing ≤ length piece = omega (arith, c.if-len-missing.false, same) in
+          let left : length rest ≡ c.args.len - missing =
+          length-drop missing piece ∙ ap (λ n. n - missing) same in
+          let reads =
+          reads-cut base (IsRuled-built specified.fields base specified.is_built) held piece
+          (held ++ first) first rest (take end rest) (drop end rest) missing block_len
+          c.requires.block (omega (arith, size, c.requires.short))
+          (omega (arith, c.requires.short)) few refl refl refl refl refl in
+          let one = c.encode_len-block.ensures.length (held ++ first)
+          (length-append held first
+          ∙ omega (arith, length-take-le missing piece few, size, c.requires.short)) in
+          let others = c.encode_len.ensures.length (take end rest)
+          (length-take-le end rest (omega arith) ∙ ap (λ n. n - n % block_len) left) in
+          ap length reads.text_is
+          ∙ length-append (text_of base (held ++ first)) (text_of base (take end rest))
+          ∙ omega (arith, one, others);
+      block = λ few bytes long.
+          c.encode_len-block.ensures.length bytes (long ∙ sym c.requires.block);
+      none = λ short.
+          absurd (omega (
+            arith,
+            short,
+            c.if-len-missing.false,
+            c.requires.block,
+            c.requires.short,
+          ));
+      base = specified;
+    }

@@ -1,0 +1,93 @@
+use Rattle.std.proofs.Common.{◌≡◌, ◌-◌, ◌+◌, ◌++◌, ℕ, List, length, take, refl, sym, ap, ◌∙◌, subst, arith, length-append, length-take-le}
+use Rattle.data_encoding.specs.KeptData.{held_data}
+use Rattle.data_encoding_meaning.specs.text.EncodedPieces.{HasEncoded}
+use Rattle.data_encoding_meaning.specs.text.Text.{text_of}
+use Rattle.data_encoding_meaning.proofs.judgement.RuleLemmas.{IsRuled-built}
+use Rattle.data_encoding.proofs.text.DataPieceLemmas.{reads-cut, reads-none, Reads}
+use Rattle.data_encoding.proofs.encoding.EncodingRef.read_piece.Goals as goal
+use Rattle.data_encoding.proofs.encoding.EncodingRef.read_piece.Goals.{After-hold-2}
+
+pub returns-then-piece-missing-clause-held : goal.returns-then-piece-missing-clause-held
+returns-then-piece-missing-clause-held c =
+    let base = c.args.self.now in
+    let kept = c.args.kept.now in
+    let specified = c.requires.due.base in
+    let size : length (held_data kept) ≡ kept.count =
+    length-take-le kept.count kept.bytes (omega (arith, c.requires.short, c.requires.most)) in
+    let none =
+    reads-none base (IsRuled-built specified.fields base specified.is_built) (held_data kept)
+    c.args.piece.now
+    (omega (arith, c.if-piece-missing.true, size, c.requires.short, c.requires.block)) in
+    c.hold.ensures.held ∙ sym none.left_is
+
+-- the block that is filled
+abbrev filled : After-hold-2 → List ℕ
+filled c = take c.args.block_len c.hold-2.new.self.bytes
+
+filled_is : (c : After-hold-2)
+    → filled c ≡ held_data c.args.kept.now ++ c.split_at.result.0.now
+filled_is c =
+    let all : c.hold-2.new.self.count ≡ c.args.block_len =
+    c.hold-2.ensures.count ∙ omega (arith, c.split_at.ensures.front_len, c.requires.short) in
+    ap (λ n. take n c.hold-2.new.self.bytes) (sym all) ∙ c.hold-2.ensures.held
+
+held_len : (c : After-hold-2) → length (held_data c.args.kept.now) ≡ c.args.kept.now.count
+held_len c =
+    length-take-le c.args.kept.now.count c.args.kept.now.bytes
+    (omega (arith, c.requires.short, c.requires.most))
+
+reads : (c : After-hold-2) → Reads c.args.self.now (held_data c.args.kept.now) c.args.piece.now
+    (text_of c.args.self.now (filled c) ++ text_of c.args.self.now c.split_at-2.result.0.now)
+    c.split_at-2.result.1.now
+reads c =
+    let base = c.args.self.now in
+    let specified = c.requires.due.base in
+    reads-cut base (IsRuled-built specified.fields base specified.is_built)
+    (held_data c.args.kept.now) c.args.piece.now (filled c) c.split_at.result.0.now
+    c.split_at.result.1.now c.split_at-2.result.0.now c.split_at-2.result.1.now
+    (c.args.block_len - c.args.kept.now.count) c.args.block_len c.requires.block
+    (omega (arith, held_len c, c.requires.short)) (omega (arith, c.requires.short))
+    (omega (arith, c.if-piece-missing.false)) c.split_at.ensures.front c.split_at.ensures.back
+    c.split_at-2.ensures.front c.split_at-2.ensures.back (filled_is c)
+
+block_due : (c : After-hold-2) → c.args.due.block ≡ length (text_of c.args.self.now (filled c))
+block_due c =
+    let long : length (filled c) ≡ c.args.block_len =
+    ap length (filled_is c)
+    ∙ length-append (held_data c.args.kept.now) c.split_at.result.0.now
+    ∙ omega (arith, held_len c, c.split_at.ensures.front_len, c.requires.short) in
+    sym (c.requires.due.block
+    (omega (arith, c.if-piece-missing.false, c.requires.short, c.requires.block)) (filled c)
+    (long ∙ c.requires.block))
+
+pub encode_both-requires-clause-len : goal.encode_both-requires-clause-len
+encode_both-requires-clause-len c =
+    block_due (goal.at.encode_both-requires-clause-len c).After-hold-2
+
+pub encode_both-requires-clause-exact : goal.encode_both-requires-clause-exact
+encode_both-requires-clause-exact c =
+    let here = (goal.at.encode_both-requires-clause-exact c).After-hold-2 in
+    let first = text_of c.args.self.now (filled here) in
+    let others = text_of c.args.self.now c.split_at-2.result.0.now in
+    c.requires.exact ∙ sym (c.requires.due.total c.args.piece.now refl)
+    ∙ ap length (reads here).text_is ∙ length-append first others
+    ∙ ap (λ n. n + length others) (sym (block_due here))
+
+pub returns-clause-text : goal.returns-clause-text
+returns-clause-text c =
+    c.encode_both.ensures.text
+    ∙ sym (reads (goal.at.returns-clause-text c).After-hold-2).text_is
+
+pub returns-clause-held : goal.returns-clause-held
+returns-clause-held c =
+    c.hold-3.ensures.held ∙ sym (reads (goal.at.returns-clause-held c).After-hold-2).left_is
+
+pub returns-clause-encodes : goal.returns-clause-encodes
+returns-clause-encodes c = λ before bytes written has.
+    let base = c.args.self.now in
+    let all = bytes ++ c.args.piece.now in
+    subst (HasEncoded base before all (written ++ c.encode_both.new.output))
+    (sym c.hold-3.ensures.held)
+    (subst (λ t. HasEncoded base before all (written ++ t) c.split_at-2.result.1.now)
+    (sym c.encode_both.ensures.text)
+    ((reads (goal.at.returns-clause-encodes c).After-hold-2).encodes before bytes written has))

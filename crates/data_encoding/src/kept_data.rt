@@ -1,0 +1,126 @@
+//! Data that is encoded piece by piece: what is kept between the pieces, and how one is read.
+
+ghost use Rattle.std.specs.Prelude.{◌≡◌, ℕ, ◌+◌, ◌<◌, ◌≤◌, List, ◌++◌, All, length};
+ghost use Rattle.data_encoding.specs.KeptData.{after_blocks, held_data, piece_text, IsDue};
+ghost use Rattle.data_encoding_meaning.specs.text.EncodedPieces.{HasEncoded};
+ghost use Rattle.data_encoding_meaning.specs.text.Lengths.{alignment};
+ghost use Rattle.data_encoding_meaning.specs.text.Text.{text_of};
+
+use crate::encode::ENCODE_LIMIT;
+use crate::encoding::EncodingRef;
+
+/// What is kept of data between its pieces: plain numbers, from which encoding continues.
+#[repr(C)]
+#[derive(Clone, Copy, Debug, Drop)]
+pub struct KeptData {
+    /// How many bytes of an unfinished block are held.
+    pub count: usize,
+
+    /// The bytes held.
+    pub bytes: [u8; 189],
+}
+
+/// The lengths of the text of the blocks that a piece completes, in bytes.
+#[derive(Clone, Copy, Debug, Drop)]
+pub struct DueLen {
+    /// The length of the text of one block, or 0 if no block is completed.
+    pub block: usize,
+
+    /// The length of the text of all blocks that are completed.
+    pub total: usize,
+}
+
+impl KeptData {
+    // Holds more bytes.
+    fn hold(&mut self, more: &[u8])
+        requires room { self.old.count + length more.now ≤ 189 }
+        ensures held { held_data self.new ≡ held_data self.old ++ more.now }
+        ensures count { self.new.count ≡ self.old.count + length more.now }
+    {
+        let end = self.count + more.len();
+        self.bytes[self.count..end].copy_from_slice(more);
+        self.count = end;
+    }
+}
+
+impl EncodingRef<'_> {
+    /// Returns the lengths of the text that a piece of `len` bytes, at most `ENCODE_LIMIT`,
+    /// completes after what is kept. A block is `block_len` bytes, as many as `encode_align`
+    /// returns, and fewer are held.
+    #[inline(always)]
+    pub fn due_len(&self, block_len: usize, kept: &KeptData, len: usize) -> DueLen
+        requires limit { len ≤ ENCODE_LIMIT }
+        requires block { block_len ≡ alignment self.now }
+        requires most { block_len ≤ 189 }
+        requires short { kept.now.count < block_len }
+        ensures { IsDue self.now kept.now len result }
+    {
+        let _ = &self.fields;
+        let missing = block_len - kept.count;
+        if len < missing {
+            return DueLen { block: 0, total: 0 };
+        }
+        let rest = len - missing;
+        let block = self.encode_len(block_len);
+        let total = block + self.encode_len(rest - rest % block_len);
+        DueLen { block, total }
+    }
+
+    /// Reads a piece, of at most `ENCODE_LIMIT` bytes: writes the text of the blocks that it
+    /// completes to `output`, and holds the bytes after them. A piece that completes none is held.
+    ///
+    /// A block is `block_len` bytes, as many as `encode_align` returns, and fewer are held. `due`
+    /// is what `due_len` returns for the piece, and `output` has its total length.
+    #[inline(always)]
+    pub fn read_piece(
+        &self,
+        block_len: usize,
+        kept: &mut KeptData,
+        piece: &[u8],
+        due: DueLen,
+        output: &mut [u8],
+    )
+        requires limit { length piece.now ≤ ENCODE_LIMIT }
+        requires block { block_len ≡ alignment self.now }
+        requires most { block_len ≤ 189 }
+        requires short { kept.old.count < block_len }
+        requires due { IsDue self.now kept.old (length piece.now) due }
+        requires exact { length output.old ≡ due.total }
+        ensures text { output.new ≡ piece_text self.now kept.old piece.now }
+        ensures ascii { All (λ byte. byte < 128) output.new }
+        ensures held { held_data kept.new
+            ≡ after_blocks self.now (held_data kept.old ++ piece.now) }
+        ensures encodes { (before bytes written : List ℕ)
+            → HasEncoded self.now before bytes written (held_data kept.old)
+            → HasEncoded self.now before (bytes ++ piece.now) (written ++ output.new)
+            (held_data kept.new) }
+        ensures short { kept.new.count < block_len }
+    {
+        let missing = block_len - kept.count;
+        if piece.len() < missing {
+            kept.hold(piece);
+            return;
+        }
+        let (first, rest) = piece.split_at(missing);
+        let (blocks, left) = rest.split_at(rest.len() - rest.len() % block_len);
+        kept.hold(first);
+        self.encode_both(&kept.bytes[..block_len], due.block, blocks, output);
+        kept.count = 0;
+        kept.hold(left);
+    }
+
+    // Writes the texts of two inputs one after the other. That of the first has this length.
+    fn encode_both(&self, first: &[u8], len: usize, second: &[u8], output: &mut [u8])
+        requires first { length first.now ≤ ENCODE_LIMIT }
+        requires second { length second.now ≤ ENCODE_LIMIT }
+        requires len { len ≡ length (text_of self.now first.now) }
+        requires exact { length output.old ≡ len + length (text_of self.now second.now) }
+        ensures text { output.new ≡ text_of self.now first.now ++ text_of self.now second.now }
+        ensures ascii { All (λ byte. byte < 128) output.new }
+    {
+        self.encode_mut(first, &mut output[..len]);
+        if len < output.len() {
+            self.encode_mut(second, &mut output[len..]);
+        }
+    }
+}
