@@ -1,9 +1,10 @@
 //! What a decoder keeps after a piece that ends in padding, with zeros after the bytes that it
-//! holds, and after longer pieces, whether the output has room for them or not.
+//! holds, and after longer pieces, whether the output has room for them or not; and that zeros
+//! follow the bytes of data that an encoder holds.
 
 use super::rows::{bytes_of, row_of};
 use data_encoding::{DECODE_LIMIT, Encoding};
-use encoding_stream::{BufferDecoder, Decoder, Kept};
+use encoding_stream::{BufferDecoder, BufferEncoder, Decoder, Kept};
 use std::alloc::Global;
 use std::test::Fail;
 
@@ -104,6 +105,30 @@ fn pieces_leave_the_same_with_and_without_room(rt: HostRuntime) -> Result<(), Fa
             let one = printed(rt.alloc(), &encoding, &text, len, true)?;
             let other = printed(rt.alloc(), &encoding, &text, len, false)?;
             assert!(rt; one == other, "{line} {len}");
+        }
+    }
+    Ok(())
+}
+
+// Reads a byte of data. Returns whether zeros follow the bytes that are then held.
+fn holds_zeros_after(encoder: &mut BufferEncoder<'_>, byte: u8) -> bool {
+    let mut output = [0; 600];
+    if encoder.due(1) > output.len() {
+        return false;
+    }
+    encoder.read(&[byte], &mut output);
+    let kept = encoder.kept();
+    kept.bytes.iter().skip(kept.count).all(|byte| *byte == 0)
+}
+
+#[test]
+fn data_leaves_zeros_after_what_is_held(rt: HostRuntime) -> Result<(), Fail> {
+    for line in ROWS.split('\n') {
+        let row = row_of(rt.alloc(), line)?;
+        let encoding = row.specification.encoding()?;
+        let mut encoder = BufferEncoder::new(&encoding);
+        for byte in 1..=255 {
+            assert!(rt; holds_zeros_after(&mut encoder, byte), "{line} {byte}");
         }
     }
     Ok(())
