@@ -46,23 +46,25 @@ ENCODE = """
 """
 MIME = """
     decode_text: of decode_run_after_ignored decode_next decode_rest    # Bytes are ignored,
-    decode_by_blocks has_entry gather                           # but within no group.
+    decode_by_blocks gather                                     # but within no group.
     five_bytes_of_word                                          # Symbols have six bits.
     decode_by_several: entry_of decode_whole_turns              # What is left is short.
     count_turns_of_run decode_by_lanes
-    decode_padded_group: starts_whole decode_group ignored_front        # No group is padded,
-    count_symbols: faulty
+    count_symbols: faulty                                       # No group is padded,
     decode_group: decode_symbols                                # and one has a wrong symbol.
     has_trailing is_end decode_front
 """
 SHORT = MIME + """
-    decode_ignoring: decode_rest.1                              # The text is short.
-    decode_runs_by_turns
+    decode_ignoring: decode_rest decode_after_runs              # The text is short.
+    is_broken_next: front_symbols
+    decode_after_runs: decode_rest progress_at
     decode_by_few: entry_of decode_whole_turns
 """
 LINES = MIME + """
-    decode_ignoring: of decode_runs_one_by_one                  # The text is long,
+    decode_ignoring: of decode_run_after_ignored progress_at    # The text is long,
+    decode_ignoring: is_short_before decode_after_runs decode_more_runs
     is_short_run: is_broken_next                                # and so are its lines.
+    decode_padded_group: starts_whole decode_group ignored_front
     words_of_groups: look_up_16 words_of_two count_below.1 look_up_64 words_of_eight
     store: low_bits store_five
     decode_sixteen: decode_eight words_of_sixteen_by_eight store_two

@@ -264,13 +264,13 @@ fn is_broken_next<G: GroupSize>(values: &[u8; 256], len: usize, at: Progress, in
     if rest.len() <= LEAST_LEN || rest.len() <= 4 * len {
         return false;
     }
-    let count = count_symbols(values, &rest[..LEAST_LEN]);
+    let count = front_symbols(values, &rest[..LEAST_LEN]);
     count >= G::SYMBOLS && count < LEAST_LEN
 }
 
 // How many of these bytes are symbols, if all others are ignored; or else 0.
 #[inline(always)]
-fn count_symbols(values: &[u8; 256], part: &[u8]) -> usize {
+fn front_symbols(values: &[u8; 256], part: &[u8]) -> usize {
     let mut count = 0;
     for index in 0..part.len() {
         let entry = entry_of(values, part[index]);

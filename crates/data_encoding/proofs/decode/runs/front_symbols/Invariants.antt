@@ -1,5 +1,5 @@
 use Rattle.std.proofs.Common.{◌≤◌}
-use Rattle.data_encoding.proofs.decode.runs.count_symbols.Given as goal
+use Rattle.data_encoding.proofs.decode.runs.front_symbols.Given as goal
 
 abbrev pub invariant-loop-index : goal.invariant-loop-index
 invariant-loop-index l = record {
