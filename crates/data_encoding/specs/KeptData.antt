@@ -1,5 +1,5 @@
 -- Data that is encoded piece by piece: what is kept, and the text of whole blocks.
-use Rattle.std.specs.Prelude.{◌≡◌, ℕ, ◌+◌, ◌*◌, ◌/◌, ◌<◌, ◌≤◌, List, ◌++◌, length, take, drop}
+use Rattle.std.specs.Prelude.{◌≡◌, ℕ, ◌+◌, ◌-◌, ◌*◌, ◌/◌, ◌%◌, ◌<◌, ◌≤◌, List, ◌++◌, length, take, drop}
 use Rattle.data_encoding.specs.declared.kept_data.DueLen.{DueLen}
 use Rattle.data_encoding.specs.declared.kept_data.KeptData.{KeptData}
 use Rattle.data_encoding_meaning.specs.specification.Fields.{IsSpecified}
@@ -27,12 +27,14 @@ piece_text base kept piece = text_of_blocks base (held_data kept ++ piece)
 abbrev pub after_blocks : Base → List ℕ → List ℕ
 after_blocks base bytes = drop (blocks_len base (length bytes)) bytes
 
--- The lengths of the text that this many more bytes complete: of all blocks, and of one, which is
--- asked for only if one is completed.
+-- The lengths of the text that this many more bytes complete, of all blocks and of one, and that of
+-- the blocks after the first; the latter two are asked for only if one is completed.
 pub record IsDue (encoding : Base) (kept : KeptData) (len : ℕ) (due : DueLen) : Type 0 where
   pub total : (piece : List ℕ) → length piece ≡ len
       → length (piece_text encoding kept piece) ≡ due.total
   pub block : alignment encoding ≤ kept.count + len → (bytes : List ℕ)
       → length bytes ≡ alignment encoding → length (text_of encoding bytes) ≡ due.block
+  pub whole : (rest : ℕ) → kept.count + len ≡ alignment encoding + rest
+      → due.whole ≡ rest - rest % alignment encoding
   pub none : kept.count + len < alignment encoding → due.total ≡ 0
   pub base : IsSpecified encoding

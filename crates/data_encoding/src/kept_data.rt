@@ -20,7 +20,7 @@ pub struct KeptData {
     pub bytes: [u8; 189],
 }
 
-/// The lengths of the text of the blocks that a piece completes, in bytes.
+/// The lengths of the text of the blocks that a piece completes, and of these blocks, in bytes.
 #[derive(Clone, Copy, Debug, Drop)]
 pub struct DueLen {
     /// The length of the text of one block, or 0 if no block is completed.
@@ -28,6 +28,9 @@ pub struct DueLen {
 
     /// The length of the text of all blocks that are completed.
     pub total: usize,
+
+    /// How many bytes of the piece are whole blocks after the first one.
+    pub whole: usize,
 }
 
 impl KeptData {
@@ -58,12 +61,21 @@ impl EncodingRef<'_> {
         let _ = &self.fields;
         let missing = block_len - kept.count;
         if len < missing {
-            return DueLen { block: 0, total: 0 };
+            return DueLen {
+                block: 0,
+                total: 0,
+                whole: 0,
+            };
         }
         let rest = len - missing;
         let block = self.encode_len(block_len);
-        let total = block + self.encode_len(rest - rest % block_len);
-        DueLen { block, total }
+        let whole = rest - rest % block_len;
+        let total = block + self.encode_len(whole);
+        DueLen {
+            block,
+            total,
+            whole,
+        }
     }
 
     /// Reads a piece, of at most `ENCODE_LIMIT` bytes: writes the text of the blocks that it
@@ -102,7 +114,7 @@ impl EncodingRef<'_> {
             return;
         }
         let (first, rest) = piece.split_at(missing);
-        let (blocks, left) = rest.split_at(rest.len() - rest.len() % block_len);
+        let (blocks, left) = rest.split_at(due.whole);
         kept.hold(first);
         self.encode_both(&kept.bytes[..block_len], due.block, blocks, output);
         *kept = KeptData {

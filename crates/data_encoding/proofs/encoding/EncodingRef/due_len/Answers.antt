@@ -22,6 +22,8 @@ returns-then-len-missing c =
           ap length none.text_is;
       block = λ few bytes long.
           absurd (omega (arith, few, c.if-len-missing.true, c.requires.block));
+      whole = λ rest is.
+          absurd (omega (arith, is, c.if-len-missing.true, c.requires.block, c.requires.short));
       none = λ _. refl;
       base = rw (← c.self.view_is) (is_base_of _ c.self.invariant);
     }
@@ -59,6 +61,10 @@ returns c =
           ∙ omega (arith, one, others);
       block = λ few bytes long.
           c.encode_len-block.ensures.length bytes (long ∙ sym c.requires.block);
+      whole = λ rest is.
+          let left : c.args.len - missing ≡ rest =
+          omega (arith, is, c.requires.block, c.requires.short) in
+          ap (λ n. n - n % block_len) left ∙ ap (λ n. rest - rest % n) c.requires.block;
       none = λ short.
           absurd (omega (
             arith,

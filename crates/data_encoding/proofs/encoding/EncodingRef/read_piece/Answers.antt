@@ -1,5 +1,9 @@
-use Rattle.std.proofs.Common.{◌≡◌, ◌-◌, ◌+◌, ◌++◌, ℕ, List, length, take, refl, sym, ap, ◌∙◌, subst, arith, length-append, length-take-le}
-use Rattle.data_encoding.specs.KeptData.{held_data}
+use Rattle.std.proofs.Common.{◌≡◌, ◌-◌, ◌%◌, ◌+◌, ◌++◌, ℕ, List, length, take, drop, refl, sym, ap, ◌∙◌, subst, arith, length-append, length-take-le}
+use Rattle.data_encoding.specs.KeptData.{held_data, IsDue}
+use Rattle.data_encoding.specs.declared.kept_data.DueLen.{DueLen}
+use Rattle.data_encoding.specs.declared.kept_data.KeptData.{KeptData}
+use Rattle.data_encoding_meaning.specs.text.Base.{Base}
+use Rattle.data_encoding_meaning.specs.text.Lengths.{alignment}
 use Rattle.data_encoding_meaning.specs.text.EncodedPieces.{HasEncoded}
 use Rattle.data_encoding_meaning.specs.text.Text.{text_of}
 use Rattle.data_encoding_meaning.proofs.judgement.RuleLemmas.{IsRuled-built}
@@ -36,19 +40,31 @@ held_len c =
     length-take-le c.args.kept.now.count c.args.kept.now.bytes
     (omega (arith, c.requires.short, c.requires.most))
 
+whole_is : (base : Base) (kept : KeptData) (len size rest : ℕ) (due : DueLen)
+    → IsDue base kept len due → size ≡ alignment base → kept.count + len ≡ size + rest
+    → due.whole ≡ rest - rest % size
+whole_is base kept len size rest due is same all =
+    is.whole rest (all ∙ ap (λ n. n + rest) same) ∙ ap (λ n. rest - rest % n) (sym same)
+
 reads : (c : After-hold-2) → Reads c.args.self.now (held_data c.args.kept.now) c.args.piece.now
     (text_of c.args.self.now (filled c) ++ text_of c.args.self.now c.split_at-2.result.0.now)
     c.split_at-2.result.1.now
 reads c =
     let base = c.args.self.now in
     let specified = c.requires.due.base in
+    let rest = c.split_at.result.1.now in
+    let whole = whole_is base c.args.kept.now (length c.args.piece.now) c.args.block_len
+    (length rest) c.args.due c.requires.due c.requires.block
+    (omega (arith, c.split_at.ensures.back_len, c.if-piece-missing.false, c.requires.short)) in
     reads-cut base (IsRuled-built specified.fields base specified.is_built)
     (held_data c.args.kept.now) c.args.piece.now (filled c) c.split_at.result.0.now
     c.split_at.result.1.now c.split_at-2.result.0.now c.split_at-2.result.1.now
     (c.args.block_len - c.args.kept.now.count) c.args.block_len c.requires.block
     (omega (arith, held_len c, c.requires.short)) (omega (arith, c.requires.short))
     (omega (arith, c.if-piece-missing.false)) c.split_at.ensures.front c.split_at.ensures.back
-    c.split_at-2.ensures.front c.split_at-2.ensures.back (filled_is c)
+    (c.split_at-2.ensures.front ∙ ap (λ n. take n rest) whole)
+    (c.split_at-2.ensures.back ∙ ap (λ n. drop n rest) whole)
+    (filled_is c)
 
 block_due : (c : After-hold-2) → c.args.due.block ≡ length (text_of c.args.self.now (filled c))
 block_due c =
@@ -91,3 +107,29 @@ returns-clause-encodes c = λ before bytes written has.
     (subst (λ t. HasEncoded base before all (written ++ t) c.split_at-2.result.1.now)
     (sym c.encode_both.ensures.text)
     ((reads (goal.at.returns-clause-encodes c).After-hold-2).encodes before bytes written has))
+
+pub split_at-requires-2 : goal.split_at-requires-2
+split_at-requires-2 c =
+    let rest : ℕ = length c.split_at.result.1.now in
+    let whole = whole_is c.args.self.now c.args.kept.now (length c.args.piece.now)
+    c.args.block_len rest c.args.due c.requires.due c.requires.block
+    (omega (arith, c.split_at.ensures.back_len, c.if-piece-missing.false, c.requires.short)) in
+    omega (arith, whole)
+
+pub hold-requires-3 : goal.hold-requires-3
+hold-requires-3 c =
+    omega (
+      arith,
+      (reads (goal.at.hold-requires-3 c).After-hold-2).short,
+      c.requires.block,
+      c.requires.most,
+    )
+
+pub returns-clause-short : goal.returns-clause-short
+returns-clause-short c =
+    omega (
+      arith,
+      (reads (goal.at.returns-clause-short c).After-hold-2).short,
+      c.requires.block,
+      c.hold-3.ensures.count,
+    )
