@@ -4,8 +4,8 @@ use Rattle.data_encoding_meaning.specs.declared.limits.TheConstants.{ENCODE_LIMI
 use Rattle.data_encoding_meaning.specs.text.Base.{Base}
 use Rattle.data_encoding_meaning.specs.text.Text.{text_of}
 
--- An input that is encoded in one call, by symbols of this many bits, and an output of the length of
--- its text.
+-- An input that is encoded in one call, by symbols of this many bits, and an output of the length
+-- of its text.
 pub record FitsText (base : Base) (width : ℕ) (input output : List ℕ) : Type 0 where
   pub width_is : base.width ≡ width
   pub limit : length input ≤ ENCODE_LIMIT

@@ -23,7 +23,8 @@ decode_run_after_ignored-first-requires-clause-entries g c =
       held = c.of-look_up.ensures;
     }
 
-pub decode_run_after_ignored-first-requires-clause-at : goal.decode_run_after_ignored-first-requires-clause-at
+pub decode_run_after_ignored-first-requires-clause-at :
+    goal.decode_run_after_ignored-first-requires-clause-at
 decode_run_after_ignored-first-requires-clause-at g c = record {
   exact = c.requires.exact;
   so_far = begin c.args.self.now (subst IsWidth (sym c.requires.coded.width_is)
@@ -84,5 +85,6 @@ decode_more_runs-requires-clause-at g c =
 
 pub decode_rest-requires-clause-so_far : goal.decode_rest-requires-clause-so_far
 decode_rest-requires-clause-so_far g c =
-    begin c.args.self.now (subst IsWidth (sym c.requires.coded.width_is) g.G.GroupSize.is_group.is_width)
+    begin c.args.self.now (subst IsWidth (sym c.requires.coded.width_is)
+    g.G.GroupSize.is_group.is_width)
     c.args.input.now c.args.output.now

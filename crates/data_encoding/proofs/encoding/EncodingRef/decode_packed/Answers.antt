@@ -24,7 +24,8 @@ pub decode_packed_group-now-requires-clause-packing :
     goal.decode_packed_group-now-requires-clause-packing
 decode_packed_group-now-requires-clause-packing g c =
     let run = packed-on c.loop.invariant.on.packing g.G.GroupSize.is_group
-    c.requires.entries.reads.width_is c.decode_run_within-count.result c.decode_run_within-count.auto.output
+    c.requires.entries.reads.width_is c.decode_run_within-count.result
+    c.decode_run_within-count.auto.output
     c.decode_run_within-count.ensures.within
     (c.decode_run_within-count.ensures.run c.args.self.now c.requires.entries.reads) in
     rw c.after-now.ensures run.1.packing
@@ -32,7 +33,8 @@ decode_packed_group-now-requires-clause-packing g c =
 pub returns-then-now-SYMBOLS : goal.returns-then-now-SYMBOLS
 returns-then-now-SYMBOLS g c =
     let run = packed-on c.loop.invariant.on.packing g.G.GroupSize.is_group
-    c.requires.entries.reads.width_is c.decode_run_within-count.result c.decode_run_within-count.auto.output
+    c.requires.entries.reads.width_is c.decode_run_within-count.result
+    c.decode_run_within-count.auto.output
     c.decode_run_within-count.ensures.within
     (c.decode_run_within-count.ensures.run c.args.self.now c.requires.entries.reads) in
     rw c.after-now.ensures (packs-further c.loop.invariant.on run.1)

@@ -10,7 +10,8 @@ use Rattle.data_encoding.proofs.encoding.EncodingRef.decode_run_after_ignored.Go
 
 pub decode_run-count-requires-clause-room : goal.decode_run-count-requires-clause-room
 decode_run-count-requires-clause-room g c =
-    room-next_run (under_way g.G.GroupSize.is_group c.requires.entries.reads.width_is c.requires.at.exact
+    room-next_run (under_way g.G.GroupSize.is_group c.requires.entries.reads.width_is
+    c.requires.at.exact
     c.requires.at.so_far) c.requires.at.front
 
 pub overflow_mul-result-2 : goal.overflow_mul-result-2
@@ -32,7 +33,8 @@ overflow_add-result-2 g c =
 pub returns-then-count-eq0-clause-on : goal.returns-then-count-eq0-clause-on
 returns-then-count-eq0-clause-on g c =
     let at = c.requires.at in
-    let now = under_way g.G.GroupSize.is_group c.requires.entries.reads.width_is at.exact at.so_far in
+    let now = under_way g.G.GroupSize.is_group c.requires.entries.reads.width_is at.exact
+    at.so_far in
     goes-nowhere (record {
       exact = exact-same at.exact (length-rewritten_same c.args.at.written c.args.output.now
           c.decode_run-count.new.output at.so_far.fits c.decode_run-count.auto.output);
@@ -50,7 +52,8 @@ returns-clause-on g c =
         exact = exact-same at.exact (length-rewritten_same c.args.at.written c.args.output.now
             c.decode_run-count.new.output at.so_far.fits c.decode_run-count.auto.output);
         so_far = (after_run now at.front c.decode_run-count.auto.output
-            (c.decode_run-count.ensures.run c.args.self.now c.requires.entries.reads) (omega arith)).so_far;
+            (c.decode_run-count.ensures.run c.args.self.now c.requires.entries.reads)
+            (omega arith)).so_far;
         front = no_front c.args.self.now _;
       };
       further = omega arith;

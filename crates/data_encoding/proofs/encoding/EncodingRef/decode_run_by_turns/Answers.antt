@@ -27,10 +27,12 @@ first g c =
       c.requires.whole,
       ap (λ n. n / size * size) c.if-count-most.true,
     ) in
-    turned c.args.at (under_way g.G.GroupSize.is_group c.requires.entries.reads.width_is c.requires.at.exact
+    turned c.args.at (under_way g.G.GroupSize.is_group c.requires.entries.reads.width_is
+    c.requires.at.exact
     c.requires.at.so_far) c.requires.at c.args.most
     c.decode_by_turns-count.auto.output
-    (c.decode_by_turns-count.ensures.run c.args.entries.values.now c.requires.entries.held c.args.self.now
+    (c.decode_by_turns-count.ensures.run c.args.entries.values.now c.requires.entries.held
+    c.args.self.now
     c.requires.entries.reads) c.args.most whole pos c.after_run.result c.after_run.ensures.none
     c.after_run.ensures.read c.after_run.ensures.written
     (c.after_run.ensures.front c.args.self.now c.requires.entries.reads.holds)
@@ -50,10 +52,12 @@ second g c =
     let pos = (IsWhole-same refl refl g.G.GroupSize.is_group).some_symbols in
     let whole : count - count % c.SYMBOLS.result ≡ count / size * size =
     omega (arith, div-add-mod' count size, ap (λ n. count % n) c.SYMBOLS.ensures) in
-    turned c.args.at (under_way g.G.GroupSize.is_group c.requires.entries.reads.width_is c.requires.at.exact
+    turned c.args.at (under_way g.G.GroupSize.is_group c.requires.entries.reads.width_is
+    c.requires.at.exact
     c.requires.at.so_far) c.requires.at c.args.most
     c.decode_by_turns-count.auto.output
-    (c.decode_by_turns-count.ensures.run c.args.entries.values.now c.requires.entries.held c.args.self.now
+    (c.decode_by_turns-count.ensures.run c.args.entries.values.now c.requires.entries.held
+    c.args.self.now
     c.requires.entries.reads) (count - count % c.SYMBOLS.result) whole pos c.after_run-2.result
     c.after_run-2.ensures.none c.after_run-2.ensures.read c.after_run-2.ensures.written
     (c.after_run-2.ensures.front c.args.self.now c.requires.entries.reads.holds)
@@ -88,10 +92,12 @@ returns-clause-before g c = (second g c).before
 pub after_run-requires-clause-written : goal.after_run-requires-clause-written
 after_run-requires-clause-written g c =
     let size = g.G.GroupSize.SYMBOLS in
-    let fits = turned-fits c.args.at (under_way g.G.GroupSize.is_group c.requires.entries.reads.width_is
+    let fits = turned-fits c.args.at (under_way g.G.GroupSize.is_group
+    c.requires.entries.reads.width_is
     c.requires.at.exact c.requires.at.so_far) c.requires.at c.args.most
     c.decode_by_turns-count.auto.output
-    (c.decode_by_turns-count.ensures.run c.args.entries.values.now c.requires.entries.held c.args.self.now
+    (c.decode_by_turns-count.ensures.run c.args.entries.values.now c.requires.entries.held
+    c.args.self.now
     c.requires.entries.reads) in
     let same = ap (λ n. n / size * g.G.GroupSize.BYTES) c.if-count-most.true in
     omega (arith, fits.1, same, c.requires.at.exact.limit)
@@ -101,10 +107,12 @@ after_run-requires-2-clause-written g c =
     let size = g.G.GroupSize.SYMBOLS in
     let count = c.decode_by_turns-count.result in
     let pos = (IsWhole-same refl refl g.G.GroupSize.is_group).some_symbols in
-    let fits = turned-fits c.args.at (under_way g.G.GroupSize.is_group c.requires.entries.reads.width_is
+    let fits = turned-fits c.args.at (under_way g.G.GroupSize.is_group
+    c.requires.entries.reads.width_is
     c.requires.at.exact c.requires.at.so_far) c.requires.at c.args.most
     c.decode_by_turns-count.auto.output
-    (c.decode_by_turns-count.ensures.run c.args.entries.values.now c.requires.entries.held c.args.self.now
+    (c.decode_by_turns-count.ensures.run c.args.entries.values.now c.requires.entries.held
+    c.args.self.now
     c.requires.entries.reads) in
     let whole : count - count % c.SYMBOLS.result ≡ count / size * size =
     omega (arith, div-add-mod' count size, ap (λ n. count % n) c.SYMBOLS.ensures) in

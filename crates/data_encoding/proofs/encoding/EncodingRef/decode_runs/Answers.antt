@@ -26,7 +26,8 @@ turned g c =
 pub decode_runs_one_by_one-len-requires-clause-at :
     goal.decode_runs_one_by_one-len-requires-clause-at
 decode_runs_one_by_one-len-requires-clause-at g c =
-    (turned g (goal.at.decode_runs_one_by_one-len-requires-clause-at g c).Joined-has_lanes-2).reached
+    (turned g (goal.at.decode_runs_one_by_one-len-requires-clause-at g
+    c).Joined-has_lanes-2).reached
 
 pub returns-then-packs : goal.returns-then-packs
 returns-then-packs g c =

@@ -13,7 +13,8 @@ overflow_mul-SYMBOLS g c =
     }
 
 pub nonzero_rem-most : goal.nonzero_rem-most
-nonzero_rem-most g c = (IsWhole-same refl c.SYMBOLS-in-loop.ensures g.G.GroupSize.is_group).some_symbols
+nonzero_rem-most g c = (IsWhole-same refl c.SYMBOLS-in-loop.ensures
+    g.G.GroupSize.is_group).some_symbols
 
 pub decode_run_by_turns-next-requires : goal.decode_run_by_turns-next-requires
 decode_run_by_turns-next-requires g c =

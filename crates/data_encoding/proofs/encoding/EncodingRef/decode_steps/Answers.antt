@@ -28,5 +28,6 @@ loop-at-preserved g c =
 pub returns : goal.returns
 returns g c =
     let at = c.loop-at.invariant.reached in
-    let now = under_way g.G.GroupSize.is_group c.requires.entries.reads.width_is at.exact at.so_far in
+    let now = under_way g.G.GroupSize.is_group c.requires.entries.reads.width_is at.exact
+    at.so_far in
     decoded-after now at.front c.loop-at-test.false
