@@ -253,8 +253,9 @@ pub(crate) fn is_short_before<G: GroupSize>(len: usize, at: Progress, input: &[u
 }
 
 // Whether bytes are ignored within the next group, and so many more follow, also beside the length
-// of the run before, that there may be several such groups. A group that does not end soon, or that
-// has padding or a byte without a meaning, is judged by itself: so a fault in it costs no block.
+// of the run before, that there may be several such groups. A group that has padding or a byte
+// without a meaning is judged by itself, and so is one near the start that does not end soon: a
+// fault in it does not cost a block.
 #[inline(always)]
 fn is_broken_next<G: GroupSize>(values: &[u8; 256], len: usize, at: Progress, input: &[u8]) -> bool
     requires within { at.read + at.ignored ≤ length input.now }
@@ -265,7 +266,8 @@ fn is_broken_next<G: GroupSize>(values: &[u8; 256], len: usize, at: Progress, in
         return false;
     }
     let count = front_symbols(values, &rest[..LEAST_LEN]);
-    count >= G::SYMBOLS && count < LEAST_LEN
+    let least = if at.read < NEAR_LEN { G::SYMBOLS } else { 1 };
+    count >= least && count < LEAST_LEN
 }
 
 // How many of these bytes are symbols, if all others are ignored; or else 0.
@@ -285,3 +287,6 @@ fn front_symbols(values: &[u8; 256], part: &[u8]) -> usize {
 
 // With fewer bytes left no block is worth its time.
 const LEAST_LEN: usize = 16;
+
+// What is nearer to the start takes less time than a block.
+const NEAR_LEN: usize = 64;

@@ -134,7 +134,7 @@ impl EncodingRef<'_> {
         if at.read + at.ignored == input.len() {
             return true;
         }
-        if at.ignored == 0 || is_short_before::<G>(at.read, at, input) {
+        if at.ignored == 0 || at.read > 0 && is_short_before::<G>(at.read, at, input) {
             return self.decode_after_runs::<L, O, G>(at.read, at, input, output, stop);
         }
         self.decode_more_runs::<L, O, G>(at, input, output, stop)
