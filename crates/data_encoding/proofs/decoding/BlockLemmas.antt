@@ -13,8 +13,7 @@ use Rattle.data_encoding_meaning.specs.text.Grammar.{Positioned, bytes_in, group
 use Rattle.data_encoding_meaning.specs.decoding.Decoding.{HasDecodedTo, IsDecodedGroup, IsGathered, IsIgnoredFront, run_bytes}
 use Rattle.data_encoding_meaning.specs.decoding.Fault.{bytes_of_group, symbol_bytes}
 use Rattle.data_encoding_meaning.specs.decoding.Partial.{position_after}
-use Rattle.data_encoding_meaning.proofs.decoding.GatherLemmas.{HasGathered, more-here, none-here}
-use Rattle.data_encoding_meaning.proofs.decoding.IgnoredFrontLemmas.{nothing-kept_in}
+use Rattle.data_encoding_meaning.proofs.decoding.GatherLemmas.{more-here, none-here}
 use Rattle.data_encoding_meaning.proofs.decoding.ProgressLemmas.{IsPart, room-run, whole-before}
 use Rattle.data_encoding_meaning.proofs.digits.WidthLemmas.{group_symbols-pos}
 use Rattle.data_encoding_meaning.proofs.grammar.KeptLemmas.{kept-more, kept-split, kept_in-append, position_after-append}
@@ -293,18 +292,19 @@ kept-after base part bytes size last short few are before many =
     bytes-kept_in base 0 (drop short part) ∙ sym (bytes-kept_in base short (drop short part)) in
     same ∙ sym (ap (drop size) parts ∙ drop_at (bytes_in first) (bytes_in rest) size first_len)
 
--- nothing is packed where packing begins
-pub packed-nothing : {base : Base} {text : List ℕ} {read written : ℕ} {output : List ℕ}
+-- nothing is packed where packing begins, after ignored bytes
+pub packed-nothing : {base : Base} {text : List ℕ} {read written skip : ℕ} {output : List ℕ}
     → HasDecodedTo base text read written false output
-    → HasPacked base text read read written [] output
-packed-nothing {base} {text} {read} so_far =
-    let none : read - read ≡ 0 = omega arith in
+    → IsIgnoredFront base (drop read text) skip
+    → HasPacked base text read (read + skip) written [] output
+packed-nothing {base} {text} {read} {skip = skip} so_far front =
+    let width : read + skip - read ≡ skip = omega arith in
     record {
       read = read;
       after = omega arith;
       few = omega arith;
-      within = so_far.within;
-      are = rw none refl;
+      within = omega (arith, so_far.within, front.within, length-drop read text);
+      are = rw (width, front.none) refl;
       so_far = so_far;
     }
 
@@ -695,27 +695,4 @@ ends-further {base} {part} {end} {left} {last} {span} within few ends less same 
       ends = λ some.
           rw (get_or-take end part (span - 1) 0 (omega (arith, some, inside)))
           at (ends.ends some);
-    }
-
--- What was gathered before ignored bytes was gathered up to their end.
-pub gather-front : {base : Base} {part : List ℕ} {index count span : ℕ} {room : List ℕ} (skip : ℕ)
-    → HasGathered base part index count span room → index ≤ length part
-    → IsIgnoredFront base (drop index part) skip
-    → HasGathered base part (index + skip) count span room
-gather-front {base} {part} {index} skip so_far within front =
-    let next = take skip (drop index part) in
-    let width : index + skip - index ≡ skip = omega arith in
-    let inside : index + skip ≤ length part =
-    omega (arith, within, front.within, length-drop index part) in
-    let more = rw width at (kept-more base index part within (index + skip) (omega arith) inside) in
-    let same : kept base (take (index + skip) part) ≡ kept base (take index part) =
-    more
-    ∙ ap (λ l. kept base (take index part) ++ l) (nothing-kept_in base index next front.none)
-    ∙ append-nil (kept base (take index part)) in
-    record {
-      before = omega (arith, so_far.before);
-      same = so_far.same ∙ sym same;
-      bytes_are = rw same so_far.bytes_are;
-      count_is = rw same so_far.count_is;
-      ends = so_far.ends;
     }

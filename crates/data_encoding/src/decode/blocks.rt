@@ -80,7 +80,7 @@ impl EncodingRef<'_> {
         requires at { HasReached self.now input.now at output.old }
         ensures { GoesOn self.now input.now at.read result output.new }
     {
-        if input.len() - at.read <= FIRST_LEN {
+        if input.len() - at.read - at.ignored <= FIRST_LEN {
             let mut room = [0; FIRST_LEN + SLACK];
             return self.decode_in_room::<L, O, G>(at, input, &mut room, output);
         }
@@ -113,7 +113,7 @@ impl EncodingRef<'_> {
         let ignored = IgnoredBytes::of(values);
         let mut now = Packing {
             start: at.read,
-            read: at.read,
+            read: at.read + at.ignored,
             written: at.written,
             first: 0,
             end: 0,

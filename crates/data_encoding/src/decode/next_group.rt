@@ -105,16 +105,19 @@ fn gather<G: GroupSize>(values: &[u8; 256], rest: &[u8], room: &mut [u8; 8]) -> 
         → IsGathered base G.SYMBOLS rest.now (take result.count room.new) result.span }
 {
     let most = G::SYMBOLS;
+    let mut count = 0;
     let mut span = 0;
-    for count in 0..most {
-        let at = span + ignored_front(values, &rest[span..]);
-        if at == rest.len() {
-            return Gathered { count, span };
+    for index in 0..rest.len() {
+        if values[rest[index] as usize] != IGNORED {
+            room[count] = rest[index];
+            count += 1;
+            span = index + 1;
+            if count == most {
+                return Gathered { count, span };
+            }
         }
-        room[count] = rest[at];
-        span = at + 1;
     }
-    Gathered { count: most, span }
+    Gathered { count, span }
 }
 
 /// Returns how many bytes are ignored before the first that is not.

@@ -1,57 +1,57 @@
-use Rattle.std.proofs.Common.{◌+◌, ◌<◌, ◌≡◌, length, length-drop, ◌∙◌, arith, inl, inr, ℕ, subst, take}
-use Rattle.data_encoding_meaning.specs.decoding.Decoding.{IsGathered}
-use Rattle.std.proofs.lemmas.List.{get_or-drop, take_rest}
+use Rattle.std.proofs.Common.{◌≡◌, ◌+◌, ◌<◌, length, get_or, arith, inl, inr}
+use Rattle.std.proofs.lemmas.Bool.Decides.{nat_tests}
 use Rattle.data_encoding_meaning.proofs.digits.SizeLemmas.{IsSmall-group}
-use Rattle.data_encoding_meaning.proofs.decoding.GatherLemmas.{gather-kept, gathered, nothing-gathered}
-use Rattle.data_encoding.proofs.decoding.BlockLemmas.{gather-front}
+use Rattle.data_encoding_meaning.proofs.decoding.GatherLemmas.{gather-ignored, gather-kept, gathered}
 use Rattle.data_encoding.proofs.decode.next_group.gather.Goals as goal
+use Rattle.data_encoding.proofs.decode.next_group.gather.Goals.{then-values-rest+else-count-most, else-values-rest}
 
-pub loop-count-init : goal.loop-count-init
-loop-count-init g c =
-    (omega arith, λ base holds. nothing-gathered base c.args.rest.now c.args.room.now)
-
-pub returns-then-at-rest-clause-first : goal.returns-then-at-rest-clause-first
-returns-then-at-rest-clause-first g c base holds =
+pub returns-then-count-most-clause-first : goal.returns-then-count-most-clause-first
+returns-then-count-most-clause-first g c base holds =
     let rest = c.args.rest.now in
-    let inside = c.loop-count.invariant.0 in
-    let front = rw (take_rest rest c.loop-count.span) at c.ignored_front.ensures.front base holds in
-    gathered
-    (gather-front c.ignored_front.result (c.loop-count.invariant.1 base holds) inside front)
-    (omega (arith, c.if-at-rest.true))
-    (omega (arith, c.loop-count-test.true, c.SYMBOLS-most.ensures))
-    (inr (omega (arith, c.if-at-rest.true)))
-
-pub loop-count-preserved : goal.loop-count-preserved
-loop-count-preserved g c =
-    let rest = c.args.rest.now in
-    let span = c.loop-count.span in
-    let skip = c.ignored_front.result in
-    let inside = c.loop-count.invariant.0 in
+    let index = c.loop-index.index in
+    let byte = get_or rest index 0 in
+    let small : byte < 256 = omega (arith, (c.type_inv.rest index).fits) in
     let few = (IsSmall-group g.G.GroupSize.is_group).few_symbols in
-    let next : span + skip < length rest =
-    omega (
-      arith,
-      inside,
-      c.ignored_front.ensures.within,
-      length-drop {A = ℕ},
-      c.if-at-rest.false,
-    ) in (
-      omega (arith, next),
-      λ base holds.
-          let front = rw (take_rest rest span) at c.ignored_front.ensures.front base holds in
-          let so_far = gather-front skip (c.loop-count.invariant.1 base holds) inside front in
-          let more = rw (take_rest rest span, get_or-drop span rest skip 0)
-          at (c.ignored_front.ensures.next base holds) in
-          gather-kept base rest (span + skip) next c.loop-count.count span c.loop-count.room so_far
-          (more (omega (arith, next, inside, length-drop {A = ℕ})))
-          (omega (arith, few, c.loop-count-test.true, c.SYMBOLS-most.ensures)),
-    )
+    let whole : c.loop-index.count + 1 ≡ g.G.GroupSize.SYMBOLS =
+    omega (arith, c.if-count-most.true, c.SYMBOLS-most.ensures) in
+    gathered
+    (gather-kept base rest index (omega (arith, c.loop-index-test.true)) c.loop-index.count
+    c.loop-index.span c.loop-index.room (c.loop-index.invariant.1 base holds)
+    (grind (arith, nat_tests, holds.ignoreds byte small, c.if-values-rest.true))
+    (omega (arith, few, whole, c.fits-room)))
+    (omega (arith, c.loop-index-test.true))
+    (omega (arith, whole))
+    (inl whole)
+
+pub loop-index-preserved : goal.loop-index-preserved
+loop-index-preserved g c =
+    let rest = c.args.rest.now in
+    let index = c.loop-index.index in
+    let byte = get_or rest index 0 in
+    let small : byte < 256 = omega (arith, (c.type_inv.rest index).fits) in
+    let here : index < length rest = omega (arith, c.loop-index-test.true) in
+    let few = (IsSmall-group g.G.GroupSize.is_group).few_symbols in
+    let so_far = c.loop-index.invariant.1 in
+    elim c.if-values-rest.branch [
+      then-values-rest+else-count-most w ↦ (
+        omega (arith, w.count-is, w.if-count-most.false, c.loop-index.invariant.0),
+        λ base holds. rw (w.count-is, w.span-is, w.room-is)
+            (gather-kept base rest index here c.loop-index.count c.loop-index.span
+            c.loop-index.room (so_far base holds)
+            (grind (arith, nat_tests, holds.ignoreds byte small, w.if-values-rest.true))
+            (omega (arith, few, c.loop-index.invariant.0, c.SYMBOLS-most.ensures, c.fits-room))),
+      )
+      | else-values-rest w ↦ (
+        omega (arith, w.count-is, c.loop-index.invariant.0),
+        λ base holds. rw (w.count-is, w.span-is, w.room-is)
+            (gather-ignored base rest index here c.loop-index.count c.loop-index.span
+            c.loop-index.room (so_far base holds)
+            (grind (arith, nat_tests, holds.ignoreds byte small, w.if-values-rest.false))),
+      )
+    ]
 
 pub returns-clause-first : goal.returns-clause-first
 returns-clause-first g c base holds =
-    let same : c.loop-count.count ≡ c.SYMBOLS-most.result =
-    omega (arith, c.loop-count-test.false, c.loop-count.auto.count-end) in
-    subst (λ n. IsGathered base g.G.GroupSize.SYMBOLS c.args.rest.now (take n c.loop-count.room)
-    c.loop-count.span) same
-    (gathered (c.loop-count.invariant.1 base holds) c.loop-count.invariant.0
-    (omega (arith, same, c.SYMBOLS-most.ensures)) (inl (same ∙ c.SYMBOLS-most.ensures)))
+    gathered (c.loop-index.invariant.1 base holds) (omega (arith, c.loop-index.auto.index-end))
+    (omega (arith, c.loop-index.invariant.0, c.SYMBOLS-most.ensures))
+    (inr (omega (arith, c.loop-index-test.false, c.loop-index.auto.index-end)))

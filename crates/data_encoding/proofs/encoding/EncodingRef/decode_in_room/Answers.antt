@@ -14,7 +14,7 @@ loop-init g c = record {
     exact = c.requires.at.exact;
     ordered = omega arith;
     within = omega arith;
-    packed = packed-nothing c.requires.at.so_far;
+    packed = packed-nothing c.requires.at.so_far c.requires.at.front;
   };
   start = λ _. c.args.at.read;
   few = omega arith;
