@@ -1,8 +1,12 @@
 -- An output of the length that a text's gives, and how far the text is decoded.
-use Rattle.std.proofs.Common.{◌≡◌, ℕ, ◌≤◌, List, length, Ok, ap, sym, ◌∙◌, arith}
+use Rattle.std.proofs.Common.{◌≡◌, ℕ, ◌-◌, ◌≤◌, List, length, take, Ok, ap, sym, ◌∙◌, arith}
+use Rattle.std.proofs.lemmas.List.{take-take}
+use Rattle.std.proofs.lemmas.Slice.{take-put_mid_below}
 use Rattle.data_encoding.specs.declared.decode.progress.Progress.{Progress}
 use Rattle.data_encoding.specs.Progress.{GoesOn, HasExactOutput, HasReached}
-use Rattle.data_encoding_meaning.specs.text.Base.{Base}
+use Rattle.data_encoding_meaning.specs.text.Base.{Base, IsWidth}
+use Rattle.data_encoding_meaning.proofs.decoding.ProgressLemmas.{same-output}
+use Rattle.data_encoding_meaning.proofs.lists.WriteLemmas.{rewritten}
 
 -- the output has that length whatever its bytes are
 pub exact-same : {base : Base} {text output new : List ℕ} → HasExactOutput base text output
@@ -14,6 +18,18 @@ pub goes-nowhere : {base : Base} {text output : List ℕ} {at : Progress}
     → HasReached base text at output → GoesOn base text at.read at output
 goes-nowhere reached = record { reached = reached; further = omega arith }
 
+-- nothing is decoded, and what follows what was written is another
+pub goes-nowhere_over : {base : Base} {text output : List ℕ} {at : Progress} (new : List ℕ)
+    → IsWidth base.width → HasReached base text at output → length new ≡ length output
+    → take at.written new ≡ take at.written output → GoesOn base text at.read at new
+goes-nowhere_over {base} {text} new width reached len kept =
+    goes-nowhere (record {
+      exact = exact-same reached.exact len;
+      so_far = same-output base width text new reached.so_far
+          (omega (arith, reached.so_far.fits, len)) kept;
+      front = reached.front;
+    })
+
 -- what is further than a place after the start is further than the start
 pub goes-further : {base : Base} {text output : List ℕ} {start next : ℕ} {at : Progress}
     → start ≤ next → GoesOn base text next at output → GoesOn base text start at output
@@ -21,3 +37,17 @@ goes-further before on = record {
   reached = on.reached;
   further = omega (arith, before, on.further);
 }
+
+-- what leaves more as it was leaves a prefix of that
+pub kept-further : (a b : ℕ) (old output new : List ℕ) → a ≤ b
+    → take b new ≡ take b output → take a output ≡ take a old → take a new ≡ take a old
+kept-further a b old output new further same kept =
+    sym (take-take a b new further) ∙ ap (take a) same ∙ take-take a b output further ∙ kept
+
+-- a run and a group after it leave what was written before
+pub kept-before : (a b c : ℕ) (old output rest new : List ℕ) → a ≤ b → b ≤ length output → a ≤ c
+    → take a output ≡ take a old → take c new ≡ take c (rewritten b output rest)
+    → take a new ≡ take a old
+kept-before a b c old output rest new before within further kept same =
+    kept-further a c old (rewritten b output rest) new further same
+    (take-put_mid_below b (length output - b) output rest a before within ∙ kept)

@@ -426,7 +426,6 @@ pub record HasTurned (base : Base) (text : List ℕ) (sizes : Sizes) (at next : 
   pub on : GoesOn base text at.read next output
   pub past : at.read < next.read → at.read + at.ignored ≤ next.read
   pub whole : (next.read - at.read - at.ignored) % sizes.symbols ≡ 0
-  pub before : HasReached base text at output
 
 -- A run of so many groups at the start of what follows ignored bytes, up to a position.
 module _ {base : Base} {text : List ℕ} {sizes : Sizes} (at : Progress) {output : List ℕ}
@@ -478,13 +477,6 @@ module _ {base : Base} {text : List ℕ} {sizes : Sizes} (at : Progress) {output
     exact =
         exact-same from.exact (length-rewritten_same at.written output new s.so_far.fits new_len)
 
-    same : HasReached base text at (rewritten at.written output new)
-    same = record {
-      exact = exact;
-      so_far = (after_none s new new_len).so_far;
-      front = from.front;
-    }
-
     by : (n : ℕ) → count ≡ n
         → HasTurned base text sizes at next (rewritten at.written output new)
     by zero is =
@@ -492,10 +484,13 @@ module _ {base : Base} {text : List ℕ} {sizes : Sizes} (at : Progress) {output
         let zero_span : at.read - at.read - at.ignored ≡ 0 = omega arith in
         subst (λ r. HasTurned base text sizes at r (rewritten at.written output new)) (sym is_at)
         (record {
-          on = goes-nowhere same;
+          on = goes-nowhere (record {
+            exact = exact;
+            so_far = (after_none s new new_len).so_far;
+            front = from.front;
+          });
           past = λ less. absurd (omega (arith, less));
           whole = rw zero_span (zero-mod sizes.symbols);
-          before = same;
         })
     by (suc n) is =
         let some : 0 < len = omega (arith, whole, ap (λ n. n * sizes.symbols) is, pos) in
@@ -519,5 +514,4 @@ module _ {base : Base} {text : List ℕ} {sizes : Sizes} (at : Progress) {output
           };
           past = λ less. omega (arith, read_at);
           whole = rw span (mul-mod_left count sizes.symbols);
-          before = same;
         }

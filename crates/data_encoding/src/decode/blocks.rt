@@ -129,6 +129,9 @@ impl EncodingRef<'_> {
             }
             len = next_len(len, room.len());
         }
+        if now.written == at.written {
+            return at;
+        }
         after_blocks(&ignored, values, now, input)
     }
 
@@ -144,7 +147,9 @@ impl EncodingRef<'_> {
     ) -> Packing
         requires entries { ReadsBy L.holds self.now entries G.WIDTH O.ORDER }
         requires packing { IsPacking self.now input.now room.now at output.old }
-        ensures { PacksOn self.now input.now room.now at result output.new }
+        ensures on { PacksOn self.now input.now room.now at result output.new }
+        ensures kept { take at.written output.new ≡ take at.written output.old }
+        ensures further { at.written ≤ result.written }
     {
         let mut now = at;
         for _ in 0..at.end {
@@ -183,7 +188,9 @@ impl EncodingRef<'_> {
         requires order { self.now.order ≡ order }
         requires packing { IsPacking self.now input.now room.now at output.old }
         requires whole { at.first + G.SYMBOLS ≤ at.end }
-        ensures { PacksOn self.now input.now room.now at result output.new }
+        ensures on { PacksOn self.now input.now room.now at result output.new }
+        ensures kept { take at.written output.new ≡ take at.written output.old }
+        ensures further { at.written ≤ result.written }
     {
         let group = &room[at.first..at.first + G::SYMBOLS];
         let count = match self.decode_group::<G>(order, group, &mut output[at.written..]) {
@@ -223,6 +230,7 @@ fn pack_next(
         → IsPacking base input.now room.new result.0 output }
     ensures start { result.0.start ≡ at.start }
     ensures read { result.0.read ≡ at.read + span }
+    ensures written { result.0.written ≡ at.written }
     ensures end { result.0.end ≤ 8 + span }
     ensures few { result.1 ≤ span }
 {

@@ -50,9 +50,9 @@ impl EncodingRef<'_> {
         next
     }
 
-    // Decodes runs by turns of eight groups, while the text has two turns or more. A short run is
-    // not decoded if what follows it may be decoded by blocks. As in `decode_runs`, the first one
-    // counts as long if it was short before.
+    // Decodes runs by turns of eight groups, while the text has two turns or more, up to a short one
+    // if what follows it may be decoded by blocks. As in `decode_runs`, the first one counts as long
+    // if it was short before.
     // Not inlined, so that shorter texts do not pay for the stack that turns take.
     #[inline(never)]
     fn decode_runs_by_turns<L: LookUp, O: ConstantOrder, G: GroupSize>(
@@ -78,11 +78,11 @@ impl EncodingRef<'_> {
             let most = left - left % G::SYMBOLS;
             let next = self.decode_run_by_turns::<L, O, G>(entries, most, at, input, output);
             let len = (next.read - at.read).saturating_sub(at.ignored);
-            if packs && is_short_run::<G>(entries.values, len, next, input) {
+            at = next;
+            if packs && is_short_run::<G>(entries.values, len, at, input) {
                 *is_short = true;
                 break;
             }
-            at = next;
             if len == 0 || at.ignored == 0 {
                 break;
             }
@@ -143,7 +143,6 @@ impl EncodingRef<'_> {
         ensures on { GoesOn self.now input.now at.read result output.new }
         ensures past { at.read < result.read → at.read + at.ignored ≤ result.read }
         ensures whole { (result.read - at.read - at.ignored) % G.SYMBOLS ≡ 0 }
-        ensures before { HasReached self.now input.now at output.new }
     {
         let rest = &input[at.read + at.ignored..];
         let room = &mut output[at.written..];

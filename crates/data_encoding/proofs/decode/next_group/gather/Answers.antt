@@ -33,7 +33,7 @@ loop-index-preserved g c =
     let few = (IsSmall-group g.G.GroupSize.is_group).few_symbols in
     let so_far = c.loop-index.invariant.1 in
     elim c.if-values-rest.branch [
-      then-values-rest+else-count-most w ↦ (
+      | then-values-rest+else-count-most w ↦ (
         omega (arith, w.count-is, w.if-count-most.false, c.loop-index.invariant.0),
         λ base holds. rw (w.count-is, w.span-is, w.room-is)
             (gather-kept base rest index here c.loop-index.count c.loop-index.span

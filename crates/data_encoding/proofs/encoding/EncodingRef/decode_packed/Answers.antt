@@ -1,7 +1,10 @@
-use Rattle.std.proofs.Common.{arith}
+use Rattle.std.proofs.Common.{◌≡◌, ◌≤◌, take, arith}
 use Rattle.data_encoding.proofs.decoding.StepLemmas.{under_way}
 use Rattle.data_encoding.proofs.decoding.BlockLemmas.{packed-on, packed-room, packing-len, packs-further}
+use Rattle.data_encoding.proofs.decoding.OutputLemmas.{kept-before}
+use Rattle.data_encoding.proofs.encoding.EncodingRef.decode_packed.Given.{Over}
 use Rattle.data_encoding.proofs.encoding.EncodingRef.decode_packed.Goals as goal
+use Rattle.data_encoding.proofs.encoding.EncodingRef.decode_packed.Goals.{After-decode_packed_group-now}
 
 pub decode_run_within-count-requires-clause-room :
     goal.decode_run_within-count-requires-clause-room
@@ -30,8 +33,44 @@ decode_packed_group-now-requires-clause-packing g c =
     (c.decode_run_within-count.ensures.run c.args.self.now c.requires.entries.reads) in
     rw c.after-now.ensures run.1.packing
 
-pub returns-then-now-SYMBOLS : goal.returns-then-now-SYMBOLS
-returns-then-now-SYMBOLS g c =
+-- no less is written after a run
+further : (g : Over) (c : After-decode_packed_group-now g) → c.args.at.written ≤ c.after-now.result.written
+further g c = rw c.after-now.ensures (omega (arith, c.loop.invariant.further))
+
+-- what was written before the block stays
+kept : (g : Over) (c : After-decode_packed_group-now g)
+    → take c.args.at.written c.decode_packed_group-now.new.output
+    ≡ take c.args.at.written c.args.output.now
+kept g c =
+    let now = c.loop.invariant in
+    let on = further g c in
+    kept-before c.args.at.written c.loop.now.written c.after-now.result.written
+    c.args.output.now c.loop.output c.decode_run_within-count.new.output
+    c.decode_packed_group-now.new.output now.further
+    now.on.packing.packed.so_far.fits on now.kept
+    c.decode_packed_group-now.ensures.kept
+
+pub loop-preserved : goal.loop-preserved
+loop-preserved g c =
+    let at = (goal.at.loop-preserved g c).After-decode_packed_group-now in
+    let now = c.loop.invariant in
+    let run = packed-on now.on.packing g.G.GroupSize.is_group c.requires.entries.reads.width_is
+    c.decode_run_within-count.result c.decode_run_within-count.auto.output
+    c.decode_run_within-count.ensures.within
+    (c.decode_run_within-count.ensures.run c.args.self.now c.requires.entries.reads) in
+    record {
+      on = packs-further (packs-further now.on run.1)
+          (rw c.after-now.ensures at c.decode_packed_group-now.ensures.on);
+      kept = kept g at;
+      further = omega (arith, further g at, c.decode_packed_group-now.ensures.further);
+    }
+
+pub returns-then-now-first-clause-kept : goal.returns-then-now-first-clause-kept
+returns-then-now-first-clause-kept g c =
+    kept g (goal.at.returns-then-now-first-clause-kept g c).After-decode_packed_group-now
+
+pub returns-then-now-SYMBOLS-clause-on : goal.returns-then-now-SYMBOLS-clause-on
+returns-then-now-SYMBOLS-clause-on g c =
     let run = packed-on c.loop.invariant.on.packing g.G.GroupSize.is_group
     c.requires.entries.reads.width_is c.decode_run_within-count.result
     c.decode_run_within-count.auto.output

@@ -49,8 +49,8 @@ decode_group-requires-clause-room g c whole =
     (under_way g.G.GroupSize.is_group c.requires.width c.requires.packing.exact p.so_far)
     (enough g before))
 
-pub returns-in-Err : goal.returns-in-Err
-returns-in-Err g c = record {
+pub returns-in-Err-clause-on : goal.returns-in-Err-clause-on
+returns-in-Err-clause-on g c = record {
   packing = packing-kept c.requires.packing (under_way g.G.GroupSize.is_group c.requires.width
       c.requires.packing.exact c.requires.packing.packed.so_far) _ c.decode_group.auto.output;
   start = refl;
@@ -58,8 +58,8 @@ returns-in-Err g c = record {
   end = refl;
 }
 
-pub returns-then-not-self : goal.returns-then-not-self
-returns-then-not-self g c = record {
+pub returns-then-not-self-clause-on : goal.returns-then-not-self-clause-on
+returns-then-not-self-clause-on g c = record {
   packing = packing-kept c.requires.packing (under_way g.G.GroupSize.is_group c.requires.width
       c.requires.packing.exact c.requires.packing.packed.so_far) _ c.decode_group.auto.output;
   start = refl;
@@ -77,9 +77,9 @@ overflow_mul-result g c =
     )) in
     record { fits = omega (arith, few) }
 
-pub returns : goal.returns
-returns g c =
-    let before = (goal.at.returns g c).After-SYMBOLS in
+pub returns-clause-on : goal.returns-clause-on
+returns-clause-on g c =
+    let before = (goal.at.returns-clause-on g c).After-SYMBOLS in
     let is = c.requires.packing in
     let p = is.packed in
     let block = take c.args.at.end c.args.room.now in

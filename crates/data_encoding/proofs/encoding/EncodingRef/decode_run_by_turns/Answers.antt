@@ -71,9 +71,6 @@ returns-then-count-most-clause-past g c = (first g c).past
 pub returns-then-count-most-clause-whole : goal.returns-then-count-most-clause-whole
 returns-then-count-most-clause-whole g c = (first g c).whole
 
-pub returns-then-count-most-clause-before : goal.returns-then-count-most-clause-before
-returns-then-count-most-clause-before g c = (first g c).before
-
 pub nonzero_rem-count : goal.nonzero_rem-count
 nonzero_rem-count g c = (IsWhole-same refl c.SYMBOLS.ensures g.G.GroupSize.is_group).some_symbols
 
@@ -85,9 +82,6 @@ returns-clause-past g c = (second g c).past
 
 pub returns-clause-whole : goal.returns-clause-whole
 returns-clause-whole g c = (second g c).whole
-
-pub returns-clause-before : goal.returns-clause-before
-returns-clause-before g c = (second g c).before
 
 pub after_run-requires-clause-written : goal.after_run-requires-clause-written
 after_run-requires-clause-written g c =

@@ -43,10 +43,8 @@ loop-preserved g c =
     record { on = goes-further before.further c.decode_runs_like-at.ensures }
 
 pub returns-then-is_short_run : goal.returns-then-is_short_run
-returns-then-is_short_run g c = record {
-  reached = c.decode_run_by_turns-next.ensures.before;
-  further = c.loop.invariant.on.further;
-}
+returns-then-is_short_run g c =
+    goes-further c.loop.invariant.on.further c.decode_run_by_turns-next.ensures.on
 
 pub returns-then-len-eq0 : goal.returns-then-len-eq0
 returns-then-len-eq0 g c =
