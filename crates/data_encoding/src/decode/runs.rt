@@ -183,7 +183,7 @@ impl EncodingRef<'_> {
             if at.ignored == 0 || at.read + at.ignored == input.len() {
                 break;
             }
-            if packs && is_short_before::<G>(len, at, input) {
+            if packs && is_short_run::<G>(entries.values, len, at, input) {
                 break;
             }
         }
@@ -236,7 +236,8 @@ pub(crate) fn is_short_run<G: GroupSize>(
     requires { at.read + at.ignored ≤ length input.now }
 {
     if len > 0 && at.ignored > 0 {
-        return is_short_before::<G>(len, at, input);
+        return is_short_before::<G>(len, at, input)
+            && (at.read >= NEAR_LEN || next_symbols(values, at, input) >= G::SYMBOLS);
     }
     len < 16 * G::SYMBOLS && is_broken_next::<G>(values, len, at, input)
 }
@@ -252,25 +253,40 @@ pub(crate) fn is_short_before<G: GroupSize>(len: usize, at: Progress, input: &[u
 }
 
 // Whether bytes are ignored within the next group, and so many more follow, also beside the length
-// of the run before, that there may be several such groups. A group that has padding or a byte
-// without a meaning is judged by itself, and so is one near the start that does not end soon: a
-// fault in it does not cost a block.
+// of the run before, that there may be several such groups. Near the start two of the next bytes
+// are ignored, so that a single line end does not cost a block.
 #[inline(always)]
 fn is_broken_next<G: GroupSize>(values: &[u8; 256], len: usize, at: Progress, input: &[u8]) -> bool
     requires within { at.read + at.ignored ≤ length input.now }
     requires few { len < 16 * G.SYMBOLS }
 {
-    let rest = &input[at.read + at.ignored..];
-    if rest.len() <= LEAST_LEN || rest.len() <= 4 * len {
+    if input.len() - at.read - at.ignored <= 4 * len {
         return false;
     }
-    let count = front_symbols(values, &rest[..LEAST_LEN]);
-    let least = if at.read < NEAR_LEN { G::SYMBOLS } else { 1 };
-    count >= least && count < LEAST_LEN
+    let count = next_symbols(values, at, input);
+    if at.read < NEAR_LEN {
+        return count >= G::SYMBOLS && count <= NEXT_LEN - 2;
+    }
+    count > 0
+}
+
+// How many of the next bytes are symbols, if one is ignored and so are all others; or else 0. A
+// group that has padding or a byte without a meaning is judged by itself, and so is one near the
+// start that does not end soon: a fault in it does not cost a block.
+#[inline(always)]
+fn next_symbols(values: &[u8; 256], at: Progress, input: &[u8]) -> usize
+    requires { at.read + at.ignored ≤ length input.now }
+{
+    let rest = &input[at.read + at.ignored..];
+    if rest.len() <= NEXT_LEN {
+        return 0;
+    }
+    let count = front_symbols(values, &rest[..NEXT_LEN]);
+    if count < NEXT_LEN { count } else { 0 }
 }
 
 // How many of these bytes are symbols, if all others are ignored; or else 0.
-#[inline(always)]
+#[inline(never)]
 fn front_symbols(values: &[u8; 256], part: &[u8]) -> usize {
     let mut count = 0;
     for index in 0..part.len() {
@@ -284,8 +300,8 @@ fn front_symbols(values: &[u8; 256], part: &[u8]) -> usize {
     count
 }
 
-// With fewer bytes left no block is worth its time.
-const LEAST_LEN: usize = 16;
+// How many bytes are looked at before a block. With fewer bytes left none is worth its time.
+const NEXT_LEN: usize = 16;
 
 // What is nearer to the start takes less time than a block.
 const NEAR_LEN: usize = 64;

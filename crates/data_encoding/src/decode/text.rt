@@ -3,7 +3,7 @@
 ghost use Rattle.std.specs.Prelude.{◌≡◌, false};
 ghost use Rattle.data_encoding_meaning.specs.text.Base.{IsWidth};
 ghost use Rattle.data_encoding_meaning.specs.decoding.Decoding.{HasDecodedTo};
-ghost use Rattle.data_encoding.specs.Progress.{HasExactOutput, HasReached, IsCodedIn};
+ghost use Rattle.data_encoding.specs.Progress.{GoesOn, HasExactOutput, HasReached, IsCodedIn};
 ghost use Rattle.data_encoding.specs.Steps.{HasEnded};
 
 use crate::decode::Stop;
@@ -123,13 +123,7 @@ impl EncodingRef<'_> {
             stop.written = 0;
             return self.decode_rest::<L, O, G>(input, output, stop);
         }
-        let look_up = L::of(&self.fields.values);
-        let entries = Entries {
-            values: &self.fields.values.entries,
-            look_up: &look_up,
-        };
-        let first = self.decode_run_after_ignored::<L, O, G>(entries, START, input, output);
-        let at = progress_at(entries.values, first.read, first.written, input);
+        let at = self.decode_one_run::<L, O, G>(START, input, output);
         stop.written = at.written;
         if at.read + at.ignored == input.len() {
             return true;
@@ -138,6 +132,27 @@ impl EncodingRef<'_> {
             return self.decode_after_runs::<L, O, G>(at.read, at, input, output, stop);
         }
         self.decode_more_runs::<L, O, G>(at, input, output, stop)
+    }
+
+    // A run after what was read, or nothing; and the ignored bytes that follow.
+    #[inline(always)]
+    fn decode_one_run<L: LookUp, O: ConstantOrder, G: GroupSize>(
+        &self,
+        at: Progress,
+        input: &[u8],
+        output: &mut [u8],
+    ) -> Progress
+        requires coded { IsCodedIn self.now G.WIDTH O.ORDER }
+        requires at { HasReached self.now input.now at output.old }
+        ensures { GoesOn self.now input.now at.read result output.new }
+    {
+        let look_up = L::of(&self.fields.values);
+        let entries = Entries {
+            values: &self.fields.values.entries,
+            look_up: &look_up,
+        };
+        let run = self.decode_run_after_ignored::<L, O, G>(entries, at, input, output);
+        progress_at(entries.values, run.read, run.written, input)
     }
 
     // What follows the first run of a short text, if it is a further run.
@@ -200,11 +215,35 @@ impl EncodingRef<'_> {
                 if next.read + next.ignored == input.len() {
                     return true;
                 }
-                self.decode_rest::<L, O, G>(input, output, stop)
+                self.decode_after_group::<L, O, G>(next, input, output, stop)
             }
             Step::Ended => true,
             Step::Faulty => false,
         }
+    }
+
+    // What follows the first group that was decoded by itself: a run, which may be the last, and the
+    // remaining steps.
+    // Not inlined, for the same reason.
+    #[inline(never)]
+    fn decode_after_group<L: LookUp, O: ConstantOrder, G: GroupSize>(
+        &self,
+        at: Progress,
+        input: &[u8],
+        output: &mut [u8],
+        stop: &mut Stop,
+    ) -> bool
+        requires coded { IsCodedIn self.now G.WIDTH O.ORDER }
+        requires at { HasReached self.now input.now at output.old }
+        ensures { HasEnded self.now input.now output.new stop.new result }
+    {
+        let after = self.decode_one_run::<L, O, G>(at, input, output);
+        stop.read = after.read;
+        stop.written = after.written;
+        if after.read + after.ignored == input.len() {
+            return true;
+        }
+        self.decode_rest::<L, O, G>(input, output, stop)
     }
 
     // The remaining steps: further padded texts; or all, if bytes are ignored.
