@@ -39,8 +39,7 @@ pub fn encode_plain<G: GroupSize>(
     encode_eights::<EightByRows, G>(EightByRows, symbols, order, input, output);
 }
 
-// The symbols as sums if they have that form. Not inlined, so that shorter data does not pay for
-// what the sums take.
+// The symbols as sums if they have that form. Not inlined, so that shorter data is not slowed down.
 #[inline(never)]
 fn encode_long<G: GroupSize>(symbols: &[u8; 256], order: BitOrder, input: &[u8], output: &mut [u8])
     requires limit { length input.now ≤ ENCODE_LIMIT }
@@ -72,8 +71,7 @@ fn encode_eights<E: EncodeEight, G: GroupSize>(
     encode_by_order::<EightGroups<E>, G>(&EightGroups { way }, symbols, order, input, output);
 }
 
-// What is less than eight groups load. Not inlined, so that the loop over eight groups, which takes
-// most of the time, is small.
+// What is less than eight groups load. Not inlined, so that the loop over eight groups is small.
 #[inline(never)]
 fn encode_short<G: GroupSize>(symbols: &[u8; 256], order: BitOrder, input: &[u8], output: &mut [u8])
     requires limit { length input.now ≤ ENCODE_LIMIT }
@@ -88,8 +86,7 @@ fn encode_short<G: GroupSize>(symbols: &[u8; 256], order: BitOrder, input: &[u8]
     }
 }
 
-// Encodes one turn after another, while the input has as many bytes as a turn loads, and then the
-// rest.
+// Encodes turn by turn, while the input has as many bytes as a turn loads, and then the rest.
 #[inline(always)]
 fn encode_turns<T: EncodeTurn, G: GroupSize>(
     turn: &T,
