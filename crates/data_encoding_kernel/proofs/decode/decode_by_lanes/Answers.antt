@@ -1,4 +1,4 @@
-use Rattle.std.proofs.Common.{◌≡◌, ◌+◌, ◌*◌, ◌/◌, ◌≤◌, length, length-take-le, refl, take, sym, ap, ◌∙◌, subst, arith}
+use Rattle.std.proofs.Common.{◌≡◌, ℕ, List, ◌+◌, ◌*◌, ◌/◌, ◌<◌, ◌≤◌, length, length-take-le, refl, take, sym, ap, ◌∙◌, subst, arith}
 use Rattle.data_encoding_kernel.specs.Runs.{IsRun}
 use Rattle.data_encoding_kernel.proofs.decoding.SymbolRunLemmas.{fewer-groups, groups-room, room-left, run-after, within-left}
 use Rattle.std.proofs.Math.Nat.{mul-div_cancel, mul-le-mul_right}
@@ -6,61 +6,47 @@ use Rattle.data_encoding_meaning.proofs.digits.SizeLemmas.{IsGroup-same}
 use Rattle.data_encoding_meaning.proofs.lists.PartLemmas.{IsWhole-group, groups-within}
 use Rattle.data_encoding_kernel.proofs.decode.decode_by_lanes.Goals as goal
 
+-- as many groups as a part has symbols for are within the part
+groups-within-part : {s symbols : ℕ} (at len : ℕ) (input : List ℕ) → symbols ≡ s → 0 < s
+    → at ≤ len → len ≤ length input → at / symbols ≤ length (take len input) / s
+groups-within-part at len input same some few within =
+    rw (length-take-le len input within) (fewer-groups at len same some few)
+
+-- and the output has room for a part
+part-room : {m : ℕ} (s b len : ℕ) (input output : List ℕ) → len ≤ length input
+    → len / s * b ≤ m → length output ≡ m → length (take len input) / s * b ≤ length output
+part-room s b len input output within room same =
+    rw (length-take-le len input within, same) room
+
 pub slice_bounds-decode_by_few-count-2 : goal.slice_bounds-decode_by_few-count-2
 slice_bounds-decode_by_few-count-2 g c =
     let whole = IsWhole-group g.G.GroupSize.WIDTH g.G.GroupSize.BYTES g.G.GroupSize.SYMBOLS
     g.G.GroupSize.is_group in
     let part = take c.args.len c.args.input.now in
-    let part_len : length part ≡ c.args.len =
-    length-take-le c.args.len c.args.input.now c.requires.few in
     let at = c.decode_by_eights-at.result in
     let first = at / c.SYMBOLS-symbols.result in
-    let within : first ≤ length part / g.G.GroupSize.SYMBOLS =
-    subst (λ n. first ≤ n / g.G.GroupSize.SYMBOLS) (sym part_len)
-    (fewer-groups at c.args.len c.SYMBOLS-symbols.ensures whole.some_symbols
-    c.decode_by_eights-at.ensures.within) in
+    let within = groups-within-part at c.args.len c.args.input.now c.SYMBOLS-symbols.ensures
+    whole.some_symbols c.decode_by_eights-at.ensures.within c.requires.few in
     let output = c.decode_by_eights-at.new.output in
-    let room : length part / g.G.GroupSize.SYMBOLS * g.G.GroupSize.BYTES ≤ length output =
-    subst (λ n. n / g.G.GroupSize.SYMBOLS * g.G.GroupSize.BYTES ≤ length output) (sym part_len)
-    (omega (arith, c.requires.room, c.decode_by_eights-at.auto.output)) in
+    let room = part-room g.G.GroupSize.SYMBOLS g.G.GroupSize.BYTES c.args.len c.args.input.now
+    output c.requires.few c.requires.room c.decode_by_eights-at.auto.output in
     groups-room _ first (length output) c.BYTES-bytes.ensures within room
 
 pub slice_bounds-decode_by_few-start-2 : goal.slice_bounds-decode_by_few-start-2
-slice_bounds-decode_by_few-start-2 g c =
-    let whole = IsWhole-group g.G.GroupSize.WIDTH g.G.GroupSize.BYTES g.G.GroupSize.SYMBOLS
-    g.G.GroupSize.is_group in
-    let part = take c.args.len c.args.input.now in
-    let part_len : length part ≡ c.args.len =
-    length-take-le c.args.len c.args.input.now c.requires.few in
-    let at = c.decode_by_eights-at.result in
-    let first = at / c.SYMBOLS-symbols.result in
-    let within : first ≤ length part / g.G.GroupSize.SYMBOLS =
-    subst (λ n. first ≤ n / g.G.GroupSize.SYMBOLS) (sym part_len)
-    (fewer-groups at c.args.len c.SYMBOLS-symbols.ensures whole.some_symbols
-    c.decode_by_eights-at.ensures.within) in
-    let output = c.decode_by_eights-at.new.output in
-    let room : length part / g.G.GroupSize.SYMBOLS * g.G.GroupSize.BYTES ≤ length output =
-    subst (λ n. n / g.G.GroupSize.SYMBOLS * g.G.GroupSize.BYTES ≤ length output) (sym part_len)
-    (omega (arith, c.requires.room, c.decode_by_eights-at.auto.output)) in
-    groups-room _ first (length output) c.BYTES-bytes.ensures within room
+slice_bounds-decode_by_few-start-2 g c = slice_bounds-decode_by_few-count-2 g c
 
 pub decode_by_few-further-requires-clause-room : goal.decode_by_few-further-requires-clause-room
 decode_by_few-further-requires-clause-room g c =
     let whole = IsWhole-group g.G.GroupSize.WIDTH g.G.GroupSize.BYTES g.G.GroupSize.SYMBOLS
     g.G.GroupSize.is_group in
     let part = take c.args.len c.args.input.now in
-    let part_len : length part ≡ c.args.len =
-    length-take-le c.args.len c.args.input.now c.requires.few in
     let at = c.decode_by_eights-at.result in
     let first = at / c.SYMBOLS-symbols.result in
-    let within : first ≤ length part / g.G.GroupSize.SYMBOLS =
-    subst (λ n. first ≤ n / g.G.GroupSize.SYMBOLS) (sym part_len)
-    (fewer-groups at c.args.len c.SYMBOLS-symbols.ensures whole.some_symbols
-    c.decode_by_eights-at.ensures.within) in
+    let within = groups-within-part at c.args.len c.args.input.now c.SYMBOLS-symbols.ensures
+    whole.some_symbols c.decode_by_eights-at.ensures.within c.requires.few in
     let output = c.decode_by_eights-at.new.output in
-    let room : length part / g.G.GroupSize.SYMBOLS * g.G.GroupSize.BYTES ≤ length output =
-    subst (λ n. n / g.G.GroupSize.SYMBOLS * g.G.GroupSize.BYTES ≤ length output) (sym part_len)
-    (omega (arith, c.requires.room, c.decode_by_eights-at.auto.output)) in
+    let room = part-room g.G.GroupSize.SYMBOLS g.G.GroupSize.BYTES c.args.len c.args.input.now
+    output c.requires.few c.requires.room c.decode_by_eights-at.auto.output in
     room-left part output first c.BYTES-bytes.ensures c.SYMBOLS-symbols.ensures whole.some_symbols
     within room
 
@@ -71,18 +57,13 @@ returns-clause-run g c = λ base reads.
     let whole = IsWhole-group g.G.GroupSize.WIDTH g.G.GroupSize.BYTES g.G.GroupSize.SYMBOLS
     g.G.GroupSize.is_group in
     let part = take c.args.len c.args.input.now in
-    let part_len : length part ≡ c.args.len =
-    length-take-le c.args.len c.args.input.now c.requires.few in
     let at = c.decode_by_eights-at.result in
     let first = at / c.SYMBOLS-symbols.result in
-    let within : first ≤ length part / g.G.GroupSize.SYMBOLS =
-    subst (λ n. first ≤ n / g.G.GroupSize.SYMBOLS) (sym part_len)
-    (fewer-groups at c.args.len c.SYMBOLS-symbols.ensures whole.some_symbols
-    c.decode_by_eights-at.ensures.within) in
+    let within = groups-within-part at c.args.len c.args.input.now c.SYMBOLS-symbols.ensures
+    whole.some_symbols c.decode_by_eights-at.ensures.within c.requires.few in
     let output = c.decode_by_eights-at.new.output in
-    let room : length part / g.G.GroupSize.SYMBOLS * g.G.GroupSize.BYTES ≤ length output =
-    subst (λ n. n / g.G.GroupSize.SYMBOLS * g.G.GroupSize.BYTES ≤ length output) (sym part_len)
-    (omega (arith, c.requires.room, c.decode_by_eights-at.auto.output)) in
+    let room = part-room g.G.GroupSize.SYMBOLS g.G.GroupSize.BYTES c.args.len c.args.input.now
+    output c.requires.few c.requires.room c.decode_by_eights-at.auto.output in
     let left = room-left part output first c.BYTES-bytes.ensures c.SYMBOLS-symbols.ensures
     whole.some_symbols within room in
     let more = c.decode_by_few-further.result in
@@ -107,17 +88,14 @@ returns-clause-within g c =
     let whole = IsWhole-group g.G.GroupSize.WIDTH g.G.GroupSize.BYTES g.G.GroupSize.SYMBOLS
     g.G.GroupSize.is_group in
     let part = take c.args.len c.args.input.now in
-    let part_len : length part ≡ c.args.len =
-    length-take-le c.args.len c.args.input.now c.requires.few in
     let at = c.decode_by_eights-at.result in
     let first = at / c.SYMBOLS-symbols.result in
-    let within : first ≤ length part / g.G.GroupSize.SYMBOLS =
-    subst (λ n. first ≤ n / g.G.GroupSize.SYMBOLS) (sym part_len)
-    (fewer-groups at c.args.len c.SYMBOLS-symbols.ensures whole.some_symbols
-    c.decode_by_eights-at.ensures.within) in
+    let within = groups-within-part at c.args.len c.args.input.now c.SYMBOLS-symbols.ensures
+    whole.some_symbols c.decode_by_eights-at.ensures.within c.requires.few in
     let more = c.decode_by_few-further.result in
     let all : first + more ≤ c.args.len / g.G.GroupSize.SYMBOLS =
-    subst (λ n. first + more ≤ n / g.G.GroupSize.SYMBOLS) part_len
+    subst (λ n. first + more ≤ n / g.G.GroupSize.SYMBOLS)
+    (length-take-le c.args.len c.args.input.now c.requires.few)
     (within-left part first more c.SYMBOLS-symbols.ensures
     whole.some_symbols within c.decode_by_few-further.ensures.within) in
     omega (
