@@ -36,14 +36,14 @@ overflow_add-read g c =
 pub slice_bounds-decode_symbols-end-in-loop-index :
     goal.slice_bounds-decode_symbols-end-in-loop-index
 slice_bounds-decode_symbols-end-in-loop-index g c =
-    let room = group-room c.args.len c.loop-index.index (length c.args.output.now) c.BYTES-bytes.ensures
-    c.SYMBOLS-symbols.ensures c.requires.room c.loop-index-test.true in
+    let room = group-room c.args.len c.loop-index.index (length c.args.output.now)
+    c.BYTES-bytes.ensures c.SYMBOLS-symbols.ensures c.requires.room c.loop-index-test.true in
     omega arith
 
 pub overflow_mul-written : goal.overflow_mul-written
 overflow_mul-written g c =
-    let room = group-room c.args.len c.loop-index.index (length c.args.output.now) c.BYTES-bytes.ensures
-    c.SYMBOLS-symbols.ensures c.requires.room c.loop-index-test.true in
+    let room = group-room c.args.len c.loop-index.index (length c.args.output.now)
+    c.BYTES-bytes.ensures c.SYMBOLS-symbols.ensures c.requires.room c.loop-index-test.true in
     omega arith
 
 pub overflow_add-written : goal.overflow_add-written
@@ -51,8 +51,8 @@ overflow_add-written g c = omega (arith, slice_bounds-decode_symbols-end-in-loop
 
 pub decode_symbols-requires-clause-few : goal.decode_symbols-requires-clause-few
 decode_symbols-requires-clause-few g c =
-    let within = group-within c.args.len c.args.input.now c.SYMBOLS-symbols.result c.loop-index.index
-    c.requires.few c.loop-index-test.true in
+    let within = group-within c.args.len c.args.input.now c.SYMBOLS-symbols.result
+    c.loop-index.index c.requires.few c.loop-index-test.true in
     omega (
       arith,
       length-part (c.loop-index.index * c.SYMBOLS-symbols.result) c.SYMBOLS-symbols.result
@@ -61,10 +61,10 @@ decode_symbols-requires-clause-few g c =
 
 pub decode_symbols-requires-clause-exact : goal.decode_symbols-requires-clause-exact
 decode_symbols-requires-clause-exact g c =
-    let within = group-within c.args.len c.args.input.now c.SYMBOLS-symbols.result c.loop-index.index
-    c.requires.few c.loop-index-test.true in
-    let room = group-room c.args.len c.loop-index.index (length c.args.output.now) c.BYTES-bytes.ensures
-    c.SYMBOLS-symbols.ensures c.requires.room c.loop-index-test.true in
+    let within = group-within c.args.len c.args.input.now c.SYMBOLS-symbols.result
+    c.loop-index.index c.requires.few c.loop-index-test.true in
+    let room = group-room c.args.len c.loop-index.index (length c.args.output.now)
+    c.BYTES-bytes.ensures c.SYMBOLS-symbols.ensures c.requires.room c.loop-index-test.true in
     let bytes = c.BYTES-bytes.result in
     let symbols = c.SYMBOLS-symbols.result in
     let i = c.loop-index.index in
@@ -76,8 +76,8 @@ decode_symbols-requires-clause-exact g c =
 
 pub returns-then-not-decode_symbols-clause-run : goal.returns-then-not-decode_symbols-clause-run
 returns-then-not-decode_symbols-clause-run g c = λ base reads.
-    let room = group-room c.args.len c.loop-index.index (length c.args.output.now) c.BYTES-bytes.ensures
-    c.SYMBOLS-symbols.ensures c.requires.room c.loop-index-test.true in
+    let room = group-room c.args.len c.loop-index.index (length c.args.output.now)
+    c.BYTES-bytes.ensures c.SYMBOLS-symbols.ensures c.requires.room c.loop-index-test.true in
     let group = IsGroup-same refl c.BYTES-bytes.ensures c.SYMBOLS-symbols.ensures
     g.G.GroupSize.is_group in
     run-kept base reads.holds.is_width g.G.GroupSize.WIDTH c.BYTES-bytes.result
@@ -115,10 +115,10 @@ loop-index-init g c =
 pub loop-index-preserved : goal.loop-index-preserved
 loop-index-preserved g c =
     let part = take c.args.len c.args.input.now in
-    let within = group-within c.args.len c.args.input.now c.SYMBOLS-symbols.result c.loop-index.index
-    c.requires.few c.loop-index-test.true in
-    let room = group-room c.args.len c.loop-index.index (length c.args.output.now) c.BYTES-bytes.ensures
-    c.SYMBOLS-symbols.ensures c.requires.room c.loop-index-test.true in
+    let within = group-within c.args.len c.args.input.now c.SYMBOLS-symbols.result
+    c.loop-index.index c.requires.few c.loop-index-test.true in
+    let room = group-room c.args.len c.loop-index.index (length c.args.output.now)
+    c.BYTES-bytes.ensures c.SYMBOLS-symbols.ensures c.requires.room c.loop-index-test.true in
     let group = IsGroup-same refl c.BYTES-bytes.ensures c.SYMBOLS-symbols.ensures
     g.G.GroupSize.is_group in
     let i = c.loop-index.index in
