@@ -1,8 +1,9 @@
 use Rattle.std.proofs.Common.{◌≡◌, ℕ, List, ◌+◌, ◌*◌, ◌/◌, ◌<◌, ◌≤◌, length, length-take-le, refl, take, sym, ap, ◌∙◌, subst, arith}
 use Rattle.data_encoding_kernel.specs.Runs.{IsRun}
 use Rattle.data_encoding_kernel.proofs.decoding.SymbolRunLemmas.{fewer-groups, groups-room, room-left, run-after, within-left}
-use Rattle.std.proofs.Math.Nat.{mul-div_cancel, mul-le-mul_right}
-use Rattle.data_encoding_meaning.proofs.digits.SizeLemmas.{IsGroup-same}
+use Rattle.std.proofs.Math.Nat.{le-mul_of_pos_right, mod-lt, mul-div_cancel, mul-le-mul_right}
+use Rattle.std.proofs.lemmas.Nat.{div-add-mod'}
+use Rattle.data_encoding_meaning.proofs.digits.SizeLemmas.{IsGroup-same, IsSmall-group}
 use Rattle.data_encoding_meaning.proofs.lists.PartLemmas.{IsWhole-group, groups-within}
 use Rattle.data_encoding_kernel.proofs.decode.decode_by_lanes.Goals as goal
 
@@ -124,3 +125,69 @@ pub overflow_mul-result : goal.overflow_mul-result
 overflow_mul-result g c = record {
   fits = omega (arith, returns-clause-within g c, c.ranges.len.fits);
 }
+
+pub overflow_add-result : goal.overflow_add-result
+overflow_add-result g c =
+    let whole = IsWhole-group g.G.GroupSize.WIDTH g.G.GroupSize.BYTES g.G.GroupSize.SYMBOLS
+    g.G.GroupSize.is_group in
+    let all = c.decode_by_eights-at.result / c.SYMBOLS-symbols.result
+    + c.decode_by_few-further.result in
+    let some : 0 < c.SYMBOLS-symbols.result =
+    omega (arith, whole.some_symbols, c.SYMBOLS-symbols.ensures) in
+    record {
+      fits = omega (
+        arith,
+        le-mul_of_pos_right all some,
+        returns-clause-within g c,
+        c.ranges.len.fits,
+      );
+    }
+
+pub nonzero_div-first : goal.nonzero_div-first
+nonzero_div-first g c =
+    let whole = IsWhole-group g.G.GroupSize.WIDTH g.G.GroupSize.BYTES g.G.GroupSize.SYMBOLS
+    g.G.GroupSize.is_group in
+    omega (arith, whole.some_symbols, c.SYMBOLS-symbols.ensures)
+
+pub overflow_sub-left : goal.overflow_sub-left
+overflow_sub-left g c =
+    omega (
+      arith,
+      groups-within c.decode_by_eights-at.result c.SYMBOLS-symbols.result,
+      c.decode_by_eights-at.ensures.within,
+    )
+
+pub overflow_mul-read : goal.overflow_mul-read
+overflow_mul-read g c = record {
+  fits = omega (arith, overflow_sub-left g c, c.ranges.len.fits);
+}
+
+pub bounds-input-at : goal.bounds-input-at
+bounds-input-at g c =
+    let group = g.G.GroupSize.is_group in
+    let whole = IsWhole-group g.G.GroupSize.WIDTH g.G.GroupSize.BYTES g.G.GroupSize.SYMBOLS group in
+    let some : 0 < c.SYMBOLS-symbols.result =
+    omega (arith, whole.some_symbols, c.SYMBOLS-symbols.ensures) in
+    omega (
+      arith,
+      div-add-mod' c.decode_by_eights-at.result c.SYMBOLS-symbols.result,
+      mod-lt c.decode_by_eights-at.result some,
+      (IsSmall-group group).few_symbols,
+      c.SYMBOLS-symbols.ensures,
+      c.requires.few,
+    )
+
+pub slice_bounds-decode_by_few-count : goal.slice_bounds-decode_by_few-count
+slice_bounds-decode_by_few-count g c =
+    omega (
+      arith,
+      length-take-le c.args.len c.args.input.now c.requires.few,
+      groups-within c.decode_by_eights-at.result c.SYMBOLS-symbols.result,
+      c.decode_by_eights-at.ensures.within,
+    )
+
+pub slice_bounds-part-end : goal.slice_bounds-part-end
+slice_bounds-part-end g c = sym (length-take-le c.args.len c.args.input.now c.requires.few)
+
+pub decode_by_few-further-requires-clause-held : goal.decode_by_few-further-requires-clause-held
+decode_by_few-further-requires-clause-held g c = c.requires.held
