@@ -71,7 +71,8 @@ fn encode_eights<E: EncodeEight, G: GroupSize>(
     encode_by_order::<EightGroups<E>, G>(&EightGroups { way }, symbols, order, input, output);
 }
 
-// What is less than eight groups load. Not inlined, so that the loop over eight groups is small.
+// What is less than eight groups load. Not inlined, so that the loop over eight groups, which takes
+// most of the time, is small.
 #[inline(never)]
 fn encode_short<G: GroupSize>(symbols: &[u8; 256], order: BitOrder, input: &[u8], output: &mut [u8])
     requires limit { length input.now ≤ ENCODE_LIMIT }
@@ -126,8 +127,7 @@ fn encode_turns<T: EncodeTurn, G: GroupSize>(
 
 /// A way to encode a fixed number of whole groups in each turn of a loop, and then the rest.
 trait EncodeTurn {
-    // The number of groups, and how many bytes a turn also loads after them, by the width of a
-    // symbol.
+    // By the width of a symbol: how many groups, and how many bytes a turn also loads after them.
     ghost number: { ℕ → ℕ };
 
     ghost further: { ℕ → ℕ };

@@ -1,4 +1,4 @@
-use Rattle.std.proofs.Common.{◌≡◌, ℕ, List, ◌+◌, ◌*◌, ◌/◌, ◌<◌, ◌≤◌, length, length-take-le, refl, take, sym, ap, ◌∙◌, subst, arith}
+use Rattle.std.proofs.Common.{◌≡◌, ℕ, List, ◌+◌, ◌-◌, ◌*◌, ◌/◌, ◌<◌, ◌≤◌, length, length-take-le, refl, take, drop, sym, ap, ◌∙◌, subst, arith}
 use Rattle.data_encoding_kernel.specs.Runs.{IsRun}
 use Rattle.data_encoding_kernel.proofs.decoding.SymbolRunLemmas.{fewer-groups, groups-room, room-left, run-after, within-left}
 use Rattle.std.proofs.Math.Nat.{le-mul_of_pos_right, mod-lt, mul-div_cancel, mul-le-mul_right}
@@ -13,25 +13,28 @@ groups-within-part : {s symbols : ℕ} (at len : ℕ) (input : List ℕ) → sym
 groups-within-part at len input same some few within =
     rw (length-take-le len input within) (fewer-groups at len same some few)
 
--- and the output has room for a part
-part-room : {m : ℕ} (s b len : ℕ) (input output : List ℕ) → len ≤ length input
-    → len / s * b ≤ m → length output ≡ m → length (take len input) / s * b ≤ length output
-part-room s b len input output within room same =
-    rw (length-take-le len input within, same) room
+-- and what is left of the output has room for what is left of the part
+part-left : {b s bytes symbols m : ℕ} (at len : ℕ) (input output : List ℕ) → bytes ≡ b
+    → symbols ≡ s → 0 < s → at ≤ len → len ≤ length input → len / s * b ≤ m → length output ≡ m
+    → length (take (length (take len input) - at / symbols * symbols)
+    (drop (at / symbols * symbols) (take len input))) / s * b
+    ≤ length (take (length output - at / symbols * bytes) (drop (at / symbols * bytes) output))
+part-left {b} {s} {bytes} {symbols} at len input output same_bytes same_symbols some few within
+    room same =
+    let all : length (take len input) / s * b ≤ length output =
+    rw (length-take-le len input within, same) room in
+    room-left (take len input) output (at / symbols) same_bytes same_symbols some
+    (groups-within-part at len input same_symbols some few within) all
 
 pub slice_bounds-decode_by_few-count-2 : goal.slice_bounds-decode_by_few-count-2
 slice_bounds-decode_by_few-count-2 g c =
     let whole = IsWhole-group g.G.GroupSize.WIDTH g.G.GroupSize.BYTES g.G.GroupSize.SYMBOLS
     g.G.GroupSize.is_group in
-    let part = take c.args.len c.args.input.now in
     let at = c.decode_by_eights-at.result in
-    let first = at / c.SYMBOLS-symbols.result in
-    let within = groups-within-part at c.args.len c.args.input.now c.SYMBOLS-symbols.ensures
-    whole.some_symbols c.decode_by_eights-at.ensures.within c.requires.few in
-    let output = c.decode_by_eights-at.new.output in
-    let room = part-room g.G.GroupSize.SYMBOLS g.G.GroupSize.BYTES c.args.len c.args.input.now
-    output c.requires.few c.requires.room c.decode_by_eights-at.auto.output in
-    groups-room _ first (length output) c.BYTES-bytes.ensures within room
+    let within = fewer-groups at c.args.len c.SYMBOLS-symbols.ensures whole.some_symbols
+    c.decode_by_eights-at.ensures.within in
+    groups-room _ (at / c.SYMBOLS-symbols.result) _ c.BYTES-bytes.ensures within
+    (omega (arith, c.requires.room, c.decode_by_eights-at.auto.output))
 
 pub slice_bounds-decode_by_few-start-2 : goal.slice_bounds-decode_by_few-start-2
 slice_bounds-decode_by_few-start-2 g c = slice_bounds-decode_by_few-count-2 g c
@@ -40,16 +43,9 @@ pub decode_by_few-further-requires-clause-room : goal.decode_by_few-further-requ
 decode_by_few-further-requires-clause-room g c =
     let whole = IsWhole-group g.G.GroupSize.WIDTH g.G.GroupSize.BYTES g.G.GroupSize.SYMBOLS
     g.G.GroupSize.is_group in
-    let part = take c.args.len c.args.input.now in
-    let at = c.decode_by_eights-at.result in
-    let first = at / c.SYMBOLS-symbols.result in
-    let within = groups-within-part at c.args.len c.args.input.now c.SYMBOLS-symbols.ensures
-    whole.some_symbols c.decode_by_eights-at.ensures.within c.requires.few in
-    let output = c.decode_by_eights-at.new.output in
-    let room = part-room g.G.GroupSize.SYMBOLS g.G.GroupSize.BYTES c.args.len c.args.input.now
-    output c.requires.few c.requires.room c.decode_by_eights-at.auto.output in
-    room-left part output first c.BYTES-bytes.ensures c.SYMBOLS-symbols.ensures whole.some_symbols
-    within room
+    part-left c.decode_by_eights-at.result c.args.len c.args.input.now _ c.BYTES-bytes.ensures
+    c.SYMBOLS-symbols.ensures whole.some_symbols c.decode_by_eights-at.ensures.within
+    c.requires.few c.requires.room c.decode_by_eights-at.auto.output
 
 pub returns-clause-run : goal.returns-clause-run
 returns-clause-run g c = λ base reads.
@@ -60,13 +56,12 @@ returns-clause-run g c = λ base reads.
     let part = take c.args.len c.args.input.now in
     let at = c.decode_by_eights-at.result in
     let first = at / c.SYMBOLS-symbols.result in
-    let within = groups-within-part at c.args.len c.args.input.now c.SYMBOLS-symbols.ensures
-    whole.some_symbols c.decode_by_eights-at.ensures.within c.requires.few in
+    let within = fewer-groups at c.args.len c.SYMBOLS-symbols.ensures whole.some_symbols
+    c.decode_by_eights-at.ensures.within in
     let output = c.decode_by_eights-at.new.output in
-    let room = part-room g.G.GroupSize.SYMBOLS g.G.GroupSize.BYTES c.args.len c.args.input.now
-    output c.requires.few c.requires.room c.decode_by_eights-at.auto.output in
-    let left = room-left part output first c.BYTES-bytes.ensures c.SYMBOLS-symbols.ensures
-    whole.some_symbols within room in
+    let left = part-left at c.args.len c.args.input.now output c.BYTES-bytes.ensures
+    c.SYMBOLS-symbols.ensures whole.some_symbols c.decode_by_eights-at.ensures.within
+    c.requires.few c.requires.room c.decode_by_eights-at.auto.output in
     let more = c.decode_by_few-further.result in
     let again : (first + more) * c.SYMBOLS-symbols.result / g.G.GroupSize.SYMBOLS ≡ first + more =
     ap (λ s. (first + more) * s / g.G.GroupSize.SYMBOLS) c.SYMBOLS-symbols.ensures
@@ -75,7 +70,8 @@ returns-clause-run g c = λ base reads.
     (run-after base reads.holds.is_width g.G.GroupSize.WIDTH c.BYTES-bytes.result
     c.SYMBOLS-symbols.result group reads.width_is part c.args.output.now output _
     c.decode_by_few-further.new.output first c.decode_by_few-further.result _ (length part)
-    (omega arith) (groups-room _ first (length output) c.BYTES-bytes.ensures within room)
+    (omega arith) (groups-room _ first (length output) c.BYTES-bytes.ensures within
+    (omega (arith, c.requires.room, c.decode_by_eights-at.auto.output)))
     (groups-room _ c.decode_by_few-further.result (length c.decode_by_few-further.new.output)
     c.BYTES-bytes.ensures c.decode_by_few-further.ensures.within
     (omega (arith, left, c.decode_by_few-further.auto.output)))
