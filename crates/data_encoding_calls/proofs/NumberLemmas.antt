@@ -13,7 +13,7 @@ some-one is = cc
 ok-one : {one other : Base} → ◌≡◌ {A = Result Base Refusal} (Ok one) (Ok other) → one ≡ other
 ok-one is = cc
 
-pub one-base : (number : ℕ) (one other : Base) → IsNumbered number one → IsNumbered number other
+one-base : (number : ℕ) (one other : Base) → IsNumbered number one → IsNumbered number other
     → one ≡ other
 one-base number one other h k =
     let same = some-one (sym h.is_known ∙ k.is_known) in

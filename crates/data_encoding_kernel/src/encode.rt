@@ -39,8 +39,7 @@ pub fn encode_plain<G: GroupSize>(
     encode_eights::<EightByRows, G>(EightByRows, symbols, order, input, output);
 }
 
-// The symbols as sums if they have that form. Not inlined, so that shorter data does not pay for
-// what the sums take.
+// The symbols as sums if they have that form. Not inlined, so that shorter data is not slowed down.
 #[inline(never)]
 fn encode_long<G: GroupSize>(symbols: &[u8; 256], order: BitOrder, input: &[u8], output: &mut [u8])
     requires limit { length input.now ≤ ENCODE_LIMIT }
@@ -88,8 +87,7 @@ fn encode_short<G: GroupSize>(symbols: &[u8; 256], order: BitOrder, input: &[u8]
     }
 }
 
-// Encodes one turn after another, while the input has as many bytes as a turn loads, and then the
-// rest.
+// Encodes turn by turn, while the input has as many bytes as a turn loads, and then the rest.
 #[inline(always)]
 fn encode_turns<T: EncodeTurn, G: GroupSize>(
     turn: &T,
@@ -129,8 +127,7 @@ fn encode_turns<T: EncodeTurn, G: GroupSize>(
 
 /// A way to encode a fixed number of whole groups in each turn of a loop, and then the rest.
 trait EncodeTurn {
-    // The number of groups, and how many bytes a turn also loads after them, by the width of a
-    // symbol.
+    // By the width of a symbol: how many groups, and how many bytes a turn also loads after them.
     ghost number: { ℕ → ℕ };
 
     ghost further: { ℕ → ℕ };

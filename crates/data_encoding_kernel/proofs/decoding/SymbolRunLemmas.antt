@@ -334,7 +334,7 @@ turn-fits {number} {s} n count i same_groups same_size =
     omega (arith, room, all))
 
 -- how many groups are left after the first ones
-pub count-left : (n size first : ℕ) → 0 < size → first ≤ n / size
+count-left : (n size first : ℕ) → 0 < size → first ≤ n / size
     → (n - first * size) / size ≡ n / size - first
 count-left n size first pos h =
     let rest = n / size - first in

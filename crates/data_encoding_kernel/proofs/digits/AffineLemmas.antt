@@ -149,7 +149,7 @@ same-entry : (entry own : ℕ) → entry < 128 → cond (eqb entry own) 0 (plus 
 same-entry entry own small passes = grind (arith, nat_tests)
 
 -- the entries of a row, as they are loaded
-abbrev pub entries_of : ℕ → List ℕ → List ℕ
+abbrev entries_of : ℕ → List ℕ → List ℕ
 entries_of row values = take 16 (take (16 * row + 16 - 16 * row) (drop (16 * row) values))
 
 pub row-entries : (row : ℕ) (values : List ℕ) → length values ≡ 256 → row < 8

@@ -56,7 +56,7 @@ number-parts p (suc m) (x ∷ xs) few =
     ∙ omega (arith, ap (λ n. n * rest) (pow-succ' p m))
 
 -- the first lanes of another size are made of the first lanes
-pub lanes-front : (p q m k n : ℕ) (xs : List ℕ) → 0 < q → k ≤ n → m ≤ length xs → q ^ k ≡ p ^ m
+lanes-front : (p q m k n : ℕ) (xs : List ℕ) → 0 < q → k ≤ n → m ≤ length xs → q ^ k ≡ p ^ m
     → take k (digits_l q n (number_l p xs)) ≡ digits_l q k (number_l p (take m xs))
 lanes-front p q m k n xs pos few within same =
     let low = number_l p (take m xs) in

@@ -40,7 +40,7 @@ true-twice true h = refl
 true-twice false h = h
 
 -- the lanes at least the limit, as a mask
-abbrev pub mask_of : ℕ → ℕ → List ℕ → ℕ
+abbrev mask_of : ℕ → ℕ → List ℕ → ℕ
 mask_of limit count lanes =
     mask_l (map (top 7) (zip2 at_most (replicate count limit) lanes)) % 18446744073709551616
 

@@ -181,7 +181,7 @@ one-bytes : (order : BitOrder) (words : List ℕ) → AllByRecursion (λ word. w
 one-bytes order [] h = refl
 one-bytes order (w ∷ words) h = λ i. one-byte order w h.0 i ++ one-bytes order words h.1 i
 
-pub stored-ones : (order : BitOrder) (words output : List ℕ) → length output ≡ length words
+stored-ones : (order : BitOrder) (words output : List ℕ) → length output ≡ length words
     → AllByRecursion (λ word. word < 256) words
     → put_chunk 0 output (map (λ x. x) words) ≡ bytes_of_words order 1 words
 stored-ones order words output exact h =

@@ -20,7 +20,7 @@ use Rattle.data_encoding_kernel.specs.Ignore.{HoldsIgnored, IsPacked, ignored_bi
 use Rattle.data_encoding_kernel.proofs.packing.PickedLemmas.{picked-count, picked-later, picked-passes}
 
 -- the flags from one on
-abbrev pub from_flag : ℕ → List Bool → List Bool
+abbrev from_flag : ℕ → List Bool → List Bool
 from_flag first flags = replicate first false ++ drop first flags
 
 halved : (flag : Bool) (mask : ℕ) → (cond flag 1 0 + 2 * mask) / 2 ≡ mask

@@ -10,7 +10,7 @@ use Rattle.std.specs.Simd.Lanes.{digits_l, mask_l}
 use Rattle.std.specs.Prelude.{nat_lt}
 use Rattle.data_encoding_kernel.specs.Ignore.{picked}
 
-abbrev pub flags_of : ℕ → List Bool
+abbrev flags_of : ℕ → List Bool
 flags_of mask = map (λ k. eqb (mask / 2 ^ k % 2) 1) (range_with_len 0 8)
 
 one-or-zero : (flag : Bool) → eqb (cond flag 1 0) 1 ≡ flag
@@ -32,10 +32,10 @@ abbrev pub places_of : ℕ → List ℕ
 places_of mask = picked (flags_of mask) (range_with_len 0 8)
 
 -- the first bytes of a row, as many as its mask picks
-abbrev pub begin_of : List ℕ → ℕ → List ℕ
+abbrev begin_of : List ℕ → ℕ → List ℕ
 begin_of table mask = take (length (places_of mask)) (digits_l 256 8 (get_or table mask 0))
 
-abbrev pub are_few : List ℕ → ℕ → Bool
+abbrev are_few : List ℕ → ℕ → Bool
 are_few table mask = list_all (λ place. nat_lt place 8) (digits_l 256 8 (get_or table mask 0))
 
 -- the entry of a table at a mask

@@ -280,7 +280,7 @@ step-follows ps some (Define byte m) brings =
 step-follows ps some (Translate from to) brings = translate-follows ps some from to
 
 -- the table after all judgements
-pub table-agrees : (js : List Judgement) (ps : Pairs) → GiveSome ps
+table-agrees : (js : List Judgement) (ps : Pairs) → GiveSome ps
     → AllByRecursion (Brings is_some_meaning) js
     → meanings_after (Ok (meanings_by ps)) js
     ≡ meanings_unless (first_refusal ps js) (pairs_after ps js)

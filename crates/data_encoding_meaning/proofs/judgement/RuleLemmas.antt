@@ -105,7 +105,7 @@ first_judgements width fields =
     ++ wrapping_judgements width fields.column fields.separator
 
 -- the judgements, list by list
-abbrev pub AllParts : (Judgement → Type 0) → ℕ → Fields → Type 0
+abbrev AllParts : (Judgement → Type 0) → ℕ → Fields → Type 0
 AllParts P width fields =
     AllByRecursion P (symbol_judgements 0 fields.symbols)
     × AllByRecursion P (padding_judgements width fields.padding)

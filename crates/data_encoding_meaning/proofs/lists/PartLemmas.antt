@@ -67,28 +67,12 @@ groups-within n size = omega (arith, div-add-mod' n size)
 pub one-more : (i size : ℕ) → (i + 1) * size ≡ i * size + size
 one-more i size = omega arith
 
--- the groups of the next turn end before the last of them
-turns-before : (n groups size i : ℕ) → i < n / groups
-    → i * groups * size + groups * size ≤ n * size
-turns-before n groups size i h =
-    omega (arith, mul-le-mul_right size (group-before n groups i h))
-
-pub turn-within : (n groups size i : ℕ) → i < n / size / groups
-    → i * groups * size + groups * size ≤ n
-turn-within n groups size i h =
-    omega (arith, turns-before (n / size) groups size i h, groups-within n size)
-
--- and has room if all groups have room, as has a group
+-- a group has room if all groups have room
 pub group-room : {b s bytes symbols : ℕ} (n i m : ℕ) → bytes ≡ b → symbols ≡ s → n / s * b ≤ m
     → i < n / symbols → i * bytes + bytes ≤ m
 group-room {b} {s} {bytes} {symbols} n i m q r room h =
     let next : i + 1 ≤ n / symbols = omega (arith, h) in
     omega (arith, mul-le-mul_right bytes next, room-same n m q r room)
-
-pub turn-room : {b s bytes symbols : ℕ} (n groups i m : ℕ) → bytes ≡ b → symbols ≡ s
-    → n / s * b ≤ m → i < n / symbols / groups → i * groups * bytes + groups * bytes ≤ m
-turn-room {b} {s} {bytes} {symbols} n groups i m q r room h =
-    omega (arith, turns-before (n / symbols) groups bytes i h, room-same n m q r room)
 
 -- one of four equal pieces ends before the end
 pub part-of-four : (n size i : ℕ) → n ≡ 4 * size → i < 4 → i * size + size ≤ n

@@ -61,3 +61,61 @@ overflow_mul-count g c =
     record {
       fits = omega (arith, mul-le-mul_left (most / symbols) fewer, groups-within most symbols);
     }
+
+pub overflow_mul-symbols : goal.overflow_mul-symbols
+overflow_mul-symbols g c = record {
+  fits = omega (
+    arith,
+    (IsSmall-group g.G.GroupSize.is_group).few_symbols,
+    c.SYMBOLS-symbols.ensures,
+  );
+}
+
+pub overflow_sub-input_len : goal.overflow_sub-input_len
+overflow_sub-input_len g c = c.requires.few
+
+pub nonzero_div-count : goal.nonzero_div-count
+nonzero_div-count g c =
+    let whole = IsWhole-same c.BYTES-bytes.ensures c.SYMBOLS-symbols.ensures
+    g.G.GroupSize.is_group in
+    omega (arith, whole.some_symbols)
+
+pub nonzero_div-result : goal.nonzero_div-result
+nonzero_div-result g c =
+    let whole = IsWhole-same c.BYTES-bytes.ensures c.SYMBOLS-symbols.ensures
+    g.G.GroupSize.is_group in
+    omega (arith, whole.some_bytes)
+
+pub returns-then-output_len-count-clause-bytes : goal.returns-then-output_len-count-clause-bytes
+returns-then-output_len-count-clause-bytes g c =
+    let bytes = 8 * c.BYTES-bytes.result in
+    omega (
+      arith,
+      groups-within c.args.output_len bytes,
+      ap (λ b. c.args.output_len / bytes * (8 * b)) c.BYTES-bytes.ensures,
+    )
+
+pub returns-clause-symbols : goal.returns-clause-symbols
+returns-clause-symbols g c =
+    let symbols = 8 * c.SYMBOLS-symbols.result in
+    let most = c.if-input_len-len.most in
+    let inside : most ≤ c.args.input_len =
+    elim c.if-input_len-len.branch [
+      | then-input_len-len w ↦ omega (arith, w.most-is)
+      | else-input_len-len w ↦ omega (arith, w.most-is, w.if-input_len-len.false, c.requires.few)
+    ] in
+    omega (
+      arith,
+      groups-within most symbols,
+      inside,
+      ap (λ s. most / symbols * (8 * s)) c.SYMBOLS-symbols.ensures,
+    )
+
+pub returns-clause-bytes : goal.returns-clause-bytes
+returns-clause-bytes g c =
+    let count = c.if-input_len-len.most / (8 * c.SYMBOLS-symbols.result) in
+    omega (
+      arith,
+      c.if-output_len-count.false,
+      ap (λ b. count * (8 * b)) c.BYTES-bytes.ensures,
+    )

@@ -1,68 +1,51 @@
-use Rattle.std.proofs.Common.{◌≡◌, ◌+◌, ◌*◌, ◌/◌, ◌≤◌, length, length-take-le, refl, take, sym, ap, ◌∙◌, subst, arith}
+use Rattle.std.proofs.Common.{◌≡◌, ℕ, List, ◌+◌, ◌-◌, ◌*◌, ◌/◌, ◌<◌, ◌≤◌, length, length-take-le, refl, take, drop, sym, ap, ◌∙◌, subst, arith}
 use Rattle.data_encoding_kernel.specs.Runs.{IsRun}
 use Rattle.data_encoding_kernel.proofs.decoding.SymbolRunLemmas.{fewer-groups, groups-room, room-left, run-after, within-left}
-use Rattle.std.proofs.Math.Nat.{mul-div_cancel, mul-le-mul_right}
-use Rattle.data_encoding_meaning.proofs.digits.SizeLemmas.{IsGroup-same}
+use Rattle.std.proofs.Math.Nat.{le-mul_of_pos_right, mod-lt, mul-div_cancel, mul-le-mul_right}
+use Rattle.std.proofs.lemmas.Nat.{div-add-mod'}
+use Rattle.data_encoding_meaning.proofs.digits.SizeLemmas.{IsGroup-same, IsSmall-group}
 use Rattle.data_encoding_meaning.proofs.lists.PartLemmas.{IsWhole-group, groups-within}
 use Rattle.data_encoding_kernel.proofs.decode.decode_by_lanes.Goals as goal
+
+-- as many groups as a part has symbols for are within the part
+groups-within-part : {s symbols : ℕ} (at len : ℕ) (input : List ℕ) → symbols ≡ s → 0 < s
+    → at ≤ len → len ≤ length input → at / symbols ≤ length (take len input) / s
+groups-within-part at len input same some few within =
+    rw (length-take-le len input within) (fewer-groups at len same some few)
+
+-- and what is left of the output has room for what is left of the part
+part-left : {b s bytes symbols m : ℕ} (at len : ℕ) (input output : List ℕ) → bytes ≡ b
+    → symbols ≡ s → 0 < s → at ≤ len → len ≤ length input → len / s * b ≤ m → length output ≡ m
+    → length (take (length (take len input) - at / symbols * symbols)
+    (drop (at / symbols * symbols) (take len input))) / s * b
+    ≤ length (take (length output - at / symbols * bytes) (drop (at / symbols * bytes) output))
+part-left {b} {s} {bytes} {symbols} at len input output same_bytes same_symbols some few within
+    room same =
+    let all : length (take len input) / s * b ≤ length output =
+    rw (length-take-le len input within, same) room in
+    room-left (take len input) output (at / symbols) same_bytes same_symbols some
+    (groups-within-part at len input same_symbols some few within) all
 
 pub slice_bounds-decode_by_few-count-2 : goal.slice_bounds-decode_by_few-count-2
 slice_bounds-decode_by_few-count-2 g c =
     let whole = IsWhole-group g.G.GroupSize.WIDTH g.G.GroupSize.BYTES g.G.GroupSize.SYMBOLS
     g.G.GroupSize.is_group in
-    let part = take c.args.len c.args.input.now in
-    let part_len : length part ≡ c.args.len =
-    length-take-le c.args.len c.args.input.now c.requires.few in
     let at = c.decode_by_eights-at.result in
-    let first = at / c.SYMBOLS-symbols.result in
-    let within : first ≤ length part / g.G.GroupSize.SYMBOLS =
-    subst (λ n. first ≤ n / g.G.GroupSize.SYMBOLS) (sym part_len)
-    (fewer-groups at c.args.len c.SYMBOLS-symbols.ensures whole.some_symbols
-    c.decode_by_eights-at.ensures.within) in
-    let output = c.decode_by_eights-at.new.output in
-    let room : length part / g.G.GroupSize.SYMBOLS * g.G.GroupSize.BYTES ≤ length output =
-    subst (λ n. n / g.G.GroupSize.SYMBOLS * g.G.GroupSize.BYTES ≤ length output) (sym part_len)
-    (omega (arith, c.requires.room, c.decode_by_eights-at.auto.output)) in
-    groups-room _ first (length output) c.BYTES-bytes.ensures within room
+    let within = fewer-groups at c.args.len c.SYMBOLS-symbols.ensures whole.some_symbols
+    c.decode_by_eights-at.ensures.within in
+    groups-room _ (at / c.SYMBOLS-symbols.result) _ c.BYTES-bytes.ensures within
+    (omega (arith, c.requires.room, c.decode_by_eights-at.auto.output))
 
 pub slice_bounds-decode_by_few-start-2 : goal.slice_bounds-decode_by_few-start-2
-slice_bounds-decode_by_few-start-2 g c =
-    let whole = IsWhole-group g.G.GroupSize.WIDTH g.G.GroupSize.BYTES g.G.GroupSize.SYMBOLS
-    g.G.GroupSize.is_group in
-    let part = take c.args.len c.args.input.now in
-    let part_len : length part ≡ c.args.len =
-    length-take-le c.args.len c.args.input.now c.requires.few in
-    let at = c.decode_by_eights-at.result in
-    let first = at / c.SYMBOLS-symbols.result in
-    let within : first ≤ length part / g.G.GroupSize.SYMBOLS =
-    subst (λ n. first ≤ n / g.G.GroupSize.SYMBOLS) (sym part_len)
-    (fewer-groups at c.args.len c.SYMBOLS-symbols.ensures whole.some_symbols
-    c.decode_by_eights-at.ensures.within) in
-    let output = c.decode_by_eights-at.new.output in
-    let room : length part / g.G.GroupSize.SYMBOLS * g.G.GroupSize.BYTES ≤ length output =
-    subst (λ n. n / g.G.GroupSize.SYMBOLS * g.G.GroupSize.BYTES ≤ length output) (sym part_len)
-    (omega (arith, c.requires.room, c.decode_by_eights-at.auto.output)) in
-    groups-room _ first (length output) c.BYTES-bytes.ensures within room
+slice_bounds-decode_by_few-start-2 g c = slice_bounds-decode_by_few-count-2 g c
 
 pub decode_by_few-further-requires-clause-room : goal.decode_by_few-further-requires-clause-room
 decode_by_few-further-requires-clause-room g c =
     let whole = IsWhole-group g.G.GroupSize.WIDTH g.G.GroupSize.BYTES g.G.GroupSize.SYMBOLS
     g.G.GroupSize.is_group in
-    let part = take c.args.len c.args.input.now in
-    let part_len : length part ≡ c.args.len =
-    length-take-le c.args.len c.args.input.now c.requires.few in
-    let at = c.decode_by_eights-at.result in
-    let first = at / c.SYMBOLS-symbols.result in
-    let within : first ≤ length part / g.G.GroupSize.SYMBOLS =
-    subst (λ n. first ≤ n / g.G.GroupSize.SYMBOLS) (sym part_len)
-    (fewer-groups at c.args.len c.SYMBOLS-symbols.ensures whole.some_symbols
-    c.decode_by_eights-at.ensures.within) in
-    let output = c.decode_by_eights-at.new.output in
-    let room : length part / g.G.GroupSize.SYMBOLS * g.G.GroupSize.BYTES ≤ length output =
-    subst (λ n. n / g.G.GroupSize.SYMBOLS * g.G.GroupSize.BYTES ≤ length output) (sym part_len)
-    (omega (arith, c.requires.room, c.decode_by_eights-at.auto.output)) in
-    room-left part output first c.BYTES-bytes.ensures c.SYMBOLS-symbols.ensures whole.some_symbols
-    within room
+    part-left c.decode_by_eights-at.result c.args.len c.args.input.now _ c.BYTES-bytes.ensures
+    c.SYMBOLS-symbols.ensures whole.some_symbols c.decode_by_eights-at.ensures.within
+    c.requires.few c.requires.room c.decode_by_eights-at.auto.output
 
 pub returns-clause-run : goal.returns-clause-run
 returns-clause-run g c = λ base reads.
@@ -71,20 +54,14 @@ returns-clause-run g c = λ base reads.
     let whole = IsWhole-group g.G.GroupSize.WIDTH g.G.GroupSize.BYTES g.G.GroupSize.SYMBOLS
     g.G.GroupSize.is_group in
     let part = take c.args.len c.args.input.now in
-    let part_len : length part ≡ c.args.len =
-    length-take-le c.args.len c.args.input.now c.requires.few in
     let at = c.decode_by_eights-at.result in
     let first = at / c.SYMBOLS-symbols.result in
-    let within : first ≤ length part / g.G.GroupSize.SYMBOLS =
-    subst (λ n. first ≤ n / g.G.GroupSize.SYMBOLS) (sym part_len)
-    (fewer-groups at c.args.len c.SYMBOLS-symbols.ensures whole.some_symbols
-    c.decode_by_eights-at.ensures.within) in
+    let within = fewer-groups at c.args.len c.SYMBOLS-symbols.ensures whole.some_symbols
+    c.decode_by_eights-at.ensures.within in
     let output = c.decode_by_eights-at.new.output in
-    let room : length part / g.G.GroupSize.SYMBOLS * g.G.GroupSize.BYTES ≤ length output =
-    subst (λ n. n / g.G.GroupSize.SYMBOLS * g.G.GroupSize.BYTES ≤ length output) (sym part_len)
-    (omega (arith, c.requires.room, c.decode_by_eights-at.auto.output)) in
-    let left = room-left part output first c.BYTES-bytes.ensures c.SYMBOLS-symbols.ensures
-    whole.some_symbols within room in
+    let left = part-left at c.args.len c.args.input.now output c.BYTES-bytes.ensures
+    c.SYMBOLS-symbols.ensures whole.some_symbols c.decode_by_eights-at.ensures.within
+    c.requires.few c.requires.room c.decode_by_eights-at.auto.output in
     let more = c.decode_by_few-further.result in
     let again : (first + more) * c.SYMBOLS-symbols.result / g.G.GroupSize.SYMBOLS ≡ first + more =
     ap (λ s. (first + more) * s / g.G.GroupSize.SYMBOLS) c.SYMBOLS-symbols.ensures
@@ -93,7 +70,8 @@ returns-clause-run g c = λ base reads.
     (run-after base reads.holds.is_width g.G.GroupSize.WIDTH c.BYTES-bytes.result
     c.SYMBOLS-symbols.result group reads.width_is part c.args.output.now output _
     c.decode_by_few-further.new.output first c.decode_by_few-further.result _ (length part)
-    (omega arith) (groups-room _ first (length output) c.BYTES-bytes.ensures within room)
+    (omega arith) (groups-room _ first (length output) c.BYTES-bytes.ensures within
+    (omega (arith, c.requires.room, c.decode_by_eights-at.auto.output)))
     (groups-room _ c.decode_by_few-further.result (length c.decode_by_few-further.new.output)
     c.BYTES-bytes.ensures c.decode_by_few-further.ensures.within
     (omega (arith, left, c.decode_by_few-further.auto.output)))
@@ -107,17 +85,14 @@ returns-clause-within g c =
     let whole = IsWhole-group g.G.GroupSize.WIDTH g.G.GroupSize.BYTES g.G.GroupSize.SYMBOLS
     g.G.GroupSize.is_group in
     let part = take c.args.len c.args.input.now in
-    let part_len : length part ≡ c.args.len =
-    length-take-le c.args.len c.args.input.now c.requires.few in
     let at = c.decode_by_eights-at.result in
     let first = at / c.SYMBOLS-symbols.result in
-    let within : first ≤ length part / g.G.GroupSize.SYMBOLS =
-    subst (λ n. first ≤ n / g.G.GroupSize.SYMBOLS) (sym part_len)
-    (fewer-groups at c.args.len c.SYMBOLS-symbols.ensures whole.some_symbols
-    c.decode_by_eights-at.ensures.within) in
+    let within = groups-within-part at c.args.len c.args.input.now c.SYMBOLS-symbols.ensures
+    whole.some_symbols c.decode_by_eights-at.ensures.within c.requires.few in
     let more = c.decode_by_few-further.result in
     let all : first + more ≤ c.args.len / g.G.GroupSize.SYMBOLS =
-    subst (λ n. first + more ≤ n / g.G.GroupSize.SYMBOLS) part_len
+    subst (λ n. first + more ≤ n / g.G.GroupSize.SYMBOLS)
+    (length-take-le c.args.len c.args.input.now c.requires.few)
     (within-left part first more c.SYMBOLS-symbols.ensures
     whole.some_symbols within c.decode_by_few-further.ensures.within) in
     omega (
@@ -146,3 +121,69 @@ pub overflow_mul-result : goal.overflow_mul-result
 overflow_mul-result g c = record {
   fits = omega (arith, returns-clause-within g c, c.ranges.len.fits);
 }
+
+pub overflow_add-result : goal.overflow_add-result
+overflow_add-result g c =
+    let whole = IsWhole-group g.G.GroupSize.WIDTH g.G.GroupSize.BYTES g.G.GroupSize.SYMBOLS
+    g.G.GroupSize.is_group in
+    let all = c.decode_by_eights-at.result / c.SYMBOLS-symbols.result
+    + c.decode_by_few-further.result in
+    let some : 0 < c.SYMBOLS-symbols.result =
+    omega (arith, whole.some_symbols, c.SYMBOLS-symbols.ensures) in
+    record {
+      fits = omega (
+        arith,
+        le-mul_of_pos_right all some,
+        returns-clause-within g c,
+        c.ranges.len.fits,
+      );
+    }
+
+pub nonzero_div-first : goal.nonzero_div-first
+nonzero_div-first g c =
+    let whole = IsWhole-group g.G.GroupSize.WIDTH g.G.GroupSize.BYTES g.G.GroupSize.SYMBOLS
+    g.G.GroupSize.is_group in
+    omega (arith, whole.some_symbols, c.SYMBOLS-symbols.ensures)
+
+pub overflow_sub-left : goal.overflow_sub-left
+overflow_sub-left g c =
+    omega (
+      arith,
+      groups-within c.decode_by_eights-at.result c.SYMBOLS-symbols.result,
+      c.decode_by_eights-at.ensures.within,
+    )
+
+pub overflow_mul-read : goal.overflow_mul-read
+overflow_mul-read g c = record {
+  fits = omega (arith, overflow_sub-left g c, c.ranges.len.fits);
+}
+
+pub bounds-input-at : goal.bounds-input-at
+bounds-input-at g c =
+    let group = g.G.GroupSize.is_group in
+    let whole = IsWhole-group g.G.GroupSize.WIDTH g.G.GroupSize.BYTES g.G.GroupSize.SYMBOLS group in
+    let some : 0 < c.SYMBOLS-symbols.result =
+    omega (arith, whole.some_symbols, c.SYMBOLS-symbols.ensures) in
+    omega (
+      arith,
+      div-add-mod' c.decode_by_eights-at.result c.SYMBOLS-symbols.result,
+      mod-lt c.decode_by_eights-at.result some,
+      (IsSmall-group group).few_symbols,
+      c.SYMBOLS-symbols.ensures,
+      c.requires.few,
+    )
+
+pub slice_bounds-decode_by_few-count : goal.slice_bounds-decode_by_few-count
+slice_bounds-decode_by_few-count g c =
+    omega (
+      arith,
+      length-take-le c.args.len c.args.input.now c.requires.few,
+      groups-within c.decode_by_eights-at.result c.SYMBOLS-symbols.result,
+      c.decode_by_eights-at.ensures.within,
+    )
+
+pub slice_bounds-part-end : goal.slice_bounds-part-end
+slice_bounds-part-end g c = sym (length-take-le c.args.len c.args.input.now c.requires.few)
+
+pub decode_by_few-further-requires-clause-held : goal.decode_by_few-further-requires-clause-held
+decode_by_few-further-requires-clause-held g c = c.requires.held

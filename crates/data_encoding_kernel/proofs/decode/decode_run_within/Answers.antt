@@ -1,4 +1,4 @@
-use Rattle.std.proofs.Common.{◌≡◌, ◌+◌, ◌*◌, ◌/◌, ◌<◌, ◌≤◌, length, length-take-le, take, refl, sym, ap, ◌∙◌, subst, arith}
+use Rattle.std.proofs.Common.{◌≡◌, ℕ, List, ◌+◌, ◌*◌, ◌/◌, ◌<◌, ◌≤◌, length, length-take-le, take, refl, sym, ap, ◌∙◌, subst, arith}
 use Rattle.data_encoding_meaning.proofs.decoding.GroupJudgementLemmas.{part_bytes}
 use Rattle.std.proofs.Math.Nat.{mul-le-mul_right}
 use Rattle.data_encoding_meaning.proofs.digits.SizeLemmas.{IsGroup-same}
@@ -6,22 +6,22 @@ use Rattle.data_encoding_kernel.proofs.decoding.SymbolRunLemmas.{group-next, run
 use Rattle.data_encoding_meaning.proofs.lists.PartLemmas.{IsWhole-same, group-before, group-room, groups-within, length-part}
 use Rattle.data_encoding_kernel.proofs.decode.decode_run_within.Goals as goal
 
+-- a group that is left is within the part
+group-within : (len : ℕ) (input : List ℕ) (symbols i : ℕ) → len ≤ length input → i < len / symbols
+    → i * symbols + symbols ≤ length (take len input)
+group-within len input symbols i few inside =
+    rw (length-take-le len input few) (group-before len symbols i inside)
+
 pub slice_bounds-decode_symbols-end : goal.slice_bounds-decode_symbols-end
 slice_bounds-decode_symbols-end g c =
-    let part = take c.args.len c.args.input.now in
-    let part_len : length part ≡ c.args.len =
-    length-take-le c.args.len c.args.input.now c.requires.few in
-    let inside : c.loop-index.index < length part / c.SYMBOLS-symbols.result =
-    subst (λ n. c.loop-index.index < n / c.SYMBOLS-symbols.result) (sym part_len)
-    c.loop-index-test.true in
-    group-before (length part) c.SYMBOLS-symbols.result c.loop-index.index inside
+    group-within c.args.len c.args.input.now c.SYMBOLS-symbols.result c.loop-index.index
+    c.requires.few c.loop-index-test.true
 
 pub overflow_mul-read : goal.overflow_mul-read
 overflow_mul-read g c =
     omega (
       arith,
-      slice_bounds-decode_symbols-end g c,
-      length-take-le c.args.len c.args.input.now c.requires.few,
+      group-before c.args.len c.SYMBOLS-symbols.result c.loop-index.index c.loop-index-test.true,
       c.ranges.len,
     )
 
@@ -29,115 +29,60 @@ pub overflow_add-read : goal.overflow_add-read
 overflow_add-read g c =
     omega (
       arith,
-      slice_bounds-decode_symbols-end g c,
-      length-take-le c.args.len c.args.input.now c.requires.few,
+      group-before c.args.len c.SYMBOLS-symbols.result c.loop-index.index c.loop-index-test.true,
       c.ranges.len,
     )
 
 pub slice_bounds-decode_symbols-end-in-loop-index :
     goal.slice_bounds-decode_symbols-end-in-loop-index
 slice_bounds-decode_symbols-end-in-loop-index g c =
-    let part = take c.args.len c.args.input.now in
-    let part_len : length part ≡ c.args.len =
-    length-take-le c.args.len c.args.input.now c.requires.few in
-    let inside : c.loop-index.index < length part / c.SYMBOLS-symbols.result =
-    subst (λ n. c.loop-index.index < n / c.SYMBOLS-symbols.result) (sym part_len)
-    c.loop-index-test.true in
-    let all : length part / g.G.GroupSize.SYMBOLS * g.G.GroupSize.BYTES
-    ≤ length c.args.output.now =
-    subst (λ n. n / g.G.GroupSize.SYMBOLS * g.G.GroupSize.BYTES ≤ length c.args.output.now)
-    (sym part_len) c.requires.room in
-    let room : c.loop-index.index * c.BYTES-bytes.result + c.BYTES-bytes.result
-    ≤ length c.loop-index.output =
-    rw (c.loop-index.auto.output, c.decode_by_several-first.auto.output)
-    (group-room (length part) c.loop-index.index _ c.BYTES-bytes.ensures c.SYMBOLS-symbols.ensures
-    all inside) in
-    room
+    let room = group-room c.args.len c.loop-index.index (length c.args.output.now)
+    c.BYTES-bytes.ensures c.SYMBOLS-symbols.ensures c.requires.room c.loop-index-test.true in
+    omega arith
 
 pub overflow_mul-written : goal.overflow_mul-written
 overflow_mul-written g c =
-    let part = take c.args.len c.args.input.now in
-    let part_len : length part ≡ c.args.len =
-    length-take-le c.args.len c.args.input.now c.requires.few in
-    let inside : c.loop-index.index < length part / c.SYMBOLS-symbols.result =
-    subst (λ n. c.loop-index.index < n / c.SYMBOLS-symbols.result) (sym part_len)
-    c.loop-index-test.true in
-    let all : length part / g.G.GroupSize.SYMBOLS * g.G.GroupSize.BYTES
-    ≤ length c.args.output.now =
-    subst (λ n. n / g.G.GroupSize.SYMBOLS * g.G.GroupSize.BYTES ≤ length c.args.output.now)
-    (sym part_len) c.requires.room in
-    let room : c.loop-index.index * c.BYTES-bytes.result + c.BYTES-bytes.result
-    ≤ length c.loop-index.output =
-    rw (c.loop-index.auto.output, c.decode_by_several-first.auto.output)
-    (group-room (length part) c.loop-index.index _ c.BYTES-bytes.ensures c.SYMBOLS-symbols.ensures
-    all inside) in
-    omega (arith, room)
+    let room = group-room c.args.len c.loop-index.index (length c.args.output.now)
+    c.BYTES-bytes.ensures c.SYMBOLS-symbols.ensures c.requires.room c.loop-index-test.true in
+    omega arith
 
 pub overflow_add-written : goal.overflow_add-written
 overflow_add-written g c = omega (arith, slice_bounds-decode_symbols-end-in-loop-index g c)
 
 pub decode_symbols-requires-clause-few : goal.decode_symbols-requires-clause-few
 decode_symbols-requires-clause-few g c =
-    let part = take c.args.len c.args.input.now in
-    let part_len : length part ≡ c.args.len =
-    length-take-le c.args.len c.args.input.now c.requires.few in
-    let inside : c.loop-index.index < length part / c.SYMBOLS-symbols.result =
-    subst (λ n. c.loop-index.index < n / c.SYMBOLS-symbols.result) (sym part_len)
-    c.loop-index-test.true in
+    let within = group-within c.args.len c.args.input.now c.SYMBOLS-symbols.result
+    c.loop-index.index c.requires.few c.loop-index-test.true in
     omega (
       arith,
-      length-part (c.loop-index.index * c.SYMBOLS-symbols.result) c.SYMBOLS-symbols.result part
-          (group-before _ c.SYMBOLS-symbols.result c.loop-index.index inside),
+      length-part (c.loop-index.index * c.SYMBOLS-symbols.result) c.SYMBOLS-symbols.result
+          (take c.args.len c.args.input.now) within,
     )
 
 pub decode_symbols-requires-clause-exact : goal.decode_symbols-requires-clause-exact
 decode_symbols-requires-clause-exact g c =
-    let part = take c.args.len c.args.input.now in
-    let part_len : length part ≡ c.args.len =
-    length-take-le c.args.len c.args.input.now c.requires.few in
-    let inside : c.loop-index.index < length part / c.SYMBOLS-symbols.result =
-    subst (λ n. c.loop-index.index < n / c.SYMBOLS-symbols.result) (sym part_len)
-    c.loop-index-test.true in
-    let all : length part / g.G.GroupSize.SYMBOLS * g.G.GroupSize.BYTES
-    ≤ length c.args.output.now =
-    subst (λ n. n / g.G.GroupSize.SYMBOLS * g.G.GroupSize.BYTES ≤ length c.args.output.now)
-    (sym part_len) c.requires.room in
-    let room : c.loop-index.index * c.BYTES-bytes.result + c.BYTES-bytes.result
-    ≤ length c.loop-index.output =
-    rw (c.loop-index.auto.output, c.decode_by_several-first.auto.output)
-    (group-room (length part) c.loop-index.index _ c.BYTES-bytes.ensures c.SYMBOLS-symbols.ensures
-    all inside) in
+    let within = group-within c.args.len c.args.input.now c.SYMBOLS-symbols.result
+    c.loop-index.index c.requires.few c.loop-index-test.true in
+    let room = group-room c.args.len c.loop-index.index (length c.args.output.now)
+    c.BYTES-bytes.ensures c.SYMBOLS-symbols.ensures c.requires.room c.loop-index-test.true in
     let bytes = c.BYTES-bytes.result in
     let symbols = c.SYMBOLS-symbols.result in
     let i = c.loop-index.index in
-    let read = length-part (i * symbols) symbols part (group-before _ symbols i inside) in
-    let wrote = length-part (i * bytes) bytes c.loop-index.output room in
+    let read = length-part (i * symbols) symbols (take c.args.len c.args.input.now) within in
+    let wrote = length-part (i * bytes) bytes c.loop-index.output (omega arith) in
     let same = (IsWhole-same c.BYTES-bytes.ensures c.SYMBOLS-symbols.ensures
     g.G.GroupSize.is_group).same_bits in
     omega (arith, wrote, ap (λ n. g.G.GroupSize.WIDTH * n) read, same)
 
 pub returns-then-not-decode_symbols-clause-run : goal.returns-then-not-decode_symbols-clause-run
 returns-then-not-decode_symbols-clause-run g c = λ base reads.
-    let part = take c.args.len c.args.input.now in
-    let part_len : length part ≡ c.args.len =
-    length-take-le c.args.len c.args.input.now c.requires.few in
-    let inside : c.loop-index.index < length part / c.SYMBOLS-symbols.result =
-    subst (λ n. c.loop-index.index < n / c.SYMBOLS-symbols.result) (sym part_len)
-    c.loop-index-test.true in
-    let all : length part / g.G.GroupSize.SYMBOLS * g.G.GroupSize.BYTES
-    ≤ length c.args.output.now =
-    subst (λ n. n / g.G.GroupSize.SYMBOLS * g.G.GroupSize.BYTES ≤ length c.args.output.now)
-    (sym part_len) c.requires.room in
-    let room : c.loop-index.index * c.BYTES-bytes.result + c.BYTES-bytes.result
-    ≤ length c.loop-index.output =
-    rw (c.loop-index.auto.output, c.decode_by_several-first.auto.output)
-    (group-room (length part) c.loop-index.index _ c.BYTES-bytes.ensures c.SYMBOLS-symbols.ensures
-    all inside) in
+    let room = group-room c.args.len c.loop-index.index (length c.args.output.now)
+    c.BYTES-bytes.ensures c.SYMBOLS-symbols.ensures c.requires.room c.loop-index-test.true in
     let group = IsGroup-same refl c.BYTES-bytes.ensures c.SYMBOLS-symbols.ensures
     g.G.GroupSize.is_group in
     run-kept base reads.holds.is_width g.G.GroupSize.WIDTH c.BYTES-bytes.result
-    c.SYMBOLS-symbols.result group reads.width_is part _ c.loop-index.output
-    c.decode_symbols.new.output c.loop-index.index _ (omega (arith, room))
+    c.SYMBOLS-symbols.result group reads.width_is (take c.args.len c.args.input.now) _
+    c.loop-index.output c.decode_symbols.new.output c.loop-index.index _ (omega arith)
     (c.loop-index.invariant.run base (rw c.ORDER-order.ensures reads))
 
 pub returns-then-not-decode_symbols-clause-longest :
@@ -154,17 +99,10 @@ returns-then-not-decode_symbols-clause-longest g c = λ base reads.
 pub returns-then-not-decode_symbols-clause-within :
     goal.returns-then-not-decode_symbols-clause-within
 returns-then-not-decode_symbols-clause-within g c =
-    let part = take c.args.len c.args.input.now in
-    let part_len : length part ≡ c.args.len =
-    length-take-le c.args.len c.args.input.now c.requires.few in
-    let inside : c.loop-index.index < length part / c.SYMBOLS-symbols.result =
-    subst (λ n. c.loop-index.index < n / c.SYMBOLS-symbols.result) (sym part_len)
-    c.loop-index-test.true in
     omega (
       arith,
-      group-before (length part) c.SYMBOLS-symbols.result c.loop-index.index inside,
+      group-before c.args.len c.SYMBOLS-symbols.result c.loop-index.index c.loop-index-test.true,
       ap (λ n. c.loop-index.index * n) c.SYMBOLS-symbols.ensures,
-      part_len,
     )
 
 pub loop-index-init : goal.loop-index-init
@@ -177,34 +115,23 @@ loop-index-init g c =
 pub loop-index-preserved : goal.loop-index-preserved
 loop-index-preserved g c =
     let part = take c.args.len c.args.input.now in
-    let part_len : length part ≡ c.args.len =
-    length-take-le c.args.len c.args.input.now c.requires.few in
-    let inside : c.loop-index.index < length part / c.SYMBOLS-symbols.result =
-    subst (λ n. c.loop-index.index < n / c.SYMBOLS-symbols.result) (sym part_len)
-    c.loop-index-test.true in
-    let all : length part / g.G.GroupSize.SYMBOLS * g.G.GroupSize.BYTES
-    ≤ length c.args.output.now =
-    subst (λ n. n / g.G.GroupSize.SYMBOLS * g.G.GroupSize.BYTES ≤ length c.args.output.now)
-    (sym part_len) c.requires.room in
-    let room : c.loop-index.index * c.BYTES-bytes.result + c.BYTES-bytes.result
-    ≤ length c.loop-index.output =
-    rw (c.loop-index.auto.output, c.decode_by_several-first.auto.output)
-    (group-room (length part) c.loop-index.index _ c.BYTES-bytes.ensures c.SYMBOLS-symbols.ensures
-    all inside) in
+    let within = group-within c.args.len c.args.input.now c.SYMBOLS-symbols.result
+    c.loop-index.index c.requires.few c.loop-index-test.true in
+    let room = group-room c.args.len c.loop-index.index (length c.args.output.now)
+    c.BYTES-bytes.ensures c.SYMBOLS-symbols.ensures c.requires.room c.loop-index-test.true in
     let group = IsGroup-same refl c.BYTES-bytes.ensures c.SYMBOLS-symbols.ensures
     g.G.GroupSize.is_group in
     let i = c.loop-index.index in
     let output = c.loop-index.output in
     let enc = c.BYTES-bytes.result in
     let dec = c.SYMBOLS-symbols.result in
-    let within : i * dec + dec ≤ length part = group-before (length part) dec i inside in
     let shown_len : length c.decode_symbols.new.output ≡ enc =
-    c.decode_symbols.auto.output ∙ length-part (i * enc) enc output room in
+    c.decode_symbols.auto.output ∙ length-part (i * enc) enc output (omega arith) in
     record {
       run = λ base reads.
           group-next base reads.holds.is_width g.G.GroupSize.WIDTH enc dec group
           reads.width_is c.args.values.now
-          part _ output c.decode_symbols.new.output i _ _ refl within (omega (arith, room))
+          part _ output c.decode_symbols.new.output i _ _ refl within (omega arith)
           shown_len reads.holds (c.loop-index.invariant.run base reads)
           (part_bytes c.args.input.now (λ j. (c.type_inv.input j).fits) c.args.len)
           (c.decode_symbols.ensures.symbols.0 c.if-not-decode_symbols.false)

@@ -197,3 +197,20 @@ overflow_mul-result g c =
     le-mul_of_pos_right (c.args.count * c.groups-groups.result)
     (omega (arith, some, c.SYMBOLS-symbols.ensures)) in
     record { fits = omega (arith, all, fewer) }
+
+pub overflow_mul-result-2 : goal.overflow_mul-result-2
+overflow_mul-result-2 g c =
+    let all : c.args.count * c.groups-groups.result * c.SYMBOLS-symbols.result
+    ≤ length c.args.input.now =
+    rw (c.groups-groups.ensures.number, c.SYMBOLS-symbols.ensures) c.requires.few in
+    record { fits = omega (arith, all) }
+
+pub returns-clause-within : goal.returns-clause-within
+returns-clause-within g c =
+    rw (c.groups-groups.ensures.number, c.SYMBOLS-symbols.ensures) (omega arith)
+
+pub slice_bounds-decode-count : goal.slice_bounds-decode-count
+slice_bounds-decode-count g c = omega arith
+
+pub slice_bounds-decode-count-in-loop-index : goal.slice_bounds-decode-count-in-loop-index
+slice_bounds-decode-count-in-loop-index g c = omega arith

@@ -221,3 +221,6 @@ encode_rest-requires-clause-limit g c =
       length-rest (c.saturating_sub.result / bytes * bytes) c.args.input.now,
       c.requires.limit,
     )
+
+pub encode-requires-clause-held : goal.encode-requires-clause-held
+encode-requires-clause-held g c = c.requires.held

@@ -80,3 +80,30 @@ returns-else-SYMBOLS-eq4-clause-run g c = λ values held base reads.
     ∙ ap (λ s. 16 / s * bytes) (sym group.has_symbols ∙ eight))
     (λ j. (c.type_inv.input j).fits) found.few (found.symbols values held)
     (found.words values held (rw reads.width_is at reads.holds.below)) c.store_two.ensures
+
+pub store_four-requires : goal.store_four-requires
+store_four-requires g c =
+    let group = g.G.GroupSize.is_group in
+    let four : g.G.GroupSize.SYMBOLS ≡ 4 =
+    omega (arith, c.SYMBOLS-3.ensures, c.if-SYMBOLS-eq4.true) in
+    record {
+      symbols = four;
+      exact = c.requires.exact
+          ∙ ap (λ s. 16 / s * g.G.GroupSize.BYTES) (sym group.has_symbols ∙ four);
+    }
+
+pub decode_eight-requires : goal.decode_eight-requires
+decode_eight-requires g c =
+    let group = g.G.GroupSize.is_group in
+    let two : g.G.GroupSize.SYMBOLS ≡ 2 = omega (arith, c.SYMBOLS.ensures, c.if-SYMBOLS-eq2.true) in
+    record {
+      symbols = c.requires.symbols ∙ ap (λ s. 8 * s) (sym two);
+      exact = c.requires.exact
+          ∙ ap (λ s. 16 / s * g.G.GroupSize.BYTES) (sym group.has_symbols ∙ two);
+    }
+
+pub returns-then-SYMBOLS-eq2 : goal.returns-then-SYMBOLS-eq2
+returns-then-SYMBOLS-eq2 g c = record {
+  few = omega (arith, c.decode_eight.ensures.few, c.SYMBOLS.ensures, c.if-SYMBOLS-eq2.true);
+  run = c.decode_eight.ensures.run;
+}
