@@ -36,3 +36,8 @@ returns-then-next-input g c =
 pub decode_after_group-requires-clause-at : goal.decode_after_group-requires-clause-at
 decode_after_group-requires-clause-at g c =
     reached g (goal.at.decode_after_group-requires-clause-at g c).After-progress_at-next
+
+pub is_padded_next-requires : goal.is_padded_next-requires
+is_padded_next-requires g c =
+    let at = reached g (goal.at.is_padded_next-requires g c).After-progress_at-next in
+    omega (arith, length-drop {A = ℕ}, at.front.within, at.so_far.within)
