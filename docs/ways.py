@@ -56,13 +56,13 @@ MIME = """
 """
 SHORT = MIME + """
     decode_ignoring: decode_rest decode_after_runs              # The text is short.
-    is_broken_next: front_symbols
-    decode_after_runs: decode_rest progress_at
+    is_broken_next: next_symbols
+    decode_after_runs: decode_rest progress_at is_padded_next decode_after_group
     decode_by_few: entry_of decode_whole_turns
 """
 LINES = MIME + """
-    decode_ignoring: of decode_run_after_ignored progress_at    # The text is long,
-    decode_ignoring: is_short_before decode_after_runs decode_more_runs
+    decode_ignoring: decode_one_run is_short_before             # The text is long,
+    decode_ignoring: decode_after_runs decode_more_runs
     is_short_run: is_broken_next                                # and so are its lines.
     decode_padded_group: starts_whole decode_group ignored_front
     words_of_groups: look_up_16 words_of_two count_below.1 look_up_64 words_of_eight

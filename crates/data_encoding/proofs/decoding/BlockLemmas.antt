@@ -13,7 +13,8 @@ use Rattle.data_encoding_meaning.specs.text.Grammar.{Positioned, bytes_in, group
 use Rattle.data_encoding_meaning.specs.decoding.Decoding.{HasDecodedTo, IsDecodedGroup, IsGathered, IsIgnoredFront, run_bytes}
 use Rattle.data_encoding_meaning.specs.decoding.Fault.{bytes_of_group, symbol_bytes}
 use Rattle.data_encoding_meaning.specs.decoding.Partial.{position_after}
-use Rattle.data_encoding_meaning.proofs.decoding.GatherLemmas.{more-here, none-here}
+use Rattle.data_encoding_meaning.proofs.decoding.GatherLemmas.{HasGathered, more-here, none-here}
+use Rattle.data_encoding_meaning.proofs.decoding.IgnoredFrontLemmas.{nothing-kept_in}
 use Rattle.data_encoding_meaning.proofs.decoding.ProgressLemmas.{IsPart, room-run, whole-before}
 use Rattle.data_encoding_meaning.proofs.digits.WidthLemmas.{group_symbols-pos}
 use Rattle.data_encoding_meaning.proofs.grammar.KeptLemmas.{kept-more, kept-split, kept_in-append, position_after-append}
@@ -695,4 +696,27 @@ ends-further {base} {part} {end} {left} {last} {span} within few ends less same 
       ends = λ some.
           rw (get_or-take end part (span - 1) 0 (omega (arith, some, inside)))
           at (ends.ends some);
+    }
+
+-- What was gathered before ignored bytes was gathered up to their end.
+pub gather-front : {base : Base} {part : List ℕ} {index count span : ℕ} {room : List ℕ} (skip : ℕ)
+    → HasGathered base part index count span room → index ≤ length part
+    → IsIgnoredFront base (drop index part) skip
+    → HasGathered base part (index + skip) count span room
+gather-front {base} {part} {index} skip so_far within front =
+    let next = take skip (drop index part) in
+    let width : index + skip - index ≡ skip = omega arith in
+    let inside : index + skip ≤ length part =
+    omega (arith, within, front.within, length-drop index part) in
+    let more = rw width at (kept-more base index part within (index + skip) (omega arith) inside) in
+    let same : kept base (take (index + skip) part) ≡ kept base (take index part) =
+    more
+    ∙ ap (λ l. kept base (take index part) ++ l) (nothing-kept_in base index next front.none)
+    ∙ append-nil (kept base (take index part)) in
+    record {
+      before = omega (arith, so_far.before);
+      same = so_far.same ∙ sym same;
+      bytes_are = rw same so_far.bytes_are;
+      count_is = rw same so_far.count_is;
+      ends = so_far.ends;
     }

@@ -1,6 +1,6 @@
 //! The next group of a text: the bytes that are not ignored.
 
-ghost use Rattle.std.specs.Prelude.{◌≡◌, ◌<◌, ◌≤◌, false, length, slice_index, take, IsTrue};
+ghost use Rattle.std.specs.Prelude.{◌≡◌, ◌-◌, ◌<◌, ◌≤◌, false, length, slice_index, take, drop, IsTrue};
 ghost use Rattle.data_encoding_meaning.specs.text.Base.{Base, ignores_some, is_ignored, meaning};
 ghost use Rattle.data_encoding_meaning.specs.decoding.Decoding.{IsGathered, IsIgnoredFront};
 ghost use Rattle.data_encoding_meaning.specs.decoding.Fault.{position_of};
@@ -105,19 +105,34 @@ fn gather<G: GroupSize>(values: &[u8; 256], rest: &[u8], room: &mut [u8; 8]) -> 
         → IsGathered base G.SYMBOLS rest.now (take result.count room.new) result.span }
 {
     let most = G::SYMBOLS;
-    let mut count = 0;
     let mut span = 0;
-    for index in 0..rest.len() {
-        if values[rest[index] as usize] != IGNORED {
-            room[count] = rest[index];
-            count += 1;
-            span = index + 1;
-            if count == most {
-                return Gathered { count, span };
-            }
+    for count in 0..most {
+        let at = next_kept(values, rest, span);
+        if at == rest.len() {
+            return Gathered { count, span };
         }
+        room[count] = rest[at];
+        span = at + 1;
     }
-    Gathered { count, span }
+    Gathered { count: most, span }
+}
+
+// Returns the position of the first byte from `start` on that is not ignored, or the length. Mostly
+// the first byte is none: so it is tested before the loop.
+#[inline(always)]
+fn next_kept(values: &[u8; 256], rest: &[u8], start: usize) -> usize
+    requires { start ≤ length rest.now }
+    ensures further { start ≤ result }
+    ensures within { result ≤ length rest.now }
+    ensures front { (base : Base) → HoldsValues base values.now
+        → IsIgnoredFront base (drop start rest.now) (result - start) }
+    ensures next { (base : Base) → HoldsValues base values.now → result < length rest.now
+        → is_ignored (meaning base (slice_index rest.now result)) ≡ false }
+{
+    if start < rest.len() && values[rest[start] as usize] != IGNORED {
+        return start;
+    }
+    start + ignored_front(values, &rest[start..])
 }
 
 /// Returns how many bytes are ignored before the first that is not.

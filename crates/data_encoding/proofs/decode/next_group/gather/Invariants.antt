@@ -1,11 +1,11 @@
-use Rattle.std.proofs.Common.{◌<◌}
+use Rattle.std.proofs.Common.{◌≤◌, length}
 use Rattle.data_encoding_meaning.specs.text.Base.{Base}
 use Rattle.data_encoding_kernel.specs.Tables.{HoldsValues}
 use Rattle.data_encoding_meaning.proofs.decoding.GatherLemmas.{HasGathered}
 use Rattle.data_encoding.proofs.decode.next_group.gather.Given as goal
 
-abbrev pub invariant-loop-index : goal.invariant-loop-index
-invariant-loop-index g l =
-    (l.count < l.most)
+abbrev pub invariant-loop-count : goal.invariant-loop-count
+invariant-loop-count g l =
+    (l.span ≤ length l.rest)
     × ((base : Base) → HoldsValues base l.values
-    → HasGathered base l.rest l.index l.count l.span l.room)
+    → HasGathered base l.rest l.span l.count l.span l.room)
