@@ -1,9 +1,36 @@
-use Rattle.std.proofs.Common.{◌+◌, ◌*◌, ◌≤◌, length, take, refl, sym, ◌∙◌, arith}
+use Rattle.std.proofs.Common.{◌+◌, ◌*◌, ◌≤◌, length, take, refl, sym, ◌∙◌, arith, zero-mul}
 use Rattle.std.proofs.lemmas.List.{take_rest}
+use Rattle.std.proofs.lemmas.Nat.{mul-le}
 use Rattle.data_encoding_meaning.specs.text.Text.{plain_text}
+use Rattle.data_encoding_meaning.proofs.text.PlainTextLemmas.{plain_text-nil}
 use Rattle.data_encoding_kernel.proofs.text.PlainGroupLemmas.{IsWhole-turn, written-next}
 use Rattle.data_encoding.proofs.text.LastTurnLemmas.{turn-before}
 use Rattle.data_encoding.proofs.encode.long_lines.encode_groups.Goals as goal
+
+pub overflow_mul-read_len : goal.overflow_mul-read_len
+overflow_mul-read_len g c =
+    omega (
+      arith,
+      mul-le 8 c.BYTES-read_len.result c.args.groups g.G.GroupSize.BYTES c.requires.fits.eight
+          (omega (arith, c.BYTES-read_len.ensures)),
+      c.requires.fits.loaded,
+    )
+
+pub overflow_mul-written_len : goal.overflow_mul-written_len
+overflow_mul-written_len g c =
+    omega (
+      arith,
+      mul-le 8 c.SYMBOLS-written_len.result c.args.groups g.G.GroupSize.SYMBOLS
+          c.requires.fits.eight (omega (arith, c.SYMBOLS-written_len.ensures)),
+      c.requires.fits.exact,
+    )
+
+pub loop-index-init : goal.loop-index-init
+loop-index-init g c = record {
+  written = λ base writes. simp zero-mul
+      (sym (plain_text-nil base
+      (omega (arith, writes.width_is, g.G.GroupSize.is_group.is_width.some))));
+}
 
 pub slice_bounds-encode_eight-end-in-loop-index : goal.slice_bounds-encode_eight-end-in-loop-index
 slice_bounds-encode_eight-end-in-loop-index g c =

@@ -1,10 +1,14 @@
-use Rattle.std.proofs.Common.{◌≡◌, ◌+◌, ◌-◌, ◌*◌, ◌/◌, ◌≤◌, length, take, sym, ap, ◌∙◌, arith}
+use Rattle.std.proofs.Common.{◌≡◌, ℕ, ◌+◌, ◌-◌, ◌*◌, ◌/◌, ◌≤◌, length, take, sym, ap, ◌∙◌, arith}
 use Rattle.std.proofs.lemmas.List.{take_all}
-use Rattle.std.proofs.lemmas.Nat.{div-add-mod'}
+use Rattle.std.proofs.lemmas.Nat.{div-add-mod', mul-le}
 use Rattle.data_encoding_meaning.specs.text.Text.{plain_text}
 use Rattle.data_encoding_meaning.proofs.lists.PartLemmas.{length-rest}
 use Rattle.data_encoding.proofs.text.LastTurnLemmas.{last-turn}
 use Rattle.data_encoding.proofs.encode.long_lines.encode_last_groups.Goals as goal
+
+-- the last n groups begin within all of them
+begins : (groups n : ℕ) {size known : ℕ} → size ≡ known → (groups - n) * size ≤ groups * known
+begins groups n {size} {known} same = mul-le (groups - n) size groups known (omega arith) (omega arith)
 
 pub returns-then-left-eq0 : goal.returns-then-left-eq0
 returns-then-left-eq0 g c base writes =
@@ -62,3 +66,91 @@ returns-in_default g c base writes =
     c.requires.fits.eight (omega arith)
     (omega (arith, c.requires.fits.loaded)) (c.requires.written base writes)
     (c.encode_eight.ensures base writes)
+
+pub overflow_mul-four : goal.overflow_mul-four
+overflow_mul-four g c =
+    omega (arith, begins c.args.groups 4 c.BYTES.ensures, c.requires.fits.loaded)
+
+pub slice_bounds-encode_four_octal-count : goal.slice_bounds-encode_four_octal-count
+slice_bounds-encode_four_octal-count g c =
+    omega (arith, begins c.args.groups 4 c.BYTES.ensures, c.requires.fits.loaded)
+
+pub slice_bounds-encode_four_octal-start : goal.slice_bounds-encode_four_octal-start
+slice_bounds-encode_four_octal-start g c = slice_bounds-encode_four_octal-count g c
+
+pub overflow_mul-four-in-3 : goal.overflow_mul-four-in-3
+overflow_mul-four-in-3 g c =
+    omega (arith, begins c.args.groups 4 c.SYMBOLS.ensures, c.requires.fits.exact)
+
+pub slice_bounds-encode_four_octal-count-in-3 : goal.slice_bounds-encode_four_octal-count-in-3
+slice_bounds-encode_four_octal-count-in-3 g c =
+    omega (arith, begins c.args.groups 4 c.SYMBOLS.ensures, c.requires.fits.exact)
+
+pub slice_bounds-encode_four_octal-start-in-3 : goal.slice_bounds-encode_four_octal-start-in-3
+slice_bounds-encode_four_octal-start-in-3 g c = slice_bounds-encode_four_octal-count-in-3 g c
+
+pub overflow_mul-two : goal.overflow_mul-two
+overflow_mul-two g c =
+    omega (arith, begins c.args.groups 2 c.BYTES-in-5.ensures, c.requires.fits.loaded)
+
+pub slice_bounds-encode_two-count : goal.slice_bounds-encode_two-count
+slice_bounds-encode_two-count g c =
+    omega (arith, begins c.args.groups 2 c.BYTES-in-5.ensures, c.requires.fits.loaded)
+
+pub slice_bounds-encode_two-start : goal.slice_bounds-encode_two-start
+slice_bounds-encode_two-start g c = slice_bounds-encode_two-count g c
+
+pub overflow_mul-two-in-5 : goal.overflow_mul-two-in-5
+overflow_mul-two-in-5 g c =
+    omega (arith, begins c.args.groups 2 c.SYMBOLS-in-5.ensures, c.requires.fits.exact)
+
+pub slice_bounds-encode_two-count-in-5 : goal.slice_bounds-encode_two-count-in-5
+slice_bounds-encode_two-count-in-5 g c =
+    omega (arith, begins c.args.groups 2 c.SYMBOLS-in-5.ensures, c.requires.fits.exact)
+
+pub slice_bounds-encode_two-start-in-5 : goal.slice_bounds-encode_two-start-in-5
+slice_bounds-encode_two-start-in-5 g c = slice_bounds-encode_two-count-in-5 g c
+
+pub overflow_mul-four-in-6 : goal.overflow_mul-four-in-6
+overflow_mul-four-in-6 g c =
+    omega (arith, begins c.args.groups 4 c.BYTES-in-6.ensures, c.requires.fits.loaded)
+
+pub slice_bounds-encode_four-count : goal.slice_bounds-encode_four-count
+slice_bounds-encode_four-count g c =
+    omega (arith, begins c.args.groups 4 c.BYTES-in-6.ensures, c.requires.fits.loaded)
+
+pub slice_bounds-encode_four-start : goal.slice_bounds-encode_four-start
+slice_bounds-encode_four-start g c = slice_bounds-encode_four-count g c
+
+pub overflow_mul-four-in-6-2 : goal.overflow_mul-four-in-6-2
+overflow_mul-four-in-6-2 g c =
+    omega (arith, begins c.args.groups 4 c.SYMBOLS-in-6.ensures, c.requires.fits.exact)
+
+pub slice_bounds-encode_four-count-in-6 : goal.slice_bounds-encode_four-count-in-6
+slice_bounds-encode_four-count-in-6 g c =
+    omega (arith, begins c.args.groups 4 c.SYMBOLS-in-6.ensures, c.requires.fits.exact)
+
+pub slice_bounds-encode_four-start-in-6 : goal.slice_bounds-encode_four-start-in-6
+slice_bounds-encode_four-start-in-6 g c = slice_bounds-encode_four-count-in-6 g c
+
+pub overflow_mul-eight : goal.overflow_mul-eight
+overflow_mul-eight g c =
+    omega (arith, begins c.args.groups 8 c.BYTES-in_default.ensures, c.requires.fits.loaded)
+
+pub slice_bounds-encode_eight-count : goal.slice_bounds-encode_eight-count
+slice_bounds-encode_eight-count g c =
+    omega (arith, begins c.args.groups 8 c.BYTES-in_default.ensures, c.requires.fits.loaded)
+
+pub slice_bounds-encode_eight-start : goal.slice_bounds-encode_eight-start
+slice_bounds-encode_eight-start g c = slice_bounds-encode_eight-count g c
+
+pub overflow_mul-eight-in_default : goal.overflow_mul-eight-in_default
+overflow_mul-eight-in_default g c =
+    omega (arith, begins c.args.groups 8 c.SYMBOLS-in_default.ensures, c.requires.fits.exact)
+
+pub slice_bounds-encode_eight-count-in_default : goal.slice_bounds-encode_eight-count-in_default
+slice_bounds-encode_eight-count-in_default g c =
+    omega (arith, begins c.args.groups 8 c.SYMBOLS-in_default.ensures, c.requires.fits.exact)
+
+pub slice_bounds-encode_eight-start-in_default : goal.slice_bounds-encode_eight-start-in_default
+slice_bounds-encode_eight-start-in_default g c = slice_bounds-encode_eight-count-in_default g c
