@@ -9,7 +9,7 @@ use Rattle.data_encoding_meaning.proofs.lists.WriteLemmas.{put_mid-end}
 use Rattle.data_encoding.proofs.encoding.EncodingRef.encode_both.Goals as goal
 
 -- two texts, of which the first is written to the front of the output
-module _ (shown first second output : List ℕ) (len : ℕ) (is : shown ≡ first)
+module _ {shown first : List ℕ} (second output : List ℕ) {len : ℕ} (is : shown ≡ first)
     (sized : len ≡ length first) (exact : length output ≡ len + length second) where
   abbrev half : List ℕ
   half = shown ++ drop len output
@@ -38,40 +38,38 @@ module _ (shown first second output : List ℕ) (len : ℕ) (is : shown ≡ firs
       alone none ∙ is ∙ sym (append-nil first)
       ∙ sym (ap (λ l. first ++ l) (nil_from_length second (omega (arith, length-half, none))))
 
-pub encode_mut-requires-then-len-output-clause-exact : goal.encode_mut-requires-then-len-output-clause-exact
+pub encode_mut-requires-then-len-output-clause-exact :
+    goal.encode_mut-requires-then-len-output-clause-exact
 encode_mut-requires-then-len-output-clause-exact c =
-    room c.encode_mut.new.output (text_of c.args.self.now c.args.first.now)
-    (text_of c.args.self.now c.args.second.now) c.args.output.now c.args.len c.encode_mut.ensures.text
-    c.requires.len c.requires.exact
+    room (text_of c.args.self.now c.args.second.now) c.args.output.now
+    c.encode_mut.ensures.text c.requires.len c.requires.exact
 
 pub returns-then-len-output-clause-text : goal.returns-then-len-output-clause-text
 returns-then-len-output-clause-text c =
-    both c.encode_mut.new.output (text_of c.args.self.now c.args.first.now)
-    (text_of c.args.self.now c.args.second.now) c.args.output.now c.args.len c.encode_mut.ensures.text
-    c.requires.len c.requires.exact c.encode_mut-then-len-output.new.output
+    both (text_of c.args.self.now c.args.second.now) c.args.output.now
+    c.encode_mut.ensures.text c.requires.len c.requires.exact
+    c.encode_mut-then-len-output.new.output
     ∙ (λ k. c.encode_mut.ensures.text k ++ c.encode_mut-then-len-output.ensures.text k)
 
 pub returns-then-len-output-clause-ascii : goal.returns-then-len-output-clause-ascii
 returns-then-len-output-clause-ascii c =
     subst (All (λ byte. byte < 128))
     (sym
-    (both c.encode_mut.new.output (text_of c.args.self.now c.args.first.now)
-    (text_of c.args.self.now c.args.second.now) c.args.output.now c.args.len c.encode_mut.ensures.text
-    c.requires.len c.requires.exact c.encode_mut-then-len-output.new.output))
+    (both (text_of c.args.self.now c.args.second.now) c.args.output.now
+    c.encode_mut.ensures.text c.requires.len c.requires.exact
+    c.encode_mut-then-len-output.new.output))
     (All-append (λ byte. byte < 128) c.encode_mut.new.output c.encode_mut-then-len-output.new.output
     c.encode_mut.ensures.ascii c.encode_mut-then-len-output.ensures.ascii)
 
 pub returns-else-len-output-clause-text : goal.returns-else-len-output-clause-text
 returns-else-len-output-clause-text c =
-    alone-text c.encode_mut.new.output (text_of c.args.self.now c.args.first.now)
-    (text_of c.args.self.now c.args.second.now) c.args.output.now c.args.len c.encode_mut.ensures.text
-    c.requires.len c.requires.exact c.if-len-output.false
+    alone-text (text_of c.args.self.now c.args.second.now) c.args.output.now
+    c.encode_mut.ensures.text c.requires.len c.requires.exact c.if-len-output.false
 
 pub returns-else-len-output-clause-ascii : goal.returns-else-len-output-clause-ascii
 returns-else-len-output-clause-ascii c =
     subst (All (λ byte. byte < 128))
     (sym
-    (alone c.encode_mut.new.output (text_of c.args.self.now c.args.first.now)
-    (text_of c.args.self.now c.args.second.now) c.args.output.now c.args.len c.encode_mut.ensures.text
-    c.requires.len c.requires.exact c.if-len-output.false))
+    (alone (text_of c.args.self.now c.args.second.now) c.args.output.now
+    c.encode_mut.ensures.text c.requires.len c.requires.exact c.if-len-output.false))
     c.encode_mut.ensures.ascii
