@@ -1,4 +1,4 @@
-use Rattle.std.proofs.Common.{◌++◌, length, refl, ap, ◌∙◌, subst, append-nil}
+use Rattle.std.proofs.Common.{◌++◌, length, refl, ap, ◌∙◌, subst, sym, arith, append-nil}
 use Rattle.std.proofs.lemmas.List.{nil_from_length}
 use Rattle.std.specs.String.{string_bytes}
 use Rattle.data_encoding.specs.KeptData.{held_data}
@@ -15,3 +15,22 @@ returns-then-due-eq0-clause-pieces g c = λ before bytes has.
     subst
     (λ t. HasEncoded c.args.self.now before (bytes ++ piece) t (held_data c.read_piece.new.kept))
     (ap (λ t. old ++ t) none ∙ append-nil old) (c.read_piece.ensures.encodes before bytes old has)
+
+pub returns-in_err-reserve-clause-no_block : goal.returns-in_err-reserve-clause-no_block
+returns-in_err-reserve-clause-no_block g c =
+    λ few. absurd (omega (
+      arith,
+      c.due_len-due.ensures.none (omega (arith, few, c.requires.block)),
+      c.if-due-eq0.false,
+    ))
+
+pub returns-clause-pieces : goal.returns-clause-pieces
+returns-clause-pieces g c =
+    λ before bytes has.
+    c.append_piece.ensures.encodes before bytes
+    (subst (λ t. HasEncoded c.args.self.now before bytes t (held_data c.args.kept.now))
+    (sym c.reserve.ensures.bytes) has)
+
+pub append_piece-requires-clause-room : goal.append_piece-requires-clause-room
+append_piece-requires-clause-room g c =
+    omega (arith, c.reserve.ensures.len, c.in_ok-reserve.ensures.ok)

@@ -88,3 +88,27 @@ returns g c =
     piece-last c.loop-index.invariant
     (omega (arith, c.loop-index-test.false, c.loop-index.auto.index-end)
     ∙ c.div_ceil-index-end.ensures)
+
+pub overflow_add-line_len : goal.overflow_add-line_len
+overflow_add-line_len g c =
+    omega (arith, line-few c.self.invariant c.self.view_is c.requires.lines refl)
+
+pub overflow_mul-read : goal.overflow_mul-read
+overflow_mul-read g c =
+    omega (
+      arith,
+      before c.loop-index.invariant c.div_ceil-index-end.ensures c.loop-index-test.true,
+      c.requires.fits.limit,
+    )
+
+pub slice_bounds-encode_line-count : goal.slice_bounds-encode_line-count
+slice_bounds-encode_line-count g c =
+    omega (
+      arith,
+      c.min-read_end.ensures,
+      before c.loop-index.invariant c.div_ceil-index-end.ensures c.loop-index-test.true,
+    )
+
+pub slice_bounds-encode_line-start : goal.slice_bounds-encode_line-start
+slice_bounds-encode_line-start g c =
+    slice_bounds-encode_line-count g c

@@ -146,3 +146,50 @@ returns g c =
     c.args.input.now c.loop-index.output c.encode_last_lines.new.output count
     (rw all at c.loop-index.invariant.written)
     (lines-before _ _ _ size c.saturating_sub.ensures) c.encode_last_lines.ensures
+
+pub overflow_mul-BYTES : goal.overflow_mul-BYTES
+overflow_mul-BYTES g c =
+    omega (
+      arith,
+      c.BYTES.ensures,
+      c.requires.long.long,
+      c.encode_align-line_bytes.ensures.value,
+      c.encode_align-line_bytes.ensures.most,
+    )
+
+pub nonzero_div-count : goal.nonzero_div-count
+nonzero_div-count g c =
+    c.encode_align-line_bytes.ensures.some
+
+pub overflow_mul-count : goal.overflow_mul-count
+overflow_mul-count g c =
+    omega (arith, lines-before _ _ _ c.encode_align-line_bytes.result c.saturating_sub.ensures)
+
+pub slice_bounds-encode_last_lines-count : goal.slice_bounds-encode_last_lines-count
+slice_bounds-encode_last_lines-count g c =
+    lines-before _ _ _ c.encode_align-line_bytes.result c.saturating_sub.ensures
+
+pub overflow_mul-read : goal.overflow_mul-read
+overflow_mul-read g c =
+    let before = line-before _ _ _ _ c.loop-index.index c.saturating_sub.ensures
+    c.encode_align-line_bytes.ensures.some c.loop-index-test.true in
+    omega (arith, before)
+
+pub slice_bounds-encode_long_line-count : goal.slice_bounds-encode_long_line-count
+slice_bounds-encode_long_line-count g c =
+    let before = line-before _ _ _ _ c.loop-index.index c.saturating_sub.ensures
+    c.encode_align-line_bytes.ensures.some c.loop-index-test.true in
+    omega (arith, before)
+
+pub encode_long_line-requires-clause-loaded : goal.encode_long_line-requires-clause-loaded
+encode_long_line-requires-clause-loaded g c =
+    let size = c.encode_align-line_bytes.result in
+    let before = line-before _ _ _ _ c.loop-index.index c.saturating_sub.ensures
+    c.encode_align-line_bytes.ensures.some c.loop-index-test.true in
+    omega (
+      arith,
+      before,
+      length-rest (c.loop-index.index * size) c.args.input.now,
+      c.BYTES.ensures,
+      c.encode_align-line_bytes.ensures.value,
+    )

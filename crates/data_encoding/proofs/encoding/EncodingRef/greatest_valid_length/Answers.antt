@@ -1,4 +1,5 @@
-use Rattle.std.proofs.Common.{◌≡◌, ◌*◌, ◌/◌, true, false, sym, ap, ◌∙◌, subst}
+use Rattle.std.proofs.Common.{◌≡◌, ◌*◌, ◌/◌, ◌%◌, true, false, sym, ap, ◌∙◌, subst, arith, div-mul-le_self, le_of_mul-le-mul_right, mul_comm}
+use Rattle.std.proofs.lemmas.Nat.{mul-le}
 use Rattle.data_encoding.specs.Encoding.{base_of_tables}
 use Rattle.data_encoding_meaning.specs.text.Lengths.{greatest_valid_length}
 use Rattle.data_encoding.specs.PlainTables.{plain_tables}
@@ -44,3 +45,28 @@ returns-clause-less c = λ invalid.
     let seen = c.args.self.now in
     let width = IsWidth-seen _ c.self.invariant seen c.self.view_is in
     rw (returns-clause-value c) (greatest-less seen width c.args.len invalid)
+
+pub returns-clause-most : goal.returns-clause-most
+returns-clause-most c =
+    let seen = c.args.self.now in
+    let width = IsWidth-seen _ c.self.invariant seen c.self.view_is in
+    rw (returns-clause-value c) (greatest-least seen width c.args.len)
+
+pub overflow_mul-result : goal.overflow_mul-result
+overflow_mul-result c =
+    omega (arith, div-mul-le_self c.args.len c.group_symbols-symbols.result)
+
+pub overflow_mul-result-2 : goal.overflow_mul-result-2
+overflow_mul-result-2 c =
+    omega (
+      arith,
+      mul-le c.self.inside.fields.now.width c.args.len 6 2305843009213693951
+          c.self.invariant.is_width.few c.requires.limit,
+    )
+
+pub overflow_sub-result : goal.overflow_sub-result
+overflow_sub-result c =
+    let width = c.self.inside.fields.now.width in
+    le_of_mul-le-mul_right {k = width}
+    (omega (arith, div-mul-le_self (width * c.args.len % 8) width, mul_comm width c.args.len))
+    c.self.invariant.is_width.some

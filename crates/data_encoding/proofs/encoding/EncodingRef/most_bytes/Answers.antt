@@ -1,4 +1,6 @@
-use Rattle.std.proofs.Common.{◌≡◌, ◌*◌, true, false, sym, ◌∙◌, subst}
+use Rattle.std.proofs.Common.{◌≡◌, ◌*◌, true, false, sym, ◌∙◌, subst, arith, div-le_self}
+use Rattle.std.proofs.lemmas.Nat.{mul-le}
+use Rattle.data_encoding_meaning.specs.text.Base.{group_symbols}
 use Rattle.data_encoding.specs.Encoding.{base_of_tables}
 use Rattle.data_encoding_meaning.specs.text.Lengths.{most_bytes}
 use Rattle.data_encoding.specs.PlainTables.{plain_tables}
@@ -23,3 +25,29 @@ returns c =
     rw (← c.self.view_is)
     (sym (most_bytes-by seen c.args.len false
     (sym c.is_padded.ensures ∙ c.if-is_padded.false)))
+
+pub whole_groups-requires : goal.whole_groups-requires
+whole_groups-requires c =
+    c.self.invariant.is_width
+
+pub overflow_mul-result : goal.overflow_mul-result
+overflow_mul-result c =
+    omega (
+      arith,
+      mul-le c.whole_groups.result c.group_bytes.result 2305843009213693951 5
+          (omega (
+            arith,
+            c.whole_groups.ensures,
+            div-le_self c.args.len (group_symbols c.self.inside.fields.now.width),
+            c.requires.limit,
+          ))
+          c.group_bytes.ensures.few,
+    )
+
+pub overflow_mul-result-2 : goal.overflow_mul-result-2
+overflow_mul-result-2 c =
+    omega (
+      arith,
+      mul-le c.self.inside.fields.now.width c.args.len 6 2305843009213693951
+          c.self.invariant.is_width.few c.requires.limit,
+    )

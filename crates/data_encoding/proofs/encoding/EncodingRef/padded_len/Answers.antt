@@ -1,4 +1,5 @@
-use Rattle.std.proofs.Common.{◌*◌, sym, ap, ◌∙◌}
+use Rattle.std.proofs.Common.{◌*◌, sym, ap, ◌∙◌, arith}
+use Rattle.std.proofs.Math.Nat.{div-eq_of_lt}
 use Rattle.data_encoding_meaning.specs.text.Base.{Base, group_bytes, group_symbols, is_padded}
 use Rattle.data_encoding_meaning.proofs.lists.RunLemmas.{run_count}
 use Rattle.data_encoding.proofs.tables.TableLemmas.{IsWidth-seen}
@@ -25,3 +26,21 @@ returns-then-is_padded-clause-length c bytes h =
     ∙ ap (λ (b : Base). run_count (group_bytes b.width) c.args.len * group_symbols b.width)
     (sym c.self.view_is)
     ∙ sym c.filled_count.ensures.value
+
+pub filled_count-requires-clause-width : goal.filled_count-requires-clause-width
+filled_count-requires-clause-width c =
+    c.self.invariant.is_width
+
+pub symbol_count-requires-clause-width : goal.symbol_count-requires-clause-width
+symbol_count-requires-clause-width c =
+    c.self.invariant.is_width
+
+pub returns-then-is_padded-clause-empty : goal.returns-then-is_padded-clause-empty
+returns-then-is_padded-clause-empty c =
+    c.filled_count.ensures.empty
+
+pub returns-clause-empty : goal.returns-clause-empty
+returns-clause-empty c =
+    λ none.
+    c.symbol_count.ensures
+    ∙ div-eq_of_lt (omega (arith, none, c.self.invariant.is_width.some))

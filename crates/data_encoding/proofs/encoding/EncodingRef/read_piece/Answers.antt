@@ -1,4 +1,5 @@
-use Rattle.std.proofs.Common.{◌≡◌, ◌-◌, ◌%◌, ◌+◌, ◌++◌, ℕ, List, length, take, drop, refl, sym, ap, ◌∙◌, subst, arith, length-append, length-take-le}
+use Rattle.std.proofs.Common.{◌≡◌, ◌-◌, ◌%◌, ◌+◌, ◌<◌, ◌++◌, ℕ, List, [], length, take, drop, refl, sym, ap, ◌∙◌, subst, arith, rules, length-append, length-take-le}
+use Rattle.std.proofs.lemmas.List.{nil_from_length}
 use Rattle.data_encoding.specs.KeptData.{held_data, IsDue}
 use Rattle.data_encoding.specs.declared.kept_data.DueLen.{DueLen}
 use Rattle.data_encoding.specs.declared.kept_data.KeptData.{KeptData}
@@ -9,20 +10,39 @@ use Rattle.data_encoding_meaning.specs.text.Text.{text_of}
 use Rattle.data_encoding_meaning.proofs.judgement.RuleLemmas.{IsRuled-built}
 use Rattle.data_encoding.proofs.text.DataPieceLemmas.{reads-cut, reads-none, Reads}
 use Rattle.data_encoding.proofs.encoding.EncodingRef.read_piece.Goals as goal
-use Rattle.data_encoding.proofs.encoding.EncodingRef.read_piece.Goals.{After-hold-2}
+use Rattle.data_encoding.proofs.encoding.EncodingRef.read_piece.Goals.{After-hold, After-hold-2}
 
-pub returns-then-piece-missing-clause-held : goal.returns-then-piece-missing-clause-held
-returns-then-piece-missing-clause-held c =
-    let base = c.args.self.now in
+-- a piece that completes no block
+fewer : (c : After-hold)
+    → c.args.kept.now.count + length c.args.piece.now < alignment c.args.self.now
+fewer c = omega (arith, c.if-piece-missing.true, c.requires.short, c.requires.block)
+
+unwritten : (c : After-hold) → c.args.output.now ≡ []
+unwritten c =
+    nil_from_length c.args.output.now (c.requires.exact ∙ c.requires.due.none (fewer c))
+
+keeps : (c : After-hold) → Reads c.args.self.now (held_data c.args.kept.now) c.args.piece.now []
+    (held_data c.args.kept.now ++ c.args.piece.now)
+keeps c =
     let kept = c.args.kept.now in
     let specified = c.requires.due.base in
     let size : length (held_data kept) ≡ kept.count =
     length-take-le kept.count kept.bytes (omega (arith, c.requires.short, c.requires.most)) in
-    let none =
-    reads-none base (IsRuled-built specified.fields base specified.is_built) (held_data kept)
-    c.args.piece.now
-    (omega (arith, c.if-piece-missing.true, size, c.requires.short, c.requires.block)) in
-    c.hold.ensures.held ∙ sym none.left_is
+    reads-none c.args.self.now (IsRuled-built specified.fields c.args.self.now specified.is_built)
+    (held_data kept) c.args.piece.now (omega (arith, fewer c, size))
+
+pub returns-then-piece-missing-clause-held : goal.returns-then-piece-missing-clause-held
+returns-then-piece-missing-clause-held c = c.hold.ensures.held ∙ sym (keeps c).left_is
+
+pub returns-then-piece-missing-clause-text : goal.returns-then-piece-missing-clause-text
+returns-then-piece-missing-clause-text c = unwritten c ∙ sym (keeps c).text_is
+
+pub returns-then-piece-missing-clause-ascii : goal.returns-then-piece-missing-clause-ascii
+returns-then-piece-missing-clause-ascii c = rw (unwritten c) (search rules)
+
+pub returns-then-piece-missing-clause-encodes : goal.returns-then-piece-missing-clause-encodes
+returns-then-piece-missing-clause-encodes c = λ before bytes written has.
+    rw (unwritten c, c.hold.ensures.held) ((keeps c).encodes before bytes written has)
 
 -- the block that is filled
 abbrev filled : After-hold-2 → List ℕ
