@@ -1,0 +1,10 @@
+use Rattle.std.proofs.Common.{arith}
+use Rattle.data_encoding.proofs.decoding.OutputLemmas.{exact-same}
+use Rattle.data_encoding.proofs.decoding.StepLemmas.{decoded-all, under_way}
+use Rattle.data_encoding.proofs.encoding.EncodingRef.decode_group_and_rest.Goals as goal
+
+pub returns-in-More : goal.returns-in-More
+returns-in-More g c =
+    let now = under_way g.G.GroupSize.is_group c.requires.coded.width_is
+    (exact-same c.requires.at.exact c.decode_next.auto.output) c.in-More.ensures.1 in
+    decoded-all now (omega (arith, c.if-stop-input.true))
