@@ -1,7 +1,7 @@
 //! Decoding a text: its bit order, its look-up and its width are chosen once.
 
 ghost use Rattle.std.specs.Prelude.{◌≡◌, false};
-ghost use Rattle.data_encoding_meaning.specs.text.Base.{IsWidth, ignores_some};
+ghost use Rattle.data_encoding_meaning.specs.text.Base.{IsWidth};
 ghost use Rattle.data_encoding_meaning.specs.decoding.Decoding.{HasDecodedTo};
 ghost use Rattle.data_encoding.specs.Progress.{GoesOn, HasExactOutput, HasReached, IsCodedIn};
 ghost use Rattle.data_encoding.specs.Steps.{HasEnded};
@@ -98,25 +98,7 @@ impl EncodingRef<'_> {
             look_up: &look_up,
         };
         let at = self.decode_run_after_ignored::<L, O, G>(entries, START, input, output);
-        self.decode_group_and_rest::<L, O, G>(false, at, input, output, stop)
-    }
-
-    // The group after what was read, which may be the last, and the remaining steps.
-    #[inline(always)]
-    fn decode_group_and_rest<L: LookUp, O: ConstantOrder, G: GroupSize>(
-        &self,
-        ignores: bool,
-        at: Progress,
-        input: &[u8],
-        output: &mut [u8],
-        stop: &mut Stop,
-    ) -> bool
-        requires coded { IsCodedIn self.now G.WIDTH O.ORDER }
-        requires ignores { ignores ≡ ignores_some self.now }
-        requires at { HasReached self.now input.now at output.old }
-        ensures { HasEnded self.now input.now output.new stop.new result }
-    {
-        match self.decode_next::<O, G>(ignores, at, input, output, stop) {
+        match self.decode_next::<O, G>(false, at, input, output, stop) {
             Step::More if stop.read == input.len() => true,
             Step::More => self.decode_rest::<L, O, G>(input, output, stop),
             Step::Ended => true,
@@ -142,8 +124,7 @@ impl EncodingRef<'_> {
             stop.written = 0;
             return self.decode_rest::<L, O, G>(input, output, stop);
         }
-        let start = progress_at(&self.fields.values.entries, 0, 0, input);
-        let at = self.decode_one_run::<L, O, G>(start, input, output);
+        let at = self.decode_one_run::<L, O, G>(START, input, output);
         stop.written = at.written;
         if at.read + at.ignored == input.len() {
             return true;
@@ -245,8 +226,8 @@ impl EncodingRef<'_> {
         }
     }
 
-    // What follows the first group that was decoded by itself: a run, which may be the last, a group,
-    // and the remaining steps.
+    // What follows the first group that was decoded by itself: a run, which may be the last, and the
+    // remaining steps.
     // Not inlined, for the same reason.
     #[inline(never)]
     fn decode_after_group<L: LookUp, O: ConstantOrder, G: GroupSize>(
@@ -261,7 +242,12 @@ impl EncodingRef<'_> {
         ensures { HasEnded self.now input.now output.new stop.new result }
     {
         let after = self.decode_one_run::<L, O, G>(at, input, output);
-        self.decode_group_and_rest::<L, O, G>(self.fields.ignores, after, input, output, stop)
+        stop.read = after.read;
+        stop.written = after.written;
+        if after.read + after.ignored == input.len() {
+            return true;
+        }
+        self.decode_rest::<L, O, G>(input, output, stop)
     }
 
     // The remaining steps: further padded texts; or all, if bytes are ignored.

@@ -1,9 +1,9 @@
 use Rattle.std.proofs.Common.{ℕ, sym, subst, length-drop, arith}
 use Rattle.data_encoding_meaning.specs.text.Base.{IsWidth}
+use Rattle.data_encoding_meaning.proofs.decoding.IgnoredFrontLemmas.{no_front}
 use Rattle.data_encoding_meaning.proofs.decoding.ProgressLemmas.{begin}
 use Rattle.data_encoding_meaning.proofs.digits.SizeLemmas.{bytes-are}
 use Rattle.data_encoding.proofs.decoding.StepLemmas.{decoded-after, under_way}
-use Rattle.data_encoding.proofs.tables.TableLemmas.{Reads-seen}
 use Rattle.data_encoding.proofs.encoding.EncodingRef.decode_ignoring.Goals as goal
 
 pub overflow_mul-BYTES : goal.overflow_mul-BYTES
@@ -11,16 +11,12 @@ overflow_mul-BYTES g c =
     record { fits = omega (arith, bytes-are g.G.GroupSize.is_group, c.BYTES.ensures) }
 
 pub decode_one_run-at-requires-clause-at : goal.decode_one_run-at-requires-clause-at
-decode_one_run-at-requires-clause-at g c =
-    let reads = Reads-seen _ c.self.invariant c.args.self.now c.self.view_is g.G.GroupSize.WIDTH
-    g.O.ConstantOrder.ORDER c.requires.coded.width_is c.requires.coded.order_is in
-    let start = c.progress_at-start.ensures in
-    record {
-      exact = c.requires.exact;
-      so_far = rw (start.read, start.written) (begin c.args.self.now reads.holds.is_width
-          c.args.input.now c.args.output.now);
-      front = rw start.read (start.front c.args.self.now reads.holds);
-    }
+decode_one_run-at-requires-clause-at g c = record {
+  exact = c.requires.exact;
+  so_far = begin c.args.self.now (subst IsWidth (sym c.requires.coded.width_is)
+      g.G.GroupSize.is_group.is_width) c.args.input.now c.args.output.now;
+  front = no_front c.args.self.now c.args.input.now;
+}
 
 pub overflow_add-at : goal.overflow_add-at
 overflow_add-at g c =

@@ -1,6 +1,8 @@
-use Rattle.std.proofs.Common.{sym, subst}
+use Rattle.std.proofs.Common.{sym, ◌∙◌, subst, arith}
 use Rattle.data_encoding_meaning.specs.text.Base.{IsWidth}
 use Rattle.data_encoding_meaning.proofs.decoding.IgnoredFrontLemmas.{no_front}
+use Rattle.data_encoding.proofs.decoding.OutputLemmas.{exact-same}
+use Rattle.data_encoding.proofs.decoding.StepLemmas.{decoded-all, under_way}
 use Rattle.data_encoding_meaning.proofs.decoding.ProgressLemmas.{begin}
 use Rattle.data_encoding.proofs.tables.TableLemmas.{Reads-seen}
 use Rattle.data_encoding.proofs.encoding.EncodingRef.decode_text.Goals as goal
@@ -22,3 +24,10 @@ decode_run_after_ignored-at-requires-clause-at g c = record {
       g.G.GroupSize.is_group.is_width) c.args.input.now c.args.output.now;
   front = no_front c.args.self.now c.args.input.now;
 }
+
+pub returns-in-More : goal.returns-in-More
+returns-in-More g c =
+    let len = c.decode_next.auto.output ∙ c.decode_run_after_ignored-at.auto.output in
+    let now = under_way g.G.GroupSize.is_group c.requires.coded.width_is
+    (exact-same c.requires.exact len) c.in-More.ensures.1 in
+    decoded-all now (omega (arith, c.if-stop-input.true))
