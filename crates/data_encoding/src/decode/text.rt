@@ -8,9 +8,8 @@ ghost use Rattle.data_encoding.specs.Steps.{HasEnded};
 
 use crate::decode::Stop;
 use crate::decode::entries::Entries;
-use crate::decode::padded::is_padded_next;
 use crate::decode::progress::{Progress, START, progress_at};
-use crate::decode::runs::{is_short_before, is_short_run};
+use crate::decode::runs::{is_run_next, is_short_before, is_short_run};
 use crate::decode::steps::Step;
 use crate::encoding::{BitOrder, EncodingRef};
 use data_encoding_kernel::call_by_width;
@@ -216,7 +215,7 @@ impl EncodingRef<'_> {
                 if next.read + next.ignored == input.len() {
                     return true;
                 }
-                if is_padded_next::<G>(values, next, input) {
+                if !is_run_next::<G>(values, next, input) {
                     return self.decode_rest::<L, O, G>(input, output, stop);
                 }
                 self.decode_after_group::<L, O, G>(next, input, output, stop)

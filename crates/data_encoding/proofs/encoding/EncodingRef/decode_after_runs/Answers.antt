@@ -37,7 +37,7 @@ pub decode_after_group-requires-clause-at : goal.decode_after_group-requires-cla
 decode_after_group-requires-clause-at g c =
     reached g (goal.at.decode_after_group-requires-clause-at g c).After-progress_at-next
 
-pub is_padded_next-requires : goal.is_padded_next-requires
-is_padded_next-requires g c =
-    let at = reached g (goal.at.is_padded_next-requires g c).After-progress_at-next in
+pub is_run_next-requires : goal.is_run_next-requires
+is_run_next-requires g c =
+    let at = reached g (goal.at.is_run_next-requires g c).After-progress_at-next in
     omega (arith, length-drop {A = ℕ}, at.front.within, at.so_far.within)
