@@ -247,7 +247,7 @@ pub(crate) fn is_short_run<G: GroupSize>(
 {
     if len > 0 && at.ignored > 0 {
         return is_short_before::<G>(len, at, input)
-            && (at.read >= NEAR_LEN || is_mixed_next(values, G::SYMBOLS, 1, at, input));
+            && (at.read >= NEAR_LEN || next_symbols(values, at, input) >= G::SYMBOLS);
     }
     len < 16 * G::SYMBOLS && is_broken_next::<G>(values, len, at, input)
 }
@@ -263,55 +263,40 @@ pub(crate) fn is_short_before<G: GroupSize>(len: usize, at: Progress, input: &[u
 }
 
 // Whether bytes are ignored within the next group, and so many more follow, also beside the length
-// of the run before, that there may be several such groups. A group that has padding or a byte
-// without a meaning is judged by itself. Near the start two of the next bytes are ignored, so that
-// a single line end does not cost a block, and the group ends soon: nor does a fault in it.
+// of the run before, that there may be several such groups. Near the start two of the next bytes
+// are ignored, so that a single line end does not cost a block.
 #[inline(always)]
 fn is_broken_next<G: GroupSize>(values: &[u8; 256], len: usize, at: Progress, input: &[u8]) -> bool
     requires within { at.read + at.ignored ≤ length input.now }
     requires few { len < 16 * G.SYMBOLS }
 {
-    let rest = &input[at.read + at.ignored..];
-    if rest.len() <= NEXT_LEN || rest.len() <= 4 * len {
+    if input.len() - at.read - at.ignored <= 4 * len {
         return false;
     }
+    let count = next_symbols(values, at, input);
     if at.read < NEAR_LEN {
-        return is_mixed_next(values, G::SYMBOLS, 2, at, input);
+        return count >= G::SYMBOLS && count <= NEXT_LEN - 2;
     }
-    let count = front_symbols(values, &rest[..NEXT_LEN]);
-    count > 0 && count < NEXT_LEN
+    count > 0
 }
 
-// Whether among the next bytes there are so many symbols and so many that are ignored, and no other
-// byte before these.
-#[inline(never)]
-fn is_mixed_next(
-    values: &[u8; 256],
-    symbols: usize,
-    ignored: usize,
-    at: Progress,
-    input: &[u8],
-) -> bool
+// How many of the next bytes are symbols, if one is ignored and so are all others; or else 0. A
+// group that has padding or a byte without a meaning is judged by itself, and so is one near the
+// start that does not end soon: a fault in it does not cost a block.
+#[inline(always)]
+fn next_symbols(values: &[u8; 256], at: Progress, input: &[u8]) -> usize
     requires { at.read + at.ignored ≤ length input.now }
 {
     let rest = &input[at.read + at.ignored..];
-    let mut count = 0;
-    for index in 0..rest.len().min(NEXT_LEN) {
-        let entry = entry_of(values, rest[index]);
-        if entry < INVALID {
-            count += 1;
-        } else if entry != IGNORED {
-            return false;
-        }
-        if count >= symbols && index + 1 - count >= ignored {
-            return true;
-        }
+    if rest.len() <= NEXT_LEN {
+        return 0;
     }
-    false
+    let count = front_symbols(values, &rest[..NEXT_LEN]);
+    if count < NEXT_LEN { count } else { 0 }
 }
 
 // How many of these bytes are symbols, if all others are ignored; or else 0.
-#[inline(always)]
+#[inline(never)]
 fn front_symbols(values: &[u8; 256], part: &[u8]) -> usize {
     let mut count = 0;
     for index in 0..part.len() {
