@@ -58,6 +58,7 @@ impl EncodingRef<'_> {
         requires short { kept.now.count < block_len }
         ensures { IsDue self.now kept.now len result }
     {
+        // By the invariant a block has at least one byte, also where this returns early.
         let _ = &self.fields;
         let missing = block_len - kept.count;
         if len < missing {

@@ -50,9 +50,9 @@ impl EncodingRef<'_> {
         next
     }
 
-    // Decodes runs by turns of eight groups, while the text has two turns or more, up to a short one
-    // if what follows it may be decoded by blocks. As in `decode_runs`, the first one counts as long
-    // if it was short before.
+    // Decodes runs by turns of eight groups, while the text has two turns or more, up to a short
+    // one if what follows it may be decoded by blocks. As in `decode_runs`, the first one counts as
+    // long if it was short before.
     // Not inlined, so that shorter texts do not pay for the stack that turns take.
     #[inline(never)]
     fn decode_runs_by_turns<L: LookUp, O: ConstantOrder, G: GroupSize>(
@@ -235,7 +235,8 @@ pub(crate) fn is_run_next<G: GroupSize>(values: &[u8; 256], at: Progress, input:
 }
 
 /// Returns whether blocks may take less time than runs like this one, of this many symbols, after
-/// which the text goes on.
+/// which the text goes on. Near the start a group that does not end soon is judged by itself, so
+/// that a fault in it does not cost a block.
 #[inline(always)]
 pub(crate) fn is_short_run<G: GroupSize>(
     values: &[u8; 256],
@@ -280,9 +281,8 @@ fn is_broken_next<G: GroupSize>(values: &[u8; 256], len: usize, at: Progress, in
     count > 0
 }
 
-// How many of the next bytes are symbols, if one is ignored and so are all others; or else 0. A
-// group that has padding or a byte without a meaning is judged by itself, and so is one near the
-// start that does not end soon: a fault in it does not cost a block.
+// How many of the next bytes are symbols, if one is ignored and so are all others; or else 0: a
+// group that has padding or a byte without a meaning is judged by itself.
 #[inline(always)]
 fn next_symbols(values: &[u8; 256], at: Progress, input: &[u8]) -> usize
     requires { at.read + at.ignored ≤ length input.now }

@@ -225,8 +225,8 @@ impl EncodingRef<'_> {
         }
     }
 
-    // What follows the first group that was decoded by itself: a run, which may be the last, and the
-    // remaining steps.
+    // What follows the first group that was decoded by itself: a run, which may be the last, and
+    // the remaining steps.
     // Not inlined, for the same reason.
     #[inline(never)]
     fn decode_after_group<L: LookUp, O: ConstantOrder, G: GroupSize>(

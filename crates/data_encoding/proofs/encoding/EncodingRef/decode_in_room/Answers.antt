@@ -104,7 +104,8 @@ pub returns-then-now-at : goal.returns-then-now-at
 returns-then-now-at g c =
     let reads = Reads-seen _ c.self.invariant c.args.self.now c.self.view_is g.G.GroupSize.WIDTH
     g.O.ConstantOrder.ORDER c.requires.coded.width_is c.requires.coded.order_is in
-    let kept : take c.args.at.written c.loop-test.output ≡ take c.args.at.written c.args.output.now =
+    let kept : take c.args.at.written c.loop-test.output
+    ≡ take c.args.at.written c.args.output.now =
     elim c.loop-test.branch [
       | else-loop-test w ↦ rw w.output-is c.loop.invariant.kept
       | then-loop-test+then-is_last w ↦

@@ -34,7 +34,8 @@ decode_packed_group-now-requires-clause-packing g c =
     rw c.after-now.ensures run.1.packing
 
 -- no less is written after a run
-further : (g : Over) (c : After-decode_packed_group-now g) → c.args.at.written ≤ c.after-now.result.written
+further : (g : Over) (c : After-decode_packed_group-now g)
+    → c.args.at.written ≤ c.after-now.result.written
 further g c = rw c.after-now.ensures (omega (arith, c.loop.invariant.further))
 
 -- what was written before the block stays
