@@ -58,7 +58,7 @@ impl EncodingRef<'_> {
         requires short { kept.now.count < block_len }
         ensures { IsDue self.now kept.now len result }
     {
-        // By the invariant a block has at least one byte, also where this returns early.
+        // The invariant is known where a field is used, and the early return needs it too.
         let _ = &self.fields;
         let missing = block_len - kept.count;
         if len < missing {
