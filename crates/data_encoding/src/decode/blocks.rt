@@ -19,8 +19,7 @@ use data_encoding_kernel::ignore::{IgnoredBytes, pack};
 use data_encoding_kernel::lanes::look_up::LookUp;
 use data_encoding_kernel::order::ConstantOrder;
 
-// The length of the part of a text that the first block has. It is short, since ignored bytes that
-// are few may follow.
+// The part of a text that the first block has. It is short, since few ignored bytes may follow.
 const FIRST_LEN: usize = 128;
 
 // The greatest length of such a part.
@@ -88,9 +87,8 @@ impl EncodingRef<'_> {
         self.decode_in_room::<L, O, G>(at, input, &mut room, output)
     }
 
-    // The blocks have twice as many bytes each time, as long as there is room. What is left of a
-    // block is less than a group, and is moved to the front of the next, so that each byte is
-    // packed once.
+    // Blocks get twice as long each time, as long as there is room. What is left of one is less
+    // than a group, and is moved to the front of the next: so each byte is packed once.
     #[inline(never)]
     fn decode_in_room<L: LookUp, O: ConstantOrder, G: GroupSize>(
         &self,
@@ -119,11 +117,14 @@ impl EncodingRef<'_> {
             end: 0,
         };
         let mut len = FIRST_LEN;
+        // The bytes that are ignored before the first block count as one of its sixteens.
+        let before = at.ignored.min(1);
         for _ in 0..input.len() {
             let span = len.min(input.len() - now.read);
             let (next, mixed) = pack_next(&ignored, span, now, input, room);
             now = self.decode_packed::<L, O, G>(entries, next, input, room, output);
-            let is_last = now.read == input.len() || mixed * MIXED < span;
+            let first = if len == FIRST_LEN { before } else { 0 };
+            let is_last = now.read == input.len() || (mixed + first) * MIXED < span;
             if is_last || now.end - now.first >= G::SYMBOLS {
                 break;
             }
@@ -275,8 +276,7 @@ fn next_len(len: usize, room_len: usize) -> usize
     }
 }
 
-// How far a text is decoded after a block. If nothing of the block is left, what follows is ignored
-// up to where it was packed.
+// How far a text is decoded after blocks: what follows is ignored if nothing of the last is left.
 #[inline(always)]
 fn after_blocks(ignored: &IgnoredBytes, values: &[u8; 256], now: Packing, input: &[u8]) -> Progress
     requires within { now.read ≤ length input.now }
