@@ -248,7 +248,7 @@ pub(crate) fn is_short_run<G: GroupSize>(
 {
     if len > 0 && at.ignored > 0 {
         return is_short_before::<G>(len, at, input)
-            && (at.read >= NEAR_LEN || next_symbols(values, at, input) >= G::SYMBOLS);
+            && (at.read >= NEAR_LEN || next_gaps(values, G::SYMBOLS, at, input) > 0);
     }
     len < 16 * G::SYMBOLS && is_broken_next::<G>(values, len, at, input)
 }
@@ -264,8 +264,8 @@ pub(crate) fn is_short_before<G: GroupSize>(len: usize, at: Progress, input: &[u
 }
 
 // Whether bytes are ignored within the next group, and so many more follow, also beside the length
-// of the run before, that there may be several such groups. Near the start two of the next bytes
-// are ignored, so that a single line end does not cost a block.
+// of the run before, that there may be several such groups. Near the start there is a second gap, so
+// that a single line end does not cost a block.
 #[inline(always)]
 fn is_broken_next<G: GroupSize>(values: &[u8; 256], len: usize, at: Progress, input: &[u8]) -> bool
     requires within { at.read + at.ignored ≤ length input.now }
@@ -274,40 +274,45 @@ fn is_broken_next<G: GroupSize>(values: &[u8; 256], len: usize, at: Progress, in
     if input.len() - at.read - at.ignored <= 4 * len {
         return false;
     }
-    let count = next_symbols(values, at, input);
     if at.read < NEAR_LEN {
-        return count >= G::SYMBOLS && count <= NEXT_LEN - 2;
+        return next_gaps(values, G::SYMBOLS, at, input) > 1;
     }
-    count > 0
+    next_gaps(values, 1, at, input) > 0
 }
 
-// How many of the next bytes are symbols, if one is ignored and so are all others; or else 0: a
-// group that has padding or a byte without a meaning is judged by itself.
+// How many gaps of ignored bytes there are among the next bytes, if so many of these are symbols and
+// all others are ignored; or else 0: a group that has padding or a byte without a meaning is judged
+// by itself.
 #[inline(always)]
-fn next_symbols(values: &[u8; 256], at: Progress, input: &[u8]) -> usize
+fn next_gaps(values: &[u8; 256], least: usize, at: Progress, input: &[u8]) -> usize
     requires { at.read + at.ignored ≤ length input.now }
 {
     let rest = &input[at.read + at.ignored..];
     if rest.len() <= NEXT_LEN {
         return 0;
     }
-    let count = front_symbols(values, &rest[..NEXT_LEN]);
-    if count < NEXT_LEN { count } else { 0 }
+    count_gaps(values, least, &rest[..NEXT_LEN])
 }
 
-// How many of these bytes are symbols, if all others are ignored; or else 0.
+// How many gaps of ignored bytes there are, if there are so many symbols, and no other bytes.
 #[inline(never)]
-fn front_symbols(values: &[u8; 256], part: &[u8]) -> usize {
-    let mut count = 0;
+fn count_gaps(values: &[u8; 256], least: usize, part: &[u8]) -> usize {
+    let mut gaps = 0;
+    let mut symbols = 0;
+    let mut in_gap = false;
     for index in 0..part.len() {
         let entry = entry_of(values, part[index]);
         if entry < INVALID {
-            count += 1;
-        } else if entry != IGNORED {
+            symbols += 1;
+            in_gap = false;
+        } else if entry == IGNORED {
+            gaps += if in_gap { 0 } else { 1 };
+            in_gap = true;
+        } else {
             return 0;
         }
     }
-    count
+    if symbols >= least { gaps } else { 0 }
 }
 
 // How many bytes are looked at before a block. With fewer bytes left none is worth its time.

@@ -1,7 +1,8 @@
 use Rattle.std.proofs.Common.{◌≤◌}
-use Rattle.data_encoding.proofs.decode.runs.front_symbols.Given as goal
+use Rattle.data_encoding.proofs.decode.runs.count_gaps.Given as goal
 
 abbrev pub invariant-loop-index : goal.invariant-loop-index
 invariant-loop-index l = record {
-  few : l.count ≤ l.index;
+  few : l.symbols ≤ l.index;
+  gaps : l.gaps ≤ l.index;
 }
