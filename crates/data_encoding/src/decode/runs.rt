@@ -264,8 +264,8 @@ pub(crate) fn is_short_before<G: GroupSize>(len: usize, at: Progress, input: &[u
 }
 
 // Whether bytes are ignored within the next group, and so many more follow, also beside the length
-// of the run before, that there may be several such groups. Near the start there is a second gap, so
-// that a single line end does not cost a block.
+// of the run before, that there may be several such groups. Near the start there is a second gap,
+// so that a single line end does not cost a block.
 #[inline(always)]
 fn is_broken_next<G: GroupSize>(values: &[u8; 256], len: usize, at: Progress, input: &[u8]) -> bool
     requires within { at.read + at.ignored ≤ length input.now }
@@ -280,9 +280,9 @@ fn is_broken_next<G: GroupSize>(values: &[u8; 256], len: usize, at: Progress, in
     next_gaps(values, 1, at, input) > 0
 }
 
-// How many gaps of ignored bytes there are among the next bytes, if so many of these are symbols and
-// all others are ignored; or else 0: a group that has padding or a byte without a meaning is judged
-// by itself.
+// How many gaps of ignored bytes there are among the next bytes, if so many of these are symbols
+// and all others are ignored; or else 0: a group that has padding or a byte without a meaning is
+// judged by itself.
 #[inline(always)]
 fn next_gaps(values: &[u8; 256], least: usize, at: Progress, input: &[u8]) -> usize
     requires { at.read + at.ignored ≤ length input.now }
