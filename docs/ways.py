@@ -56,7 +56,7 @@ MIME = """
 """
 SHORT = MIME + """
     decode_ignoring: decode_rest decode_after_runs              # The text is short.
-    is_broken_next: next_symbols
+    is_broken_next: next_gaps
     decode_after_runs: decode_rest progress_at is_run_next decode_after_group
     decode_by_few: entry_of decode_whole_turns
 """
