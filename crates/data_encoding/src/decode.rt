@@ -6,6 +6,7 @@ pub(crate) mod group;
 pub(crate) mod length;
 pub(crate) mod next_group;
 pub(crate) mod padded;
+pub(crate) mod parts;
 pub(crate) mod progress;
 pub(crate) mod runs;
 pub(crate) mod steps;

@@ -6,13 +6,14 @@ ghost use Rattle.data_encoding_meaning.specs.text.Base.{Base};
 ghost use Rattle.data_encoding_meaning.specs.text.Grammar.{kept};
 ghost use Rattle.data_encoding_kernel.specs.Ignore.{HoldsIgnored};
 ghost use Rattle.data_encoding_kernel.specs.Tables.{HoldsValues};
-ghost use Rattle.data_encoding.specs.Blocks.{EndsBefore, IsPacking, PacksOn};
+ghost use Rattle.data_encoding.specs.Blocks.{IsPacking, PacksOn};
 ghost use Rattle.data_encoding.specs.Progress.{GoesOn, HasReached, IsCodedIn, ReadsBy};
 
 use crate::decode::DECODE_LIMIT;
 use crate::decode::entries::Entries;
+use crate::decode::parts::span_before;
 use crate::decode::progress::Progress;
-use crate::encoding::{BitOrder, EncodingRef, IGNORED};
+use crate::encoding::{BitOrder, EncodingRef};
 use data_encoding_kernel::decode::decode_run_within;
 use data_encoding_kernel::group_size::GroupSize;
 use data_encoding_kernel::ignore::{IgnoredBytes, pack};
@@ -79,12 +80,21 @@ impl EncodingRef<'_> {
         requires at { HasReached self.now input.now at output.old }
         ensures { GoesOn self.now input.now at.read result output.new }
     {
-        if input.len() - at.read - at.ignored <= FIRST_LEN {
+        let ignored = IgnoredBytes::of(&self.fields.values.entries);
+        let rest = &input[at.read + at.ignored..];
+        if !has_gaps(
+            &ignored,
+            at.ignored.min(1),
+            &rest[..rest.len().min(FIRST_LEN)],
+        ) {
+            return at;
+        }
+        if rest.len() <= FIRST_LEN {
             let mut room = [0; FIRST_LEN + SLACK];
-            return self.decode_in_room::<L, O, G>(at, input, &mut room, output);
+            return self.decode_in_room::<L, O, G>(&ignored, at, input, &mut room, output);
         }
         let mut room = [0; BLOCK_LEN + SLACK];
-        self.decode_in_room::<L, O, G>(at, input, &mut room, output)
+        self.decode_in_room::<L, O, G>(&ignored, at, input, &mut room, output)
     }
 
     // Blocks get twice as long each time, as long as there is room. What is left of one is less
@@ -92,12 +102,14 @@ impl EncodingRef<'_> {
     #[inline(never)]
     fn decode_in_room<L: LookUp, O: ConstantOrder, G: GroupSize>(
         &self,
+        ignored: &IgnoredBytes,
         at: Progress,
         input: &[u8],
         room: &mut [u8],
         output: &mut [u8],
     ) -> Progress
         requires coded { IsCodedIn self.now G.WIDTH O.ORDER }
+        requires ignored { HoldsIgnored self.now ignored.now }
         requires room { FIRST_LEN + SLACK ≤ length room.old }
         requires at { HasReached self.now input.now at output.old }
         ensures { GoesOn self.now input.now at.read result output.new }
@@ -108,7 +120,6 @@ impl EncodingRef<'_> {
             values,
             look_up: &look_up,
         };
-        let ignored = IgnoredBytes::of(values);
         let mut now = Packing {
             start: at.read,
             read: at.read + at.ignored,
@@ -121,7 +132,7 @@ impl EncodingRef<'_> {
         let before = at.ignored.min(1);
         for _ in 0..input.len() {
             let span = len.min(input.len() - now.read);
-            let (next, mixed) = pack_next(&ignored, span, now, input, room);
+            let (next, mixed) = pack_next(ignored, span, now, input, room);
             now = self.decode_packed::<L, O, G>(entries, next, input, room, output);
             let first = if len == FIRST_LEN { before } else { 0 };
             let is_last = now.read == input.len() || (mixed + first) * MIXED < span;
@@ -133,7 +144,7 @@ impl EncodingRef<'_> {
         if now.written == at.written {
             return at;
         }
-        after_blocks(&ignored, values, now, input)
+        after_blocks(ignored, values, now, input)
     }
 
     // Decodes the groups of a block, up to one with a fault or the end of the text.
@@ -209,6 +220,22 @@ impl EncodingRef<'_> {
             end: at.end,
         }
     }
+}
+
+// Whether as many sixteens of the part that the first block would have are with ignored bytes as
+// blocks need to go on. Those before it count as one more.
+#[inline(always)]
+fn has_gaps(ignored: &IgnoredBytes, before: usize, part: &[u8]) -> bool
+    requires before { before ≤ 1 }
+    requires few { length part.now ≤ FIRST_LEN }
+{
+    let mut mixed = before;
+    for turn in 0..part.len() / 16 {
+        if ignored.count_kept(&part[16 * turn..16 * turn + 16]) < 16 {
+            mixed += 1;
+        }
+    }
+    mixed * MIXED >= part.len()
 }
 
 // Moves what is left of a block to the front of the room, and packs the next bytes of the text, as
@@ -293,58 +320,4 @@ fn after_blocks(ignored: &IgnoredBytes, values: &[u8; 256], now: Packing, input:
         written: now.written,
         ignored: skipped,
     }
-}
-
-// Returns the length of a part without its last bytes that are not ignored, as many as these, and
-// without the ignored bytes before and after them.
-#[inline(always)]
-fn span_before(ignored: &IgnoredBytes, values: &[u8; 256], part: &[u8], last: usize) -> usize
-    ensures within { result ≤ length part.now }
-    ensures ends { (base : Base) → HoldsValues base values.now → HoldsIgnored base ignored.now
-        → last ≤ length (kept base part.now) → EndsBefore base part.now last result }
-{
-    let (end, left) = skip_sixteens(ignored, part, last);
-    span_before_some(values, &part[..end], left)
-}
-
-// Returns the length of a part without sixteens at its end that have no more bytes that are not
-// ignored than these, and how many of these are left.
-#[inline(always)]
-fn skip_sixteens(ignored: &IgnoredBytes, part: &[u8], last: usize) -> (usize, usize)
-    ensures within { result.0 ≤ length part.now }
-    ensures few { result.1 ≤ last }
-    ensures kept { (base : Base) → HoldsIgnored base ignored.now
-        → length (kept base (take result.0 part.now)) + (last - result.1)
-        ≡ length (kept base part.now) }
-{
-    let mut left = last;
-    for turn in 0..part.len() / 16 {
-        let end = part.len() - 16 * turn;
-        let count = ignored.count_kept(&part[end - 16..end]);
-        if count > left {
-            return (end, left);
-        }
-        left -= count;
-    }
-    (part.len() % 16, left)
-}
-
-// `span_before`, byte by byte.
-#[inline(always)]
-fn span_before_some(values: &[u8; 256], part: &[u8], last: usize) -> usize
-    ensures within { result ≤ length part.now }
-    ensures ends { (base : Base) → HoldsValues base values.now
-        → last ≤ length (kept base part.now) → EndsBefore base part.now last result }
-{
-    let mut left = last;
-    for index in 0..part.len() {
-        let end = part.len() - index;
-        if values[part[end - 1] as usize] != IGNORED {
-            if left == 0 {
-                return end;
-            }
-            left -= 1;
-        }
-    }
-    0
 }

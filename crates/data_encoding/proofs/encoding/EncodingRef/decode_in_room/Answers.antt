@@ -4,7 +4,7 @@ use Rattle.data_encoding.specs.Blocks.{IsPacking}
 use Rattle.data_encoding.specs.Progress.{GoesOn}
 use Rattle.data_encoding.proofs.decoding.BlockLemmas.{packed-nothing}
 use Rattle.data_encoding.proofs.decoding.OutputLemmas.{goes-nowhere_over, kept-further}
-use Rattle.data_encoding.proofs.tables.TableLemmas.{Reads-seen, ascii-seen}
+use Rattle.data_encoding.proofs.tables.TableLemmas.{Reads-seen}
 use Rattle.data_encoding.proofs.encoding.EncodingRef.decode_in_room.Given.{Over}
 use Rattle.data_encoding.proofs.encoding.EncodingRef.decode_in_room.Goals as goal
 use Rattle.data_encoding.proofs.encoding.EncodingRef.decode_in_room.Goals.{After-after_blocks, else-loop-test, then-loop-test+then-is_last}
@@ -36,12 +36,8 @@ decode_packed-now-requires-clause-entries g c =
 
 pub decode_packed-now-requires-clause-packing : goal.decode_packed-now-requires-clause-packing
 decode_packed-now-requires-clause-packing g c =
-    let reads = Reads-seen _ c.self.invariant c.args.self.now c.self.view_is g.G.GroupSize.WIDTH
-    g.O.ConstantOrder.ORDER c.requires.coded.width_is c.requires.coded.order_is in
-    c.pack_next-mixed.ensures.packing c.args.self.now
-    (c.of-ignored.ensures c.args.self.now reads.holds (ascii-seen _ c.self.invariant c.args.self.now
-    c.self.view_is))
-    c.loop.output c.loop.invariant.packing
+    c.pack_next-mixed.ensures.packing c.args.self.now c.requires.ignored c.loop.output
+    c.loop.invariant.packing
 
 pub loop-preserved : goal.loop-preserved
 loop-preserved g c =
@@ -94,10 +90,8 @@ reached g c =
           rw w.now-is (w.decode_packed-now.ensures.on.start ∙ w.pack_next-mixed.ensures.start
           ∙ c.loop.invariant.start)
     ] in
-    let held = c.of-ignored.ensures c.args.self.now reads.holds
-    (ascii-seen _ c.self.invariant c.args.self.now c.self.view_is) in
-    rw start at (c.after_blocks.ensures c.args.self.now reads.holds held c.loop-test.room
-    c.loop-test.output packing)
+    rw start at (c.after_blocks.ensures c.args.self.now reads.holds c.requires.ignored
+    c.loop-test.room c.loop-test.output packing)
 
 -- where no group was decoded
 pub returns-then-now-at : goal.returns-then-now-at

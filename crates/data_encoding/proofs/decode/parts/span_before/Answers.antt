@@ -1,6 +1,6 @@
 use Rattle.std.proofs.Common.{arith}
 use Rattle.data_encoding.proofs.decoding.BlockLemmas.{ends-further}
-use Rattle.data_encoding.proofs.decode.blocks.span_before.Goals as goal
+use Rattle.data_encoding.proofs.decode.parts.span_before.Goals as goal
 
 pub returns-clause-ends : goal.returns-clause-ends
 returns-clause-ends c = λ base holds held many.

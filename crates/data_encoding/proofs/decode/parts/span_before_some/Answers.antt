@@ -2,8 +2,8 @@ use Rattle.std.proofs.Common.{◌≡◌, ◌+◌, ◌-◌, ◌<◌, length, get_
 use Rattle.std.proofs.lemmas.Bool.Decides.{nat_tests}
 use Rattle.std.proofs.lemmas.List.{take_all}
 use Rattle.data_encoding_meaning.proofs.decoding.GatherLemmas.{more-here, none-here}
-use Rattle.data_encoding.proofs.decode.blocks.span_before_some.Goals as goal
-use Rattle.data_encoding.proofs.decode.blocks.span_before_some.Goals.{then-values-part+else-left-eq0, else-values-part}
+use Rattle.data_encoding.proofs.decode.parts.span_before_some.Goals as goal
+use Rattle.data_encoding.proofs.decode.parts.span_before_some.Goals.{then-values-part+else-left-eq0, else-values-part}
 
 pub loop-index-init : goal.loop-index-init
 loop-index-init c =

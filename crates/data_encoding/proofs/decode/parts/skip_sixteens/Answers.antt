@@ -1,7 +1,7 @@
 use Rattle.std.proofs.Common.{◌≡◌, ◌+◌, ◌-◌, ◌*◌, ◌%◌, length, arith}
 use Rattle.std.proofs.lemmas.List.{take_all}
 use Rattle.data_encoding.proofs.decoding.BlockLemmas.{kept-count}
-use Rattle.data_encoding.proofs.decode.blocks.skip_sixteens.Goals as goal
+use Rattle.data_encoding.proofs.decode.parts.skip_sixteens.Goals as goal
 
 pub loop-turn-init : goal.loop-turn-init
 loop-turn-init c =

@@ -2,7 +2,7 @@ use Rattle.std.proofs.Common.{◌≡◌, ◌+◌, ◌-◌, ◌*◌, ◌≤◌, l
 use Rattle.data_encoding_meaning.specs.text.Base.{Base}
 use Rattle.data_encoding_meaning.specs.text.Grammar.{kept}
 use Rattle.data_encoding_kernel.specs.Ignore.{HoldsIgnored}
-use Rattle.data_encoding.proofs.decode.blocks.skip_sixteens.Given as goal
+use Rattle.data_encoding.proofs.decode.parts.skip_sixteens.Given as goal
 
 abbrev pub invariant-loop-turn : goal.invariant-loop-turn
 invariant-loop-turn l =
