@@ -44,9 +44,10 @@ bounds='
 2.30 3.25 two broken groups and 60 symbols by turns
 2.30 3.25 lines of 60 after twenty of 4
 3.15 5.00 lines of 32, each fourth with padding
-18.5 37.5 padded texts of one byte
+10.7 21.8 padded texts of one byte
 2.25 3.20 64 and 4 symbols by turns, with gaps of four
-4.65 9.05 one symbol and line ends
+2.80 4.25 192 and 4 symbols by turns, with gaps of two and four
+2.80 5.70 one symbol and line ends
 2.10 2.20 40 bytes in pairs and 400 plain ones by turns
 2.65 1.35 plain
 2.30 2.00 plain hexadecimal

@@ -169,6 +169,12 @@ static void pairs_and_plain(size_t turn) {
     symbols(800);
 }
 
+static void longer_and_short(size_t turn) {
+    (void)turn;
+    line(192, "  ");
+    line(4, "    ");
+}
+
 static void line_ends_alone(size_t turn) {
     line(turn == 0, "\n");
 }
@@ -196,6 +202,7 @@ static const struct row rows[] = {
     {"lines of 32, each fourth with padding", &base64, padded_lines, DE_OK},
     {"padded texts of one byte", &base64, padded_bytes, DE_OK},
     {"64 and 4 symbols by turns, with gaps of four", &base64, long_and_short, DE_OK},
+    {"192 and 4 symbols by turns, with gaps of two and four", &base64, longer_and_short, DE_OK},
     {"one symbol and line ends", &base64, line_ends_alone, DE_INVALID_LENGTH},
     {"40 bytes in pairs and 400 plain ones by turns", &hex, pairs_and_plain, DE_OK},
     {"plain", &base64, plain, DE_OK},
