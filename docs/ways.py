@@ -55,13 +55,15 @@ MIME = """
     has_trailing is_end decode_front
 """
 SHORT = MIME + """
-    decode_ignoring: decode_rest decode_after_runs              # The text is short.
-    is_broken_next: next_gaps
+    decode_ignoring: decode_rest has_lanes is_short_run decode_after_runs    # The text is short,
+    decode_first_run: entry_of progress_at                      # also for lanes.
+    is_short_run: is_short_before next_gaps                     # No run comes before the fault,
+    next_gaps: count_gaps                                       # and few bytes after it.
     decode_after_runs: decode_rest progress_at is_run_next decode_after_group
     decode_by_few: entry_of decode_whole_turns
 """
 LINES = MIME + """
-    decode_ignoring: decode_one_run is_short_before             # The text is long,
+    decode_ignoring: decode_first_run is_short_before           # The text is long,
     decode_ignoring: decode_after_runs decode_more_runs
     is_short_run: is_broken_next                                # and so are its lines.
     decode_padded_group: starts_whole decode_group ignored_front

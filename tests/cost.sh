@@ -45,6 +45,7 @@ bounds='
 2.30 3.25 lines of 60 after twenty of 4
 3.15 5.00 lines of 32, each fourth with padding
 10.7 21.8 padded texts of one byte
+4.80 9.00 padded texts of 20 bytes
 2.25 3.20 64 and 4 symbols by turns, with gaps of four
 2.80 4.25 192 and 4 symbols by turns, with gaps of two and four
 2.80 5.70 one symbol and line ends

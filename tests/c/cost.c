@@ -160,6 +160,12 @@ static void padded_bytes(size_t turn) {
     repeat("AA==", 1);
 }
 
+static void padded_texts_of_20(size_t turn) {
+    (void)turn;
+    symbols(26);
+    repeat("A=\n", 1);
+}
+
 static void pairs_and_plain(size_t turn) {
     size_t pair;
     (void)turn;
@@ -201,6 +207,7 @@ static const struct row rows[] = {
     {"lines of 60 after twenty of 4", &base64, short_lines_first, DE_OK},
     {"lines of 32, each fourth with padding", &base64, padded_lines, DE_OK},
     {"padded texts of one byte", &base64, padded_bytes, DE_OK},
+    {"padded texts of 20 bytes", &base64, padded_texts_of_20, DE_OK},
     {"64 and 4 symbols by turns, with gaps of four", &base64, long_and_short, DE_OK},
     {"192 and 4 symbols by turns, with gaps of two and four", &base64, longer_and_short, DE_OK},
     {"one symbol and line ends", &base64, line_ends_alone, DE_INVALID_LENGTH},

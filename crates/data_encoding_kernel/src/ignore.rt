@@ -12,6 +12,7 @@ mod moves;
 
 use crate::ignore::moves::moves;
 use crate::lanes::affine::bits;
+use crate::lanes::look_up::LookUp;
 use crate::lanes::rows::in_row_16;
 use std::simd::prelude::*;
 
@@ -59,6 +60,16 @@ impl IgnoredBytes {
             → result ≡ length (kept base part.now) }
     {
         kept_mask(self, u8x16::from_slice(part)).count_ones() as usize
+    }
+
+    /// Returns whether one of sixteen bytes is neither ignored nor, by this look-up, a symbol.
+    #[inline(always)]
+    pub fn has_others<L: LookUp>(&self, look_up: &L, part: &[u8]) -> bool
+        requires { length part.now ≡ 16 }
+    {
+        let bytes = u8x16::from_slice(part);
+        let are_symbols = look_up.look_up_16(bytes).simd_lt(u8x16::splat(128));
+        kept_mask(self, bytes) & !are_symbols.to_bitmask() != 0
     }
 }
 

@@ -82,11 +82,10 @@ impl EncodingRef<'_> {
     {
         let ignored = IgnoredBytes::of(&self.fields.values.entries);
         let rest = &input[at.read + at.ignored..];
-        if !has_gaps(
-            &ignored,
-            at.ignored.min(1),
-            &rest[..rest.len().min(FIRST_LEN)],
-        ) {
+        let part = &rest[..rest.len().min(FIRST_LEN)];
+        if begins_with_others(&ignored, &L::of(&self.fields.values), part)
+            || !has_gaps(&ignored, at.ignored.min(1), part)
+        {
             return at;
         }
         if rest.len() <= FIRST_LEN {
@@ -220,6 +219,18 @@ impl EncodingRef<'_> {
             end: at.end,
         }
     }
+}
+
+// Whether a byte near the start of a part is neither a symbol nor ignored, so that a block may have
+// a fault there. A part of fewer than four sixteens is not looked at, since it takes little time.
+#[inline(always)]
+fn begins_with_others<L: LookUp>(ignored: &IgnoredBytes, look_up: &L, part: &[u8]) -> bool
+    requires few { length part.now ≤ FIRST_LEN }
+{
+    if part.len() < 64 {
+        return false;
+    }
+    ignored.has_others(look_up, &part[..16]) || ignored.has_others(look_up, &part[16..32])
 }
 
 // Whether as many sixteens of the part that the first block would have are with ignored bytes as

@@ -26,6 +26,26 @@ impl EncodingRef<'_> {
         requires at { HasReached self.now input.now at output.old }
         ensures { GoesOn self.now input.now at.read result output.new }
     {
+        if !is_padded_next::<G>(values, at, input) {
+            return at;
+        }
+        self.decode_padded_groups::<O, G>(values, at, input, output)
+    }
+
+    // One group after another.
+    // Not inlined, since it does not depend on the look-up.
+    #[inline(never)]
+    fn decode_padded_groups<O: ConstantOrder, G: GroupSize>(
+        &self,
+        values: &[u8; 256],
+        at: Progress,
+        input: &[u8],
+        output: &mut [u8],
+    ) -> Progress
+        requires reads { Reads self.now values.now G.WIDTH O.ORDER }
+        requires at { HasReached self.now input.now at output.old }
+        ensures { GoesOn self.now input.now at.read result output.new }
+    {
         let mut at = at;
         for _ in 0..input.len() {
             let read = at.read;

@@ -41,12 +41,17 @@ impl EncodingRef<'_> {
         let mut at = at;
         if has_lanes() && input.len() - at.read - at.ignored >= 16 * G::SYMBOLS {
             at = self.decode_runs_by_turns::<L, O, G>(entries, is_short, at, input, output);
-            if *is_short || input.len() - at.read - at.ignored >= 16 * G::SYMBOLS {
+            let left = input.len() - at.read - at.ignored;
+            // With no ignored bytes next, the run ended within a group, or too few bytes are left.
+            let least = if at.ignored == 0 { 8 } else { 16 };
+            if *is_short || left >= least * G::SYMBOLS {
                 return at;
             }
         }
-        let (next, len) = self.decode_runs_one_by_one::<L, O, G>(entries, packs, at, input, output);
-        *is_short = packs && is_short_run::<G>(entries.values, len, next, input);
+        let (next, len, ends_short) = self.decode_runs_one_by_one::<L, O, G>(
+            entries, packs, at, input, output,
+        );
+        *is_short = ends_short || packs && is_short_run::<G>(entries.values, len, next, input);
         next
     }
 
@@ -67,10 +72,11 @@ impl EncodingRef<'_> {
         requires at { HasReached self.now input.now at output.old }
         ensures { GoesOn self.now input.now at.read result output.new }
     {
+        let values = entries.values;
         let mut at = at;
-        let mut packs = self.fields.ignores && !*is_short;
+        let follows_block = *is_short;
         *is_short = false;
-        for _ in 0..input.len() {
+        for index in 0..input.len() {
             let left = input.len() - at.read - at.ignored;
             if left < 16 * G::SYMBOLS {
                 break;
@@ -79,7 +85,15 @@ impl EncodingRef<'_> {
             let next = self.decode_run_by_turns::<L, O, G>(entries, most, at, input, output);
             let len = (next.read - at.read).saturating_sub(at.ignored);
             at = next;
-            if packs && is_short_run::<G>(entries.values, len, at, input) {
+            if len > 0 && at.ignored == 0 && is_padded_next::<G>(values, at, input) {
+                at = self.decode_padded::<O, G>(values, at, input, output);
+                if at.read == next.read {
+                    break;
+                }
+                continue;
+            }
+            let packs = self.fields.ignores && (index > 0 || !follows_block);
+            if packs && is_short_run::<G>(values, len, at, input) {
                 *is_short = true;
                 break;
             }
@@ -90,7 +104,6 @@ impl EncodingRef<'_> {
             if at.ignored == 0 {
                 break;
             }
-            packs = self.fields.ignores;
         }
         at
     }
@@ -155,7 +168,8 @@ impl EncodingRef<'_> {
     }
 
     /// Decodes runs one by one, as long as bytes are ignored after them, and, with `packs`, up to a
-    /// short one. What is ignored after the last one is not read. Also returns its length.
+    /// short one. What is ignored after the last one is not read. Also returns its length, and
+    /// whether they ended since it was short.
     #[inline(always)]
     pub(crate) fn decode_runs_one_by_one<L: LookUp, O: ConstantOrder, G: GroupSize>(
         &self,
@@ -164,7 +178,7 @@ impl EncodingRef<'_> {
         at: Progress,
         input: &[u8],
         output: &mut [u8],
-    ) -> (Progress, usize)
+    ) -> (Progress, usize, bool)
         requires entries { ReadsBy L.holds self.now entries G.WIDTH O.ORDER }
         requires at { HasReached self.now input.now at output.old }
         ensures { GoesOn self.now input.now at.read result.0 output.new }
@@ -184,10 +198,10 @@ impl EncodingRef<'_> {
                 break;
             }
             if packs && is_short_run::<G>(entries.values, len, at, input) {
-                break;
+                return (at, len, true);
             }
         }
-        (at, len)
+        (at, len, false)
     }
 
     /// Decodes a run of whole groups of symbols only, which follows ignored bytes. The ignored

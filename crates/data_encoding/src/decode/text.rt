@@ -11,7 +11,7 @@ use crate::decode::entries::Entries;
 use crate::decode::progress::{Progress, START, progress_at};
 use crate::decode::runs::{is_run_next, is_short_before, is_short_run};
 use crate::decode::steps::Step;
-use crate::encoding::{BitOrder, EncodingRef};
+use crate::encoding::{BitOrder, EncodingRef, IGNORED};
 use data_encoding_kernel::call_by_width;
 use data_encoding_kernel::group_size::GroupSize;
 use data_encoding_kernel::lanes::affine::Affine;
@@ -19,6 +19,7 @@ use data_encoding_kernel::lanes::look_up::LookUp;
 use data_encoding_kernel::lanes::rows::Rows;
 use data_encoding_kernel::order::{ConstantOrder, LeastSignificantFirst, MostSignificantFirst};
 use data_encoding_kernel::platform::has_lanes;
+use data_encoding_kernel::words::entry_of;
 
 impl EncodingRef<'_> {
     /// Decodes a text up to its first fault, and returns whether it has none.
@@ -123,15 +124,36 @@ impl EncodingRef<'_> {
             stop.written = 0;
             return self.decode_rest::<L, O, G>(input, output, stop);
         }
-        let at = self.decode_one_run::<L, O, G>(START, input, output);
+        let at = self.decode_first_run::<L, O, G>(input, output);
         stop.written = at.written;
         if at.read + at.ignored == input.len() {
             return true;
         }
         if at.ignored == 0 || at.read > 0 && is_short_before::<G>(at.read, at, input) {
-            return self.decode_after_runs::<L, O, G>(at.read, at, input, output, stop);
+            let values = &self.fields.values.entries;
+            let is_short = has_lanes() && is_short_run::<G>(values, at.read, at, input);
+            return self.decode_after_runs::<L, O, G>(is_short, at, input, output, stop);
         }
         self.decode_more_runs::<L, O, G>(at, input, output, stop)
+    }
+
+    // The first run of a text, and the ignored bytes that follow. None is tried by lanes where an
+    // ignored byte comes first.
+    #[inline(always)]
+    fn decode_first_run<L: LookUp, O: ConstantOrder, G: GroupSize>(
+        &self,
+        input: &[u8],
+        output: &mut [u8],
+    ) -> Progress
+        requires coded { IsCodedIn self.now G.WIDTH O.ORDER }
+        requires exact { HasExactOutput self.now input.now output.old }
+        ensures { HasReached self.now input.now result output.new }
+    {
+        let values = &self.fields.values.entries;
+        if input.len() >= 8 * G::SYMBOLS && entry_of(values, input[0]) == IGNORED {
+            return progress_at(values, 0, 0, input);
+        }
+        self.decode_one_run::<L, O, G>(START, input, output)
     }
 
     // A run after what was read, or nothing; and the ignored bytes that follow.
@@ -174,7 +196,7 @@ impl EncodingRef<'_> {
             values: &self.fields.values.entries,
             look_up: &look_up,
         };
-        let (next, len) = self.decode_runs_one_by_one::<L, O, G>(
+        let (next, len, ends_short) = self.decode_runs_one_by_one::<L, O, G>(
             entries,
             has_lanes(),
             at,
@@ -185,16 +207,18 @@ impl EncodingRef<'_> {
         if next.read + next.ignored == input.len() {
             return true;
         }
-        self.decode_after_runs::<L, O, G>(len, next, input, output, stop)
+        let is_short = ends_short
+            || has_lanes() && is_short_run::<G>(entries.values, len, next, input);
+        self.decode_after_runs::<L, O, G>(is_short, next, input, output, stop)
     }
 
-    // What follows the first runs of a short text, of which the last has this length: blocks, if
-    // the next ones are short, then a group, which may be the last, and the remaining steps.
+    // What follows the first runs of a short text: blocks, if the last of these is short, then a
+    // group, which may be the last, and the remaining steps.
     // Not inlined, for the same reason.
     #[inline(never)]
     fn decode_after_runs<L: LookUp, O: ConstantOrder, G: GroupSize>(
         &self,
-        len: usize,
+        is_short: bool,
         at: Progress,
         input: &[u8],
         output: &mut [u8],
@@ -206,7 +230,7 @@ impl EncodingRef<'_> {
     {
         let values = &self.fields.values.entries;
         let mut at = at;
-        if has_lanes() && is_short_run::<G>(values, len, at, input) {
+        if is_short {
             at = self.decode_by_blocks::<L, O, G>(at, input, output);
         }
         match self.decode_next::<O, G>(self.fields.ignores, at, input, output, stop) {

@@ -128,13 +128,21 @@ impl EncodingRef<'_> {
     }
 }
 
-// Whether lines of this many bytes are encoded where they stand: those of at least eight groups. Of
-// nine to twelve groups of one bit a symbol, a second turn would write mostly what the first wrote.
+// Whether lines of this many bytes are encoded where they stand: those of eight groups, and longer
+// ones, but for a few groups more, of which a second turn would write mostly what the first wrote.
 #[inline(always)]
 fn are_long<G: GroupSize>(line_bytes: usize) -> bool
     ensures { IsTrue result → 8 * G.BYTES ≤ line_bytes }
 {
-    line_bytes / 8 >= G::BYTES && (G::WIDTH != 1 || line_bytes == 8 || line_bytes >= 13)
+    let groups = line_bytes / G::BYTES;
+    let least = match G::WIDTH {
+        1 => 13,
+        2 => 11,
+        3 => 10,
+        5 => 9,
+        _ => 12,
+    };
+    groups == 8 || groups >= least
 }
 
 // Writes the text in lines of `column` characters, the last of which may be shorter, each followed

@@ -1,6 +1,5 @@
 use Rattle.std.proofs.Common.{ℕ, sym, subst, length-drop, arith}
 use Rattle.data_encoding_meaning.specs.text.Base.{IsWidth}
-use Rattle.data_encoding_meaning.proofs.decoding.IgnoredFrontLemmas.{no_front}
 use Rattle.data_encoding_meaning.proofs.decoding.ProgressLemmas.{begin}
 use Rattle.data_encoding_meaning.proofs.digits.SizeLemmas.{bytes-are}
 use Rattle.data_encoding.proofs.decoding.StepLemmas.{decoded-after, under_way}
@@ -10,27 +9,19 @@ pub overflow_mul-BYTES : goal.overflow_mul-BYTES
 overflow_mul-BYTES g c =
     record { fits = omega (arith, bytes-are g.G.GroupSize.is_group, c.BYTES.ensures) }
 
-pub decode_one_run-at-requires-clause-at : goal.decode_one_run-at-requires-clause-at
-decode_one_run-at-requires-clause-at g c = record {
-  exact = c.requires.exact;
-  so_far = begin c.args.self.now (subst IsWidth (sym c.requires.coded.width_is)
-      g.G.GroupSize.is_group.is_width) c.args.input.now c.args.output.now;
-  front = no_front c.args.self.now c.args.input.now;
-}
-
 pub overflow_add-at : goal.overflow_add-at
 overflow_add-at g c =
-    let at = c.decode_one_run-at.ensures.reached in
+    let at = c.decode_first_run-at.ensures in
     record { fits = omega (arith, length-drop {A = ℕ}, at.front.within, at.so_far.within) }
 
 pub is_short_before-requires : goal.is_short_before-requires
 is_short_before-requires g c =
-    let at = c.decode_one_run-at.ensures.reached in
+    let at = c.decode_first_run-at.ensures in
     omega (arith, length-drop {A = ℕ}, at.front.within, at.so_far.within)
 
 pub returns-then-at-input : goal.returns-then-at-input
 returns-then-at-input g c =
-    let at = c.decode_one_run-at.ensures.reached in
+    let at = c.decode_first_run-at.ensures in
     decoded-after (under_way g.G.GroupSize.is_group c.requires.coded.width_is at.exact at.so_far)
     at.front (omega (arith, c.if-at-input.true))
 

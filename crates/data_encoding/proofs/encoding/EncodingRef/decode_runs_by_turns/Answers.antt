@@ -13,20 +13,21 @@ overflow_mul-SYMBOLS g c =
     }
 
 pub nonzero_rem-most : goal.nonzero_rem-most
-nonzero_rem-most g c = (IsWhole-same refl c.SYMBOLS-in-loop.ensures
+nonzero_rem-most g c = (IsWhole-same refl c.SYMBOLS-in-loop-index.ensures
     g.G.GroupSize.is_group).some_symbols
 
 pub decode_run_by_turns-next-requires : goal.decode_run_by_turns-next-requires
 decode_run_by_turns-next-requires g c =
     let size = g.G.GroupSize.SYMBOLS in
-    let left = length c.args.input.now - c.loop.at.read - c.loop.at.ignored in
-    let groups : left - left % c.SYMBOLS-in-loop.result ≡ left / size * size =
-    omega (arith, div-add-mod' left size, ap (λ n. left % n) c.SYMBOLS-in-loop.ensures) in
+    let at = c.loop-index.invariant.on.reached in
+    let left = length c.args.input.now - c.loop-index.at.read - c.loop-index.at.ignored in
+    let groups : left - left % c.SYMBOLS-in-loop-index.result ≡ left / size * size =
+    omega (arith, div-add-mod' left size, ap (λ n. left % n) c.SYMBOLS-in-loop-index.ensures) in
     record {
       entries = c.requires.entries;
-      at = c.loop.invariant.on.reached;
+      at = at;
       whole = rw groups (mul-mod_left (left / size) size);
-      most = omega (arith, length-drop {A = ℕ}, c.loop.invariant.on.reached.front.within);
+      most = omega (arith, length-drop {A = ℕ}, at.front.within);
     }
 
 pub decode_runs_like-at-requires : goal.decode_runs_like-at-requires
@@ -37,37 +38,29 @@ decode_runs_like-at-requires g c = record {
   few = omega arith;
 }
 
-pub loop-preserved : goal.loop-preserved
-loop-preserved g c =
-    let before = goes-further c.loop.invariant.on.further c.decode_run_by_turns-next.ensures.on in
+pub loop-index-preserved : goal.loop-index-preserved
+loop-index-preserved g c =
+    let before = goes-further c.loop-index.invariant.on.further
+    c.decode_run_by_turns-next.ensures.on in
     record { on = goes-further before.further c.decode_runs_like-at.ensures }
 
-pub returns-then-is_short_run : goal.returns-then-is_short_run
-returns-then-is_short_run g c =
-    goes-further c.loop.invariant.on.further c.decode_run_by_turns-next.ensures.on
+pub returns-after-loop-index : goal.returns-after-loop-index
+returns-after-loop-index g c = c.loop-index.invariant.on
 
-pub returns-then-len-eq0 : goal.returns-then-len-eq0
-returns-then-len-eq0 g c =
-    goes-further c.loop.invariant.on.further c.decode_run_by_turns-next.ensures.on
-
-pub returns-then-at-eq0-2 : goal.returns-then-at-eq0-2
-returns-then-at-eq0-2 g c =
-    let before = goes-further c.loop.invariant.on.further c.decode_run_by_turns-next.ensures.on in
-    goes-further before.further c.decode_runs_like-at.ensures
-
-pub returns-after-loop : goal.returns-after-loop
-returns-after-loop g c = c.loop.invariant.on
+pub is_padded_next-requires : goal.is_padded_next-requires
+is_padded_next-requires g c =
+    omega (arith, length-drop {A = ℕ}, c.decode_run_by_turns-next.ensures.on.reached.front.within)
 
 pub is_short_run-requires : goal.is_short_run-requires
 is_short_run-requires g c =
     omega (arith, length-drop {A = ℕ}, c.decode_run_by_turns-next.ensures.on.reached.front.within)
 
-pub overflow_sub-left-in-loop : goal.overflow_sub-left-in-loop
-overflow_sub-left-in-loop g c =
-    omega (arith, length-drop {A = ℕ}, c.loop.invariant.on.reached.front.within)
+pub overflow_sub-left-in-loop-index : goal.overflow_sub-left-in-loop-index
+overflow_sub-left-in-loop-index g c =
+    omega (arith, length-drop {A = ℕ}, c.loop-index.invariant.on.reached.front.within)
 
 pub overflow_sub-left : goal.overflow_sub-left
-overflow_sub-left g c = c.loop.invariant.on.reached.so_far.within
+overflow_sub-left g c = c.loop-index.invariant.on.reached.so_far.within
 
 pub overflow_sub-next : goal.overflow_sub-next
 overflow_sub-next g c = c.decode_run_by_turns-next.ensures.on.further

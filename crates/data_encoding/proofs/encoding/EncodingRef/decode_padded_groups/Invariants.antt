@@ -1,5 +1,5 @@
 use Rattle.data_encoding.specs.Progress.{GoesOn}
-use Rattle.data_encoding.proofs.encoding.EncodingRef.decode_padded.Given as goal
+use Rattle.data_encoding.proofs.encoding.EncodingRef.decode_padded_groups.Given as goal
 
 abbrev pub invariant-loop : goal.invariant-loop
 invariant-loop g l = record {
