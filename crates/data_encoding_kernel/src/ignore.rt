@@ -12,7 +12,6 @@ mod moves;
 
 use crate::ignore::moves::moves;
 use crate::lanes::affine::bits;
-use crate::lanes::look_up::LookUp;
 use crate::lanes::rows::in_row_16;
 use std::simd::prelude::*;
 
@@ -62,14 +61,14 @@ impl IgnoredBytes {
         kept_mask(self, u8x16::from_slice(part)).count_ones() as usize
     }
 
-    /// Returns whether one of sixteen bytes is neither ignored nor, by this look-up, a symbol.
+    /// Returns the bits of those of sixteen bytes that are not ignored, the first lowest.
     #[inline(always)]
-    pub fn has_others<L: LookUp>(&self, look_up: &L, part: &[u8]) -> bool
+    pub fn kept_bits(&self, part: &[u8]) -> u64
         requires { length part.now ≡ 16 }
+        ensures { result ≡ mask_l (map (λ byte. ignored_bit self.now byte == 0) part.now) }
     {
-        let bytes = u8x16::from_slice(part);
-        let are_symbols = look_up.look_up_16(bytes).simd_lt(u8x16::splat(128));
-        kept_mask(self, bytes) & !are_symbols.to_bitmask() != 0
+        let sixteen = u8x16::from_slice(part);
+        kept_mask(self, sixteen)
     }
 }
 

@@ -82,10 +82,7 @@ impl EncodingRef<'_> {
     {
         let ignored = IgnoredBytes::of(&self.fields.values.entries);
         let rest = &input[at.read + at.ignored..];
-        let part = &rest[..rest.len().min(FIRST_LEN)];
-        if begins_with_others(&ignored, &L::of(&self.fields.values), part)
-            || !has_gaps(&ignored, at.ignored.min(1), part)
-        {
+        if !has_gaps(&ignored, &rest[..rest.len().min(FIRST_LEN)]) {
             return at;
         }
         if rest.len() <= FIRST_LEN {
@@ -221,32 +218,20 @@ impl EncodingRef<'_> {
     }
 }
 
-// Whether a byte near the start of a part is neither a symbol nor ignored, so that a block may have
-// a fault there. A part of fewer than four sixteens is not looked at, since it takes little time.
+// Whether a part has at least two gaps of ignored bytes, and as many as blocks need to go on.
 #[inline(always)]
-fn begins_with_others<L: LookUp>(ignored: &IgnoredBytes, look_up: &L, part: &[u8]) -> bool
+fn has_gaps(ignored: &IgnoredBytes, part: &[u8]) -> bool
     requires few { length part.now ≤ FIRST_LEN }
 {
-    if part.len() < 64 {
-        return false;
-    }
-    ignored.has_others(look_up, &part[..16]) || ignored.has_others(look_up, &part[16..32])
-}
-
-// Whether as many sixteens of the part that the first block would have are with ignored bytes as
-// blocks need to go on. Those before it count as one more.
-#[inline(always)]
-fn has_gaps(ignored: &IgnoredBytes, before: usize, part: &[u8]) -> bool
-    requires before { before ≤ 1 }
-    requires few { length part.now ≤ FIRST_LEN }
-{
-    let mut mixed = before;
+    let mut gaps = 0;
+    let mut before = 1;
     for turn in 0..part.len() / 16 {
-        if ignored.count_kept(&part[16 * turn..16 * turn + 16]) < 16 {
-            mixed += 1;
-        }
+        let kept = ignored.kept_bits(&part[16 * turn..16 * turn + 16]);
+        let starts = !kept & (kept << 1 | before) & 0xffff;
+        gaps += starts.count_ones() as usize;
+        before = kept >> 15;
     }
-    mixed * MIXED >= part.len()
+    gaps >= 2 && gaps * MIXED >= part.len()
 }
 
 // Moves what is left of a block to the front of the room, and packs the next bytes of the text, as
