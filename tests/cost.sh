@@ -31,6 +31,10 @@ bounds='
 1.75 2.15 lines of 76 with CR LF
 1.65 2.10 lines of 60
 2.20 3.20 lines of 12
+2.20 3.20 lines of 16
+2.20 3.20 lines of 24
+2.20 3.20 base32 in lines of 16
+2.20 3.20 base32 in lines of 32
 2.30 3.25 lines of 50 to 76
 1.75 2.70 a space after each symbol
 2.10 3.05 a space after each 4 symbols

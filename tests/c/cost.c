@@ -33,6 +33,9 @@ static struct kind base64 = {
     4,
     {{0}, {0}},
 };
+static struct kind base32 = {
+    DE_BASE32, "ABCDEFGHIJKLMNOPQRSTUVWXYZ234567", "\n", 8, {{0}, {0}},
+};
 static struct kind hex = {DE_HEXUPPER, "0123456789ABCDEF", ":", 2, {{0}, {0}}};
 
 /* A text is made of parts: `part` appends the one that `turn` others come before. */
@@ -84,6 +87,21 @@ static void lines_of_60(size_t turn) {
 static void lines_of_12(size_t turn) {
     (void)turn;
     line(12, "\n");
+}
+
+static void lines_of_16(size_t turn) {
+    (void)turn;
+    line(16, "\n");
+}
+
+static void lines_of_24(size_t turn) {
+    (void)turn;
+    line(24, "\n");
+}
+
+static void lines_of_32(size_t turn) {
+    (void)turn;
+    line(32, "\n");
 }
 
 static void ragged_lines(size_t turn) {
@@ -193,6 +211,10 @@ static const struct row rows[] = {
     {"lines of 76 with CR LF", &base64, lines_of_76, DE_OK},
     {"lines of 60", &base64, lines_of_60, DE_OK},
     {"lines of 12", &base64, lines_of_12, DE_OK},
+    {"lines of 16", &base64, lines_of_16, DE_OK},
+    {"lines of 24", &base64, lines_of_24, DE_OK},
+    {"base32 in lines of 16", &base32, lines_of_16, DE_OK},
+    {"base32 in lines of 32", &base32, lines_of_32, DE_OK},
     {"lines of 50 to 76", &base64, ragged_lines, DE_OK},
     {"a space after each symbol", &base64, spaces_after_1, DE_OK},
     {"a space after each 4 symbols", &base64, spaces_after_4, DE_OK},
@@ -278,6 +300,7 @@ static void decode_row(const struct row *row, size_t wanted) {
 int main(int count, char **words) {
     int each;
     make_encoding(&base64);
+    make_encoding(&base32);
     make_encoding(&hex);
     for (each = 1; each < count; each++) {
         size_t wanted = strtoul(words[each], NULL, 10);

@@ -169,6 +169,7 @@ impl EncodingRef<'_> {
         Ok(unsafe { String::from_utf8_unchecked(output) })
     }
 
+    #[inline(always)]
     fn encode_by_width<G: GroupSize>(&self, input: &[u8], output: &mut [u8])
         requires fits { FitsText self.now G.WIDTH input.now output.old }
         ensures { output.new ≡ text_of self.now input.now }

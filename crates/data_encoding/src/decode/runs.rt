@@ -261,20 +261,22 @@ pub(crate) fn is_short_run<G: GroupSize>(
     requires { at.read + at.ignored ≤ length input.now }
 {
     if len > 0 && at.ignored > 0 {
+        let left = input.len() - at.read - at.ignored;
+        let gaps = if left >= MANY_LEFT { 0 } else { 1 };
         return is_short_before::<G>(len, at, input)
-            && (at.read >= NEAR_LEN || next_gaps(values, G::SYMBOLS, at, input) > 0);
+            && (at.read >= NEAR_LEN || has_next_gaps(values, G::SYMBOLS, gaps, at, input));
     }
     len < 16 * G::SYMBOLS && is_broken_next::<G>(values, len, at, input)
 }
 
-/// Returns whether a run of this many symbols has fewer than six groups, and enough bytes are left
-/// after it that the room of a block is worth its time.
+/// Returns whether a run of this many symbols is so short that a turn for each such run takes more
+/// time than a block, and enough bytes are left after it that the room of a block is worth it.
 #[inline(always)]
 pub(crate) fn is_short_before<G: GroupSize>(len: usize, at: Progress, input: &[u8]) -> bool
     requires { at.read + at.ignored ≤ length input.now }
 {
     let left = input.len() - at.read - at.ignored;
-    len < 6 * G::SYMBOLS && left > 12 * len
+    len < 3 * G::SYMBOLS + 16 && left > 12 * len
 }
 
 // Whether bytes are ignored within the next group, and so many more follow, also beside the length
@@ -289,28 +291,30 @@ fn is_broken_next<G: GroupSize>(values: &[u8; 256], len: usize, at: Progress, in
         return false;
     }
     if at.read < NEAR_LEN {
-        return next_gaps(values, G::SYMBOLS, at, input) > 1;
+        return has_next_gaps(values, G::SYMBOLS, 2, at, input);
     }
-    next_gaps(values, 1, at, input) > 0
+    has_next_gaps(values, 1, 1, at, input)
 }
 
-// How many gaps of ignored bytes there are among the next bytes, if so many of these are symbols
-// and all others are ignored; or else 0: a group that has padding or a byte without a meaning is
-// judged by itself.
+// Whether at least so many of the next bytes are symbols, and all others are ignored, in at least
+// so many gaps: a group that has padding or a byte without a meaning is judged by itself.
 #[inline(always)]
-fn next_gaps(values: &[u8; 256], least: usize, at: Progress, input: &[u8]) -> usize
+fn has_next_gaps(values: &[u8; 256], least: usize, gaps: usize, at: Progress, input: &[u8]) -> bool
     requires { at.read + at.ignored ≤ length input.now }
 {
     let rest = &input[at.read + at.ignored..];
     if rest.len() <= NEXT_LEN {
-        return 0;
+        return false;
     }
-    count_gaps(values, least, &rest[..NEXT_LEN])
+    match count_gaps(values, least, &rest[..NEXT_LEN]) {
+        Some(count) => count >= gaps,
+        None => false,
+    }
 }
 
 // How many gaps of ignored bytes there are, if there are so many symbols, and no other bytes.
 #[inline(never)]
-fn count_gaps(values: &[u8; 256], least: usize, part: &[u8]) -> usize {
+fn count_gaps(values: &[u8; 256], least: usize, part: &[u8]) -> Option<usize> {
     let mut gaps = 0;
     let mut symbols = 0;
     let mut in_gap = false;
@@ -323,10 +327,10 @@ fn count_gaps(values: &[u8; 256], least: usize, part: &[u8]) -> usize {
             gaps += if in_gap { 0 } else { 1 };
             in_gap = true;
         } else {
-            return 0;
+            return None;
         }
     }
-    if symbols >= least { gaps } else { 0 }
+    if symbols >= least { Some(gaps) } else { None }
 }
 
 // How many bytes are looked at before a block. With fewer bytes left none is worth its time.
@@ -334,3 +338,6 @@ const NEXT_LEN: usize = 16;
 
 // What is nearer to the start takes less time than a block.
 const NEAR_LEN: usize = 64;
+
+// With so many bytes left, a block is worth its time also if none of the next ones is ignored.
+const MANY_LEFT: usize = 128;
