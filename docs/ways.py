@@ -57,8 +57,8 @@ MIME = """
 SHORT = MIME + """
     decode_ignoring: decode_rest has_lanes is_short_run decode_after_runs    # The text is short,
     decode_first_run: entry_of progress_at                      # also for lanes.
-    is_short_run: is_short_before next_gaps                     # No run comes before the fault,
-    next_gaps: count_gaps                                       # and few bytes after it.
+    is_short_run: is_short_before has_next_gaps                 # No run comes before the fault,
+    has_next_gaps: count_gaps                                   # and few bytes after it.
     decode_after_runs: decode_rest progress_at is_run_next decode_after_group
     decode_by_few: entry_of decode_whole_turns
 """
