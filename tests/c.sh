@@ -226,6 +226,40 @@ is 'without rt' 'build.sh: no rt on the PATH: the toolchain of README.md has it'
     "$(without_rt crates/data_encoding_c/build.sh "$room/unbuilt" 2>&1)"
 is 'without rt: the status' 1 "$(without_rt status "$build" unbuilt)"
 is 'without rt: no folder' '' "$(find "$room" -name unbuilt)"
+
+# In a copy, with a stand-in for rt that notes what it is to build, and makes the library above of it.
+mkdir -p "$room/copy/crates" "$room/stand-in"
+cp -r crates/data_encoding_c crates.txt LICENSE "$room/copy"
+mv "$room/copy/data_encoding_c" "$room/copy/crates"
+rm -rf "$room/copy/crates/data_encoding_c/out"
+cat >"$room/stand-in/rt" <<END
+#!/bin/sh
+case \$1 in
+version) echo "kit \${KIT-1}" ;;
+lib)
+    echo "\$*" >>'$room/builds'
+    mkdir -p out
+    cp '$lib/libdata_encoding.a' out/libdata_encoding_c.a
+    ;;
+esac
+END
+chmod 755 "$room/stand-in/rt"
+
+# builds NAME WANTED [OPTION..]: as many builds are noted after build.sh with these options.
+builds() {
+    holds "builds $1" quietly env "PATH=$room/stand-in:$PATH" \
+        "$room/copy/crates/data_encoding_c/build.sh" "${@:3}" "$room/built"
+    is "how often, $1" "$2" "$(wc -l <"$room/builds")"
+}
+
+builds 'at first' 2
+builds 'again' 2
+is 'for which processors' $'lib --cpu=x86-64-v3\nlib' "$(cat "$room/builds")"
+builds 'for others' 3 --cpu x86-64-v2
+touch "$room/copy/crates/data_encoding_c/src/lib.rt"
+builds 'after a source has changed' 5
+KIT=2 builds 'by another kit' 7
+builds 'by the first kit again' 7
 is 'no words' 2 "$(status "$install")"
 is 'no folder' 2 "$(status "$install" "$lib")"
 is 'nothing to remove from' 2 "$(status "$install" --remove)"

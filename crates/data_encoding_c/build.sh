@@ -57,35 +57,48 @@ log=$(mktemp)
 room=$(mktemp -d)
 trap 'rm -rf "$room" "$log"' EXIT
 
-# build OPTION..: proves the library, and builds it in out/.
-build() {
-    rt lib ${triple:+"--target=$triple"} "$@" >"$log" 2>&1 && return
-    tail -n 20 "$log" >&2
-    echo 'the library was not proved' >&2
-    exit 1
+# archive CPU: prints the path of the proved half for these processors, or, if CPU is empty, for each
+# of the target. It is kept in out/, by the toolchain that made it, with the time at which that
+# began; where it is not there, or a source is newer, it is proved and built.
+archive() {
+    local made
+    made=out/archives/$(rt version | tr -c 'a-z0-9\n' -)/$arch${1:+-$1}.a
+    if [ ! -f "$made" ] || [ -n "$(find ../../crates.txt ../*/{src,specs,proofs} -newer "$made" \
+        -print -quit 2>/dev/null)" ]; then
+        touch "$room/begun"
+        if ! rt lib ${triple:+"--target=$triple"} ${1:+"--cpu=$1"} >"$log" 2>&1; then
+            tail -n 20 "$log" >&2
+            echo 'the library was not proved' >&2
+            exit 1
+        fi
+        mkdir -p "$(dirname "$made")"
+        touch -r "$room/begun" out/libdata_encoding_c.a
+        mv out/libdata_encoding_c.a "$made"
+    fi
+    realpath "$made"
 }
 
-# join_wide OBJECT: links what was built for x86-64-v3 into one object, which exports only the names
-# of glue/bytes.h, as de_wide_NAME.
+# join_wide ARCHIVE OBJECT: links what was built for x86-64-v3 into one object, which exports only
+# the names of glue/bytes.h, as de_wide_NAME.
 join_wide() {
     local name renamed=()
     for name in $(sed -n 's/^de_status CALL(\([a-z_]*\)).*/\1/p' glue/bytes.h); do
         renamed+=(--redefine-sym "de_$name=de_wide_$name")
     done
     mkdir "$room/wide"
-    (cd "$room/wide" && ar x "$OLDPWD/out/libdata_encoding_c.a" && ld -r -o ../joined.o ./*.o)
+    (cd "$room/wide" && ar x "$1" && ld -r -o ../joined.o ./*.o)
     objcopy "${renamed[@]}" "$room/joined.o" "$room/renamed.o"
-    objcopy -w --keep-global-symbol='de_wide_*' "$room/renamed.o" "$1"
+    objcopy -w --keep-global-symbol='de_wide_*' "$room/renamed.o" "$2"
     rm -r "$room/wide" "$room/joined.o" "$room/renamed.o"
 }
 
 wide=()
 if [ "$arch$cpu" = x86_64 ]; then
-    build --cpu=x86-64-v3
-    join_wide "$room/wide.o"
+    made=$(archive x86-64-v3)
+    join_wide "$made" "$room/wide.o"
     wide=(-DDE_WIDE)
 fi
-build ${cpu:+"--cpu=$cpu"}
+made=$(archive "$cpu")
 
 header=include/data_encoding.h
 version=$(sed -n 's/^#define DE_VERSION "\(.*\)"$/\1/p' "$header")
@@ -98,7 +111,7 @@ for source in glue/*.c; do
         -ffunction-sections -fdata-sections ${CFLAGS:-} ${wide[@]+"${wide[@]}"} -Iinclude \
         -c "$source" -o "$room/$(basename "$source" .c).o"
 done
-(cd "$room" && ar x "$OLDPWD/out/libdata_encoding_c.a")
+(cd "$room" && ar x "$made")
 rm -f "$target/libdata_encoding.a"
 ar crs "$target/libdata_encoding.a" "$room"/*.o
 # The proved half also has names that the header does not have; they are not exported.

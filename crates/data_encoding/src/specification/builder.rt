@@ -149,7 +149,7 @@ fn assembled(parts: &SpecificationParts<'_>, width: u8, meanings: Meanings) -> E
 }
 
 // The encoding that is built from the fields, or the first refusal.
-pub(crate) fn define(parts: &SpecificationParts<'_>) -> Result<Encoding, Refusal>
+pub(crate) fn build(parts: &SpecificationParts<'_>) -> Result<Encoding, Refusal>
     ensures is_built { IfOk result (λ base. base_of (fields_of_parts parts.now) ≡ Ok base) }
     ensures refused { IfErr result
         (λ refusal. base_of (fields_of_parts parts.now) ≡ Err refusal) }

@@ -9,7 +9,7 @@ ghost use Rattle.data_encoding_meaning.specs.specification.Layout.{layout, order
 
 use crate::encoding::{BitOrder, Encoding, EncodingRef, INVALID};
 use crate::plain::padding_of;
-use crate::specification::builder::define;
+use crate::specification::builder::build;
 use crate::specification::parts::SpecificationParts;
 use crate::specification::tables::{Tables, alphabet_len, character};
 use arrayvec::ArrayVec;
@@ -143,7 +143,7 @@ fn parse_layout(bytes: &[u8]) -> Option<Encoding>
         translate_from: translations.from.as_slice(),
         translate_to: translations.to.as_slice(),
     };
-    define(&parts).ok()
+    build(&parts).ok()
 }
 
 // The order of the bits, by the bit 8.

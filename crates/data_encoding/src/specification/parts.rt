@@ -6,7 +6,7 @@ ghost use Rattle.data_encoding.specs.Specification.{fields_of_parts, refusal_of}
 
 use crate::encoding::{BitOrder, Encoding};
 use crate::specification::SpecificationError;
-use crate::specification::builder::define;
+use crate::specification::builder::build;
 
 /// A specification of an encoding whose texts are borrowed bytes. It asks for an encoding as a
 /// [`Specification`](crate::Specification) does, but does not allocate.
@@ -53,7 +53,7 @@ impl SpecificationParts<'_> {
         ensures refused { IfErr result
             (λ error. base_of (fields_of_parts self.now) ≡ Err (refusal_of error)) }
     {
-        match define(self) {
+        match build(self) {
             Ok(encoding) => Ok(encoding),
             Err(refusal) => Err(SpecificationError { refusal }),
         }

@@ -78,7 +78,7 @@ fields-of_base c base read =
 pub returns-clause-base : goal.returns-clause-base
 unfolding fields
 returns-clause-base c =
-    rw c.ok.ensures.value (built-specified c.define.result (fields c) c.define.ensures.is_built)
+    rw c.ok.ensures.value (built-specified c.build.result (fields c) c.build.ensures.is_built)
 
 pub returns-clause-found : goal.returns-clause-found
 unfolding fields
@@ -87,5 +87,5 @@ returns-clause-found c = λ base is same.
     ap base_of (fields-of_base c base (read-layout base c.args.bytes.now is same))
     ∙ specification-again base is in
     c.ok.ensures.value
-    ∙ built-is c.define.result (fields c) base again c.define.ensures.is_built
-    c.define.ensures.refused
+    ∙ built-is c.build.result (fields c) base again c.build.ensures.is_built
+    c.build.ensures.refused
