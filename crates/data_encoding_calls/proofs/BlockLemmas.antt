@@ -40,17 +40,17 @@ module _ (base : Base) (kept : KeptData) (piece : List ℕ) (room : ℕ)
       (front_status (piece_text base kept piece) room) few
       ∙ if-short base kept (piece_status base kept piece room) short
 
--- how long the text of a piece is, of what is told of one by the same encoding, after the same
+-- how long the text of a piece is, by that of one by the same encoding, after the same
 pub due-len : {b base : Base} {k kept : KeptData} (piece : List ℕ) (due : ℕ) → b ≡ base → k ≡ kept
     → length (piece_text b k piece) ≡ due → length (piece_text base kept piece) ≡ due
-due-len piece due base_is kept_is told = let value = rw base_is at told in rw kept_is at value
+due-len piece due base_is kept_is len_is = let value = rw base_is at len_is in rw kept_is at value
 
--- how long the text of the held bytes is, of what is told of any as many
+-- how long the text of the held bytes is, by that of any as many
 pub last-len : (base : Base) (kept : KeptData) (len : ℕ) → kept.count ≤ length kept.bytes
     → ((bytes : List ℕ) → length bytes ≡ kept.count → length (text_of base bytes) ≡ len)
     → length (last_text base kept) ≡ len
-last-len base kept len few told =
-    told (held_data kept) (length-take-le kept.count kept.bytes few)
+last-len base kept len few text_len =
+    text_len (held_data kept) (length-take-le kept.count kept.bytes few)
 
 -- a piece of data that was refused
 pub refuses-data : (base : Base) (piece : List ℕ) (places : DataPlaces) (answer : ℕ)

@@ -18,26 +18,26 @@ use Rattle.data_encoding_calls.specs.Pieces.{fault_told, kept_told, kept_with, p
 use Rattle.data_encoding_calls.specs.Status.{ok, short_buffer, status_of_kind, too_long}
 
 -- if no decoder continues, it was given no text
-pub none-stands : (base : Base) (plain : PlainKept) (found : Option BufferDecoder)
+pub none-consumed : (base : Base) (plain : PlainKept) (found : Option BufferDecoder)
     → found ≡ None → ((text : List ℕ) → HasConsumed base plain text → IsSome found)
     → (text : List ℕ) → HasConsumed base plain text → ⊥
-none-stands base plain found is law text stands =
-    let none : IsSome {T = BufferDecoder} None = subst IsSome is (law text stands) in
+none-consumed base plain found is law text consumed =
+    let none : IsSome {T = BufferDecoder} None = subst IsSome is (law text consumed) in
     absurd (cc none)
 
 one-kept : {a b : Kept} → Some a ≡ Some b → a ≡ b
 one-kept is = cc
 
 -- the length of the text that the numbers describe
-told-by : (plain : PlainKept) (fault : Option (Option DecodeError)) (kept : Kept)
+kept-with-len : (plain : PlainKept) (fault : Option (Option DecodeError)) (kept : Kept)
     → kept_with plain fault ≡ Some kept → kept.len ≡ plain.len
-told-by plain None kept told = absurd (cc told)
-told-by plain (Some fault) kept told = ap (λ k. k.len) (sym (one-kept told))
+kept-with-len plain None kept is_kept = absurd (cc is_kept)
+kept-with-len plain (Some fault) kept is_kept = ap (λ k. k.len) (sym (one-kept is_kept))
 
-pub told-len : (plain : PlainKept) (kept : Kept) → kept_told plain ≡ Some kept
+pub kept-len : (plain : PlainKept) (kept : Kept) → kept_told plain ≡ Some kept
     → kept.len ≡ plain.len
-told-len plain kept told =
-    told-by plain (fault_told plain.fault plain.fault_position) kept told
+kept-len plain kept is_kept =
+    kept-with-len plain (fault_told plain.fault plain.fault_position) kept is_kept
 
 -- the position of a fault, if a clause says that it is in the text
 pub fault-inside : (len : ℕ) (verdict : Result (Unit {0}) DecodeError) (error : DecodeError)
@@ -46,12 +46,12 @@ fault-inside len verdict error is inside =
     subst (λ v. IfErr v (λ e. e.position < len)) is inside
 
 -- a decoder that continues keeps what the caller does
-pub stands-kept : (base : Base) (plain : PlainKept) (kept : Kept) (text : List ℕ)
-    → kept_told plain ≡ Some kept → (stands : HasConsumed base plain text)
-    → (stands.kept ≡ kept) × Keeps base kept text
-stands-kept base plain kept text told stands =
-    let same : stands.kept ≡ kept = one-kept (sym stands.told ∙ told) in
-    (same, subst (λ k. Keeps base k text) same stands.keeps)
+pub consumed-kept : (base : Base) (plain : PlainKept) (kept : Kept) (text : List ℕ)
+    → kept_told plain ≡ Some kept → (consumed : HasConsumed base plain text)
+    → (consumed.kept ≡ kept) × Keeps base kept text
+consumed-kept base plain kept text is_kept consumed =
+    let same : consumed.kept ≡ kept = one-kept (sym consumed.told ∙ is_kept) in
+    (same, subst (λ k. Keeps base k text) same consumed.keeps)
 
 -- a piece for which there is room
 pub piece-fits : (base : Base) (kept : Kept) (len room : ℕ)
@@ -85,8 +85,8 @@ piece-short base kept len room few misses =
 -- a piece that was refused
 pub refuses : (base : Base) (piece : List ℕ) (places : Places) (answer : ℕ)
     → (answer ≡ ok → ⊥)
-    → ((text : List ℕ) (stands : HasConsumed base places.decoder text)
-    → answer ≡ piece_status base stands.kept (length piece) (length places.output))
+    → ((text : List ℕ) (consumed : HasConsumed base places.decoder text)
+    → answer ≡ piece_status base consumed.kept (length piece) (length places.output))
     → ReadsPiece base piece places places answer
 refuses base piece places answer refused status = record {
   status = status;
@@ -101,14 +101,14 @@ refuses base piece places answer refused status = record {
 -- what a verdict says about the fault
 pub fault-none : (fault : Option DecodeError) (verdict : Result (Unit {0}) DecodeError)
     (nothing : Unit {0}) → verdict ≡ Ok nothing → verdict ≡ verdict_of fault → fault ≡ None
-fault-none None verdict nothing is told = refl
-fault-none (Some error) verdict nothing is told = absurd (cc (is, told))
+fault-none None verdict nothing is judged = refl
+fault-none (Some error) verdict nothing is judged = absurd (cc (is, judged))
 
 pub fault-some : (fault : Option DecodeError) (verdict : Result (Unit {0}) DecodeError)
     (error : DecodeError) → verdict ≡ Err error → verdict ≡ verdict_of fault
     → fault ≡ Some error
-fault-some None verdict error is told = absurd (cc (is, told))
-fault-some (Some other) verdict error is told = cc (is, told)
+fault-some None verdict error is judged = absurd (cc (is, judged))
+fault-some (Some other) verdict error is judged = cc (is, judged)
 
 pub one-error : {a b : DecodeError} → Some a ≡ Some b → a ≡ b
 one-error is = cc
@@ -118,14 +118,14 @@ no-error is = absurd (cc is)
 
 -- a faulty text has a status of its own
 pub kind-own : (kind : DecodeKind) (n : ℕ) → (n ≡ 19) ⊎ (n ≡ 4) → status_of_kind kind ≡ n → ⊥
-kind-own Length n (inl is) told = absurd (omega (arith, is, told))
-kind-own Length n (inr is) told = absurd (omega (arith, is, told))
-kind-own Symbol n (inl is) told = absurd (omega (arith, is, told))
-kind-own Symbol n (inr is) told = absurd (omega (arith, is, told))
-kind-own Trailing n (inl is) told = absurd (omega (arith, is, told))
-kind-own Trailing n (inr is) told = absurd (omega (arith, is, told))
-kind-own Padding n (inl is) told = absurd (omega (arith, is, told))
-kind-own Padding n (inr is) told = absurd (omega (arith, is, told))
+kind-own Length n (inl is) status_is = absurd (omega (arith, is, status_is))
+kind-own Length n (inr is) status_is = absurd (omega (arith, is, status_is))
+kind-own Symbol n (inl is) status_is = absurd (omega (arith, is, status_is))
+kind-own Symbol n (inr is) status_is = absurd (omega (arith, is, status_is))
+kind-own Trailing n (inl is) status_is = absurd (omega (arith, is, status_is))
+kind-own Trailing n (inr is) status_is = absurd (omega (arith, is, status_is))
+kind-own Padding n (inl is) status_is = absurd (omega (arith, is, status_is))
+kind-own Padding n (inr is) status_is = absurd (omega (arith, is, status_is))
 
 -- no fault has the status of none
 pub kind-faulty : (kind : DecodeKind) → status_of_kind kind ≡ ok → ⊥
@@ -177,7 +177,8 @@ pub record EndsKept (base : Base) (plain : PlainKept) (old new : List ℕ) (read
   pub len : length new ≡ length old
 
 -- what a decoder that keeps these numbers makes of the text
-module _ {base : Base} {plain : PlainKept} {kept : Kept} (told : kept_told plain ≡ Some kept) where
+module _ {base : Base} {plain : PlainKept} {kept : Kept}
+    (is_kept : kept_told plain ≡ Some kept) where
   pub ended : (last : List ℕ) {copied output : List ℕ} {read written : ℕ}
       {verdict : Result (Unit {0}) DecodeError}
       → ((text : List ℕ) → Keeps base kept text → verdict ≡ verdict_of (fault_of base text))
@@ -188,12 +189,13 @@ module _ {base : Base} {plain : PlainKept} {kept : Kept} (told : kept_told plain
   ended last {copied} {output} {read} {written} judged bytes few inside is counted =
       let front = copied-front written last copied output few inside is in
       record {
-        verdict_is = λ text stands. judged text (stands-kept base plain kept text told stands).1;
-        bytes = λ text stands.
-            bytes text (stands-kept base plain kept text told stands).1
+        verdict_is = λ text consumed.
+            judged text (consumed-kept base plain kept text is_kept consumed).1;
+        bytes = λ text consumed.
+            bytes text (consumed-kept base plain kept text is_kept consumed).1
             ∙ ap (λ more. whole_bytes base text ++ more) (sym front.front);
-        read_is = λ text stands.
-            counted ∙ (stands-kept base plain kept text told stands).1.counted;
+        read_is = λ text consumed.
+            counted ∙ (consumed-kept base plain kept text is_kept consumed).1.counted;
         within = front.within;
         after = front.after;
         len = front.len;

@@ -170,17 +170,17 @@ most_told = (
   },
 )
 
-abbrev told : ℕ → ℕ → ℕ → Decoded
-told read written position = record { read = read; written = written; position = position }
+abbrev counts : ℕ → ℕ → ℕ → Decoded
+counts read written position = record { read = read; written = written; position = position }
 
 -- a text that means data, where there is no room for the data, and where there is
 text_decoded :
     Has base64_fields (λ base.
-    Decodes base (codes "SGVsbG8=") (codes ".....") (codes ".....") (told 7 7 7) (told 7 7 7)
+    Decodes base (codes "SGVsbG8=") (codes ".....") (codes ".....") (counts 7 7 7) (counts 7 7 7)
     short_buffer
     × (Means base (codes "SGVsbG8=") (codes "Hello")
-    → Decodes base (codes "SGVsbG8=") (codes "......") (codes "Hello.") (told 7 7 7) (told 8 5 8)
-    ok))
+    → Decodes base (codes "SGVsbG8=") (codes "......") (codes "Hello.") (counts 7 7 7)
+    (counts 8 5 8) ok))
 text_decoded = (
   record {
     status = refl;
@@ -218,14 +218,15 @@ text_decoded = (
 -- a text that has a fault by its length
 refused_by_length :
     Has base64_fields (λ base.
-    Decodes base (codes "SGVsbG8") (codes "......") (codes "......") (told 7 7 7) (told 0 0 4) 6)
+    Decodes base (codes "SGVsbG8") (codes "......") (codes "......") (counts 7 7 7)
+    (counts 0 0 4) 6)
 refused_by_length = record {
   status = refl;
   means = λ is. absurd (cc is);
   all = λ is. absurd (cc is);
   end = λ is. absurd (cc is);
   refused = λ is. absurd (not_refused is);
-  by_length = λ error few is. (refl, ap (told 0 0) (ap position_of is));
+  by_length = λ error few is. (refl, ap (counts 0 0) (ap position_of is));
   fault = λ partial most few short due. absurd (never-ok due);
   within = inr (lit≤ tt);
   after = λ most is. refl;
@@ -239,7 +240,7 @@ partial_at_4 = record { read = 4; written = 3; error = symbol_at_4 }
 
 -- a text with a fault, of which the first group was decoded
 stopped_at_4 : (base : Base) → Means base (codes "SGVs") (codes "Hel")
-    → HasStopped base (codes "SGVs!G8=") (codes "Hel...") partial_at_4 (told 4 3 4)
+    → HasStopped base (codes "SGVs!G8=") (codes "Hel...") partial_at_4 (counts 4 3 4)
 stopped_at_4 base means = record { read = refl; written = refl; position = refl; means = means }
 
 -- an encoding that is canonical
@@ -479,7 +480,7 @@ numbers_given = (
   λ given. absurd (cc given.told),
 )
 
--- the decoder of a caller that was told that text
+-- the decoder of a caller that was given that text
 decoder_stands :
     Has base64_mime_fields (λ base.
     HasConsumed base plain_so_far (codes "SGVsbG" ++ 13 ∷ 10 ∷ []))
@@ -505,9 +506,9 @@ same-kept is = cc
 room_by : (base : Base) → most_completed base kept_so_far 5 ≡ 3
     → TellsRoom base plain_so_far 5 7 3 ok
 room_by base most = record {
-  status = λ text stands. ap (λ kept. length_status kept 5) (same-kept stands.told);
-  value = λ _ text stands.
-      sym most ∙ ap (λ kept. most_completed base kept 5) (same-kept stands.told);
+  status = λ text consumed. ap (λ kept. length_status kept 5) (same-kept consumed.told);
+  value = λ _ text consumed.
+      sym most ∙ ap (λ kept. most_completed base kept 5) (same-kept consumed.told);
   refused = λ no. absurd (no refl);
 }
 
@@ -529,15 +530,15 @@ places_so_far written = record {
 no_piece_read : (base : Base) → piece_status base kept_so_far 0 3 ≡ ok
     → ReadsPiece base [] (places_so_far 7) (places_so_far 0) ok
 no_piece_read base fits = record {
-  status = λ text stands.
-      sym fits ∙ ap (λ kept. piece_status base kept 0 3) (same-kept stands.told);
-  stands = λ _ text stands.
-      subst (λ those. HasConsumed base plain_so_far those) (sym (append-nil text)) stands;
-  decodes = λ _ text stands.
+  status = λ text consumed.
+      sym fits ∙ ap (λ kept. piece_status base kept 0 3) (same-kept consumed.told);
+  stands = λ _ text consumed.
+      subst (λ those. HasConsumed base plain_so_far those) (sym (append-nil text)) consumed;
+  decodes = λ _ text consumed.
       ap (λ those. whole_bytes base those) (append-nil text)
       ∙ sym (append-nil (whole_bytes base text));
   within = λ _. lit≤ tt;
-  after = λ _ text stands. refl;
+  after = λ _ text consumed. refl;
   len = refl;
   refused = λ no. absurd (no refl);
 }
@@ -549,10 +550,11 @@ piece_read = no_piece_read _ refl
 -- numbers that are refused, by a piece and at the end
 numbers_refused : (base : Base)
     → ReadsPiece base (codes "8=") places_of_none places_of_none no_decoder
-    × EndsText base plain_of_none (codes "...") (codes "...") (told 7 7 7) (told 7 7 7) no_decoder
+    × EndsText base plain_of_none (codes "...") (codes "...") (counts 7 7 7) (counts 7 7 7)
+    no_decoder
 numbers_refused base = (
   record {
-    status = λ text stands. absurd (cc stands.told);
+    status = λ text consumed. absurd (cc consumed.told);
     stands = λ is. absurd (cc is);
     decodes = λ is. absurd (cc is);
     within = λ is. absurd (cc is);
@@ -561,15 +563,15 @@ numbers_refused base = (
     refused = λ _. refl;
   },
   record {
-    verdict = λ _ text stands. absurd (cc stands.told);
-    bytes = λ _ text stands. absurd (cc stands.told);
-    position = λ _ text error stands. absurd (cc stands.told);
-    read = λ _ text stands. absurd (cc stands.told);
+    verdict = λ _ text consumed. absurd (cc consumed.told);
+    bytes = λ _ text consumed. absurd (cc consumed.told);
+    position = λ _ text error consumed. absurd (cc consumed.told);
+    read = λ _ text consumed. absurd (cc consumed.told);
     end = λ is. absurd (cc is);
     given = λ no. absurd (no refl);
     counted = λ no. absurd (no refl);
     inside = λ no. absurd (no refl);
-    within = λ _ text stands. absurd (cc stands.told);
+    within = λ _ text consumed. absurd (cc consumed.told);
     after = refl;
     len = refl;
     short = λ is. absurd (cc is);
@@ -655,9 +657,9 @@ twelve = record { fields = base64_fields; is_known = refl; is_built = refl }
 
 done_by_number :
     EncodesByNumber 12 (codes "Hello") (codes "..........") (codes "SGVsbG8=..") 7 8 ok
-    × DecodesByNumber 12 (codes "SGVsbG8=") (codes ".....") (codes ".....") (told 7 7 7)
-    (told 7 7 7) short_buffer
-    × EndsTextByNumber 12 plain_of_none (codes "...") (codes "...") (told 7 7 7) (told 7 7 7)
+    × DecodesByNumber 12 (codes "SGVsbG8=") (codes ".....") (codes ".....") (counts 7 7 7)
+    (counts 7 7 7) short_buffer
+    × EndsTextByNumber 12 plain_of_none (codes "...") (codes "...") (counts 7 7 7) (counts 7 7 7)
     no_decoder
     × EndsDataByNumber 12 whole_block (codes "....") (codes "....") 7 7 no_encoder
     × ReadsPieceByNumber 12 (codes "8=") plain_of_none plain_of_none (codes "...") (codes "...")
@@ -666,10 +668,10 @@ done_by_number :
 done_by_number = (
   by-known (λ base. Encodes base (codes "Hello") (codes "..........") (codes "SGVsbG8=..") 7 8 ok)
       twelve hello_encoded,
-  by-known (λ base. Decodes base (codes "SGVsbG8=") (codes ".....") (codes ".....") (told 7 7 7)
-      (told 7 7 7) short_buffer) twelve text_decoded.0,
-  by-known (λ base. EndsText base plain_of_none (codes "...") (codes "...") (told 7 7 7)
-      (told 7 7 7) no_decoder) twelve (numbers_refused _).1,
+  by-known (λ base. Decodes base (codes "SGVsbG8=") (codes ".....") (codes ".....") (counts 7 7 7)
+      (counts 7 7 7) short_buffer) twelve text_decoded.0,
+  by-known (λ base. EndsText base plain_of_none (codes "...") (codes "...") (counts 7 7 7)
+      (counts 7 7 7) no_decoder) twelve (numbers_refused _).1,
   by-known (λ base. EndsData base whole_block (codes "....") (codes "....") 7 7 no_encoder)
       twelve data_refused.2,
   by-known (λ base. ReadsPiece base (codes "8=") places_of_none places_of_none no_decoder)
@@ -763,9 +765,9 @@ text_length_told :
     × (TellsTextLength base 5 7 new ok → new ≡ 8)
     × (TellsTextLength base 36028797018963968 7 new too_long → new ≡ 7))
 text_length_told new answer = (
-  λ tells. tells.status,
-  λ tells. sym (tells.text_length refl (codes "Hello") refl),
-  λ tells. tells.refused never-three,
+  λ it. it.status,
+  λ it. sym (it.text_length refl (codes "Hello") refl),
+  λ it. it.refused never-three,
 )
 
 text_encoded_told :
@@ -788,10 +790,10 @@ most_bytes_told :
     × (TellsMost base 7 9 new 6 → new ≡ 4)
     × (TellsMost base 2305843009213693952 7 new too_long → new ≡ 7))
 most_bytes_told new answer = (
-  λ tells. tells.status,
-  λ tells. sym (same-most (tells.value refl)),
-  λ tells. tells.fault (record { position = 4; kind = Length }) refl never-six,
-  λ tells. tells.refused refl,
+  λ it. it.status,
+  λ it. sym (same-most (it.value refl)),
+  λ it. it.fault (record { position = 4; kind = Length }) refl never-six,
+  λ it. it.refused refl,
 )
 
 -- where a decoding stopped, and what was read means what was written
@@ -806,18 +808,18 @@ stopped_told base text output decoded stopped =
 -- with a fault of its length, and of one that stopped at a fault
 decoding_told :
     Has base64_fields (λ base. (output : List ℕ) (decoded : Decoded) (answer : ℕ)
-    → (Decodes base (codes "SGVsbG8=") (codes "......") output (told 7 7 7) decoded answer
+    → (Decodes base (codes "SGVsbG8=") (codes "......") output (counts 7 7 7) decoded answer
     → answer ≡ ok)
-    × (Decodes base (codes "SGVsbG8=") (codes "......") output (told 7 7 7) decoded ok
+    × (Decodes base (codes "SGVsbG8=") (codes "......") output (counts 7 7 7) decoded ok
     → Means base (codes "SGVsbG8=") (take decoded.written output) × (decoded.read ≡ 8)
     × (decoded.position ≡ 8))
-    × (Decodes base (codes "SGVsbG8=") (codes ".....") output (told 7 7 7) decoded short_buffer
-    → (output ≡ codes ".....") × (decoded ≡ told 7 7 7))
-    × (Decodes base (codes "SGVsbG8") (codes "......") output (told 7 7 7) decoded 6
-    → (output ≡ codes "......") × (decoded ≡ told 0 0 4))
-    × (Decodes base (codes "SGVs!G8=") (codes "......") output (told 7 7 7) decoded 7
+    × (Decodes base (codes "SGVsbG8=") (codes ".....") output (counts 7 7 7) decoded short_buffer
+    → (output ≡ codes ".....") × (decoded ≡ counts 7 7 7))
+    × (Decodes base (codes "SGVsbG8") (codes "......") output (counts 7 7 7) decoded 6
+    → (output ≡ codes "......") × (decoded ≡ counts 0 0 4))
+    × (Decodes base (codes "SGVs!G8=") (codes "......") output (counts 7 7 7) decoded 7
     → HasStopped base (codes "SGVs!G8=") output partial_at_4 decoded)
-    × (Decodes base (codes "SGVsbG8=") (codes "........") output (told 7 7 7) decoded ok
+    × (Decodes base (codes "SGVsbG8=") (codes "........") output (counts 7 7 7) decoded ok
     → drop 6 output ≡ codes ".."))
 decoding_told output decoded answer = (
   λ done. done.status,
@@ -830,9 +832,9 @@ decoding_told output decoded answer = (
 
 -- no more was written than the output has, if anything was
 within_told : (base : Base) (text : List ℕ) (answer : ℕ)
-    → Decodes base text [] [] (told 7 7 7) (told 8 1 8) answer → ⊥
+    → Decodes base text [] [] (counts 7 7 7) (counts 8 1 8) answer → ⊥
 within_told base text answer done = none done.within where
-  none : (told 8 1 8 ≡ told 7 7 7) ⊎ (1 ≤ 0) → ⊥
+  none : (counts 8 1 8 ≡ counts 7 7 7) ⊎ (1 ≤ 0) → ⊥
   none (inl is) =
       let eight : ◌≡◌ {A = ℕ} 8 7 = ap (λ decoded. decoded.read) is in
       omega (arith, eight)
@@ -842,8 +844,8 @@ canonical_is_told : (base : Base) (answer : ℕ)
     → (TellsCanonical base true answer → (answer ≡ ok) × IsCanonical base)
     × (TellsCanonical base false answer → IsCanonical base → ⊥)
 canonical_is_told base answer = (
-  λ tells. (tells.status, tells.is_canonical.0 refl),
-  λ tells canonical. false≢true (tells.is_canonical.1 canonical),
+  λ it. (it.status, it.is_canonical.0 refl),
+  λ it canonical. false≢true (it.is_canonical.1 canonical),
 )
 
 -- 12 is known, and 18 is not
@@ -858,7 +860,7 @@ facts_are_told :
     → (TellsAlignment base new answer → (answer ≡ ok) × (new ≡ 57))
     × (TellsWidth base new answer → (answer ≡ ok) × (new ≡ 6)))
 facts_are_told new answer =
-    (λ tells. (tells.status, tells.value), λ tells. (tells.status, tells.value))
+    (λ it. (it.status, it.value), λ it. (it.status, it.value))
 
 -- what is asked for has these fields, and these are the lengths of its texts
 asked_told : (form : Form) (lengths : TextLengths) → AsksFor base64_fields form lengths
@@ -924,15 +926,15 @@ given_told base given = (sym (same-kept given.told), given.passes)
 abbrev plain_of_fault : PlainKept
 plain_of_fault = record plain_so_far { fault = 7; fault_position = 4 }
 
--- eight bytes were told, within the limit; after a fault nothing is held
+-- eight bytes were read, within the limit; after a fault nothing is held
 stands_told : (base : Base) (text : List ℕ)
-    → ((stands : HasConsumed base plain_so_far text) → (stands.kept ≡ kept_so_far)
-    × (stands.kept.len ≡ length text) × (length text ≤ 2305843009213693951))
+    → ((consumed : HasConsumed base plain_so_far text) → (consumed.kept ≡ kept_so_far)
+    × (consumed.kept.len ≡ length text) × (length text ≤ 2305843009213693951))
     × (HasConsumed base plain_of_fault text → ⊥)
 stands_told base text = (
-  λ stands. (sym (same-kept stands.told), stands.keeps.counted, stands.limit),
-  λ stands. two-zero (subst (λ kept. IsSome kept.fault → kept.count ≡ 0)
-      (sym (same-kept stands.told)) stands.clear refl),
+  λ consumed. (sym (same-kept consumed.told), consumed.keeps.counted, consumed.limit),
+  λ consumed. two-zero (subst (λ kept. IsSome kept.fault → kept.count ≡ 0)
+      (sym (same-kept consumed.told)) consumed.clear refl),
 ) where
   two-zero : ◌≡◌ {A = ℕ} 2 0 → ⊥
   two-zero is = omega (arith, is)
@@ -944,9 +946,9 @@ room_is_told :
     × (TellsRoom base plain_of_none 5 7 new no_decoder → new ≡ 7))
 unfolding decoder_stands
 room_is_told new answer = (
-  λ tells. tells.status _ decoder_stands,
-  λ tells. tells.value refl _ decoder_stands,
-  λ tells. tells.refused never-nineteen,
+  λ it. it.status _ decoder_stands,
+  λ it. it.value refl _ decoder_stands,
+  λ it. it.refused never-nineteen,
 )
 
 -- `8=` ends the group that is held, and means `lo` with it
@@ -973,7 +975,7 @@ piece_told new answer = (
 
 abbrev Ends : Base → List ℕ → Decoded → ℕ → Type 0
 Ends base output decoded answer =
-    EndsText base plain_so_far (codes ".....") output (told 7 7 7) decoded answer
+    EndsText base plain_so_far (codes ".....") output (counts 7 7 7) decoded answer
 
 -- `SGVsbG` CR LF has a fault of its length at 4, and its last group no bytes
 verdict_told :
@@ -991,14 +993,14 @@ verdict_told output decoded answer = (
   ),
 )
 
--- of whatever was told
+-- of whatever was given
 end_told : (base : Base) (output : List ℕ) (decoded : Decoded)
     → (Ends base output decoded ok → decoded.position ≡ decoded.read)
     × (Ends base output decoded 6 → MayBeGiven base plain_so_far × (decoded.read ≡ 8)
     × (decoded.position < decoded.read) × (length output ≡ 5)
     × (drop decoded.written output ≡ drop decoded.written (codes ".....")))
     × (Ends base output decoded short_buffer → ⊥)
-    × (Ends base output decoded no_decoder → (output ≡ codes ".....") × (decoded ≡ told 7 7 7))
+    × (Ends base output decoded no_decoder → (output ≡ codes ".....") × (decoded ≡ counts 7 7 7))
 end_told base output decoded = (
   λ ends. ends.end refl,
   λ ends. (
@@ -1019,9 +1021,9 @@ due_is_told :
     × (TellsDue base data_so_far 2 7 new ok → new ≡ 4)
     × (TellsDue base whole_block 2 7 new no_encoder → new ≡ 7))
 due_is_told new answer = (
-  λ tells. tells.status,
-  λ tells. sym (tells.value refl (codes "w!") refl),
-  λ tells. tells.refused never-twenty,
+  λ it. it.status,
+  λ it. sym (it.value refl (codes "w!") refl),
+  λ it. it.refused never-twenty,
 )
 
 data_read_told :

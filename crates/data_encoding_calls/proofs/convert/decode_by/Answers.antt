@@ -35,11 +35,11 @@ returns-in-Err-decode_mut-clause-within c =
 pub returns-in-Err-decode_mut-clause-fault : goal.returns-in-Err-decode_mut-clause-fault
 returns-in-Err-decode_mut-clause-fault c = λ partial most long short due is.
     let base = c.args.encoding.now in
-    let told = c.in-Err-decode_mut.partial in
+    let returned = c.in-Err-decode_mut.partial in
     let new = c.decode_mut.new.output in
-    let same : told ≡ partial = some-one (sym c.in-Err-decode_mut.ensures.fault ∙ is) in
+    let same : returned ≡ partial = some-one (sym c.in-Err-decode_mut.ensures.fault ∙ is) in
     let fits =
-    front-fits base told.read told.written (length c.args.input.now) c.in-Ok.most
+    front-fits base returned.read returned.written (length c.args.input.now) c.in-Ok.most
     (omega (arith, c.in-Err-decode_mut.ensures.bounds.0, c.in-Err-decode_mut.ensures.bounds.1))
     (sym c.decode_len.ensures.value ∙ c.in-Ok.is) c.in-Err-decode_mut.ensures.most in
     let all =
@@ -49,8 +49,8 @@ returns-in-Err-decode_mut-clause-fault c = λ partial most long short due is.
       written = ap (λ p. p.written) same;
       position = ap (λ p. p.error.position) same;
       means =
-          subst (λ bytes. Means base (take told.read c.args.input.now) bytes)
-          (sym (take-append-le told.written new (drop c.in-Ok.most c.args.output.now)
+          subst (λ bytes. Means base (take returned.read c.args.input.now) bytes)
+          (sym (take-append-le returned.written new (drop c.in-Ok.most c.args.output.now)
           (omega (arith, fits, all, c.decode_mut.ensures.len))))
           c.in-Err-decode_mut.ensures.partial;
     }

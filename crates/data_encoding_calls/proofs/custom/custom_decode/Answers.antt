@@ -4,19 +4,19 @@ use Rattle.data_encoding_calls.proofs.custom.custom_decode.Goals as goal
 
 pub returns : goal.returns
 returns c =
-    let told = c.decode_by.ensures in
+    let ensured = c.decode_by.ensures in
     subst
     (λ b. Decodes b c.args.input.now c.args.output.now c.decode_by.new.output
     c.args.decoded.now c.decode_by.new.decoded c.decode_by.result)
     c.by_ref.ensures
     (record {
-      status = told.status;
-      means = told.means;
-      all = told.all;
-      end = told.end;
-      refused = told.refused;
-      by_length = told.by_length;
-      fault = told.fault;
-      within = told.within;
-      after = told.after;
+      status = ensured.status;
+      means = ensured.means;
+      all = ensured.all;
+      end = ensured.end;
+      refused = ensured.refused;
+      by_length = ensured.by_length;
+      fault = ensured.fault;
+      within = ensured.within;
+      after = ensured.after;
     })

@@ -4,13 +4,13 @@ use Rattle.data_encoding_calls.proofs.custom.custom_decode_len.Goals as goal
 
 pub returns : goal.returns
 returns c =
-    let told = c.decode_len_by.ensures in
+    let ensured = c.decode_len_by.ensures in
     subst
     (λ b. TellsMost b c.args.len c.args.most.now c.decode_len_by.new.most c.decode_len_by.result)
     c.by_ref.ensures
     (record {
-      status = told.status;
-      value = told.value;
-      fault = told.fault;
-      refused = told.refused;
+      status = ensured.status;
+      value = ensured.value;
+      fault = ensured.fault;
+      refused = ensured.refused;
     })

@@ -4,14 +4,14 @@ use Rattle.data_encoding_calls.proofs.custom.custom_encode.Goals as goal
 
 pub returns : goal.returns
 returns c =
-    let told = c.encode_by.ensures in
+    let ensured = c.encode_by.ensures in
     subst
     (λ b. Encodes b c.args.input.now c.args.output.now c.encode_by.new.output
     c.args.written.now c.encode_by.new.written c.encode_by.result)
     c.by_ref.ensures
     (record {
-      status = told.status;
-      text = told.text;
-      written = told.written;
-      refused = told.refused;
+      status = ensured.status;
+      text = ensured.text;
+      written = ensured.written;
+      refused = ensured.refused;
     })

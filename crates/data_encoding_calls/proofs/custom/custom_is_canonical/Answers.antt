@@ -4,11 +4,11 @@ use Rattle.data_encoding_calls.proofs.custom.custom_is_canonical.Goals as goal
 
 pub returns : goal.returns
 returns c =
-    let told = c.is_canonical_by.ensures in
+    let ensured = c.is_canonical_by.ensures in
     subst
     (λ b. TellsCanonical b c.is_canonical_by.new.answer c.is_canonical_by.result)
     c.by_ref.ensures
     (record {
-      status = told.status;
-      is_canonical = told.canonical;
+      status = ensured.status;
+      is_canonical = ensured.canonical;
     })

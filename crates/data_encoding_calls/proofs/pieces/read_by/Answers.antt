@@ -6,16 +6,16 @@ use Rattle.encoding_stream.specs.Pieces.{kept_by, most_completed, Keeps}
 use Rattle.encoding_stream.specs.Reading.{ReadsOn}
 use Rattle.data_encoding_calls.specs.Pieces.{piece_status, HasConsumed}
 use Rattle.data_encoding_calls.specs.Status.{ok}
-use Rattle.data_encoding_calls.proofs.PieceLemmas.{none-stands, piece-fits, piece-long, piece-short, refuses, stands-kept}
+use Rattle.data_encoding_calls.proofs.PieceLemmas.{consumed-kept, none-consumed, piece-fits, piece-long, piece-short, refuses}
 use Rattle.data_encoding_calls.proofs.pieces.read_by.Goals as goal
 
 pub returns-in_default : goal.returns-in_default
 returns-in_default c =
     let none =
-    none-stands c.args.encoding.now c.args.plain.now c.decoder_of.result c.in_default.is
+    none-consumed c.args.encoding.now c.args.plain.now c.decoder_of.result c.in_default.is
     c.decoder_of.ensures.stands in
     refuses c.args.encoding.now c.args.piece.now _ _ (λ is. cc)
-    (λ text stands. absurd (none text stands))
+    (λ text consumed. absurd (none text consumed))
 
 pub returns-then-piece-len : goal.returns-then-piece-len
 returns-then-piece-len c =
@@ -26,9 +26,9 @@ returns-then-piece-len c =
     let long = piece-long base kept (length piece) room
     (omega (arith, c.if-piece-len.true, c.len.ensures.value, c.len.ensures.limit)) in
     refuses base piece _ _ (λ is. cc)
-    (λ text stands. long
+    (λ text consumed. long
     ∙ ap (λ k. piece_status base k (length piece) room)
-    (sym (stands-kept base c.args.plain.now kept text c.in-Some.ensures.kept stands).0))
+    (sym (consumed-kept base c.args.plain.now kept text c.in-Some.ensures.kept consumed).0))
 
 pub returns-then-output-most : goal.returns-then-output-most
 returns-then-output-most c =
@@ -42,9 +42,9 @@ returns-then-output-most c =
     (omega (arith, c.if-piece-len.false, c.len.ensures.value, c.len.ensures.limit))
     (omega (arith, c.if-output-most.true, most_is)) in
     refuses base piece _ _ (λ is. cc)
-    (λ text stands. short
+    (λ text consumed. short
     ∙ ap (λ k. piece_status base k (length piece) room)
-    (sym (stands-kept base c.args.plain.now kept text c.in-Some.ensures.kept stands).0))
+    (sym (consumed-kept base c.args.plain.now kept text c.in-Some.ensures.kept consumed).0))
 
 pub returns : goal.returns
 returns c =
@@ -55,7 +55,7 @@ returns c =
     let decoder = c.in-Some.decoder in
     let kept = kept_by decoder in
     let is = c.in-Some.ensures.base in
-    let told = c.in-Some.ensures.kept in
+    let is_kept = c.in-Some.ensures.kept in
     let most : ℕ = c.most-most.result in
     let most_is : most ≡ most_completed base kept (length piece) =
     rw is at c.most-most.ensures.value in
@@ -72,28 +72,28 @@ returns c =
     (omega (arith, inside, most_is)) in
     let now : (text : List ℕ) → HasConsumed base plain text
     → Keeps base c.kept.result (text ++ piece) =
-    λ text stands. subst (λ k. Keeps base k (text ++ piece)) (sym c.kept.ensures.value)
-    (reads.keeps text (stands-kept base plain kept text told stands).1) in
+    λ text consumed. subst (λ k. Keeps base k (text ++ piece)) (sym c.kept.ensures.value)
+    (reads.keeps text (consumed-kept base plain kept text is_kept consumed).1) in
     record {
-      status = λ text stands.
+      status = λ text consumed.
           fits ∙ ap (λ k. piece_status base k (length piece) room)
-          (sym (stands-kept base plain kept text told stands).0);
-      stands = λ _ text stands. record {
+          (sym (consumed-kept base plain kept text is_kept consumed).0);
+      stands = λ _ text consumed. record {
         kept = c.kept.result;
         told = c.plain_of.ensures;
-        keeps = now text stands;
-        limit = omega (arith, c.kept.ensures.limit, (now text stands).counted);
+        keeps = now text consumed;
+        limit = omega (arith, c.kept.ensures.limit, (now text consumed).counted);
         clear = c.kept.ensures.clear;
       };
-      decodes = λ _ text stands.
-          reads.decodes text (stands-kept base plain kept text told stands).1
+      decodes = λ _ text consumed.
+          reads.decodes text (consumed-kept base plain kept text is_kept consumed).1
           ∙ ap (λ more. whole_bytes base text ++ more)
           (sym (take-append-le c.read.result front after c.read.ensures.within));
       within = λ _. omega (arith, c.read.ensures.within, length-append front after);
-      after = λ _ text stands.
-          let due : most_completed base stands.kept (length piece) ≡ most =
+      after = λ _ text consumed.
+          let due : most_completed base consumed.kept (length piece) ≡ most =
           ap (λ k. most_completed base k (length piece))
-          (stands-kept base plain kept text told stands).0
+          (consumed-kept base plain kept text is_kept consumed).0
           ∙ sym most_is in
           ap (λ n. drop n (front ++ after)) due
           ∙ drop-append-drop most c.args.output.now front most (omega arith) size
