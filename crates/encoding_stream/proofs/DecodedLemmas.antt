@@ -42,24 +42,24 @@ module _ (base : Base) (specified : IsSpecified base) where
   -- text does
   sound-of : TellsBytes → (text : List ℕ)
       → (more : List ℕ) × (sound_bytes base text ≡ whole_bytes base text ++ more)
-  sound-of tells text = (
+  sound-of bytes_law text = (
     _,
-    tells base specified text (length text) (first_fault base (whole_groups base text))
+    bytes_law base specified text (length text) (first_fault base (whole_groups base text))
         (unfinished base text) (list_any (is_final base) (whole_groups base text))
         (record { counted = refl; first = refl; holds = λ _. refl; ends = λ _. refl }),
   )
 
   longer-of : KeepsBytes → TellsBytes → (text rest : List ℕ)
       → (more : List ℕ) × (sound_bytes base (text ++ rest) ≡ whole_bytes base text ++ more)
-  longer-of keeps tells text rest =
+  longer-of keeps bytes_law text rest =
       let whole = keeps base specified text rest in
-      let sound = sound-of tells (text ++ rest) in (
+      let sound = sound-of bytes_law (text ++ rest) in (
         whole.0 ++ sound.0,
         sound.1 ∙ ap (λ l. l ++ sound.0) whole.1
             ∙ append_assoc (whole_bytes base text) whole.0 sound.0,
       )
 
-  module _ (keeps : KeepsBytes) (tells : TellsBytes) where
+  module _ (keeps : KeepsBytes) (bytes_law : TellsBytes) where
     -- a prefix of the bytes of whole groups is a prefix of all that a reader has
     pub front-whole : (r s v w : Option (List ℕ)) (text : List ℕ) → Consumes r s text
         → AppendsFront v w (whole_bytes base text) → DecodesFront base (from_to r s) (from_to v w)
@@ -67,7 +67,7 @@ module _ (base : Base) (specified : IsSpecified base) where
       text = text;
       read = read;
       written =
-          let more = sound-of tells text in
+          let more = sound-of bytes_law text in
           subst (AppendsFront v w) (sym more.1)
           (AppendsFront-within v w (whole_bytes base text) more.0 front);
       of_all = all r s read;
@@ -78,7 +78,7 @@ module _ (base : Base) (specified : IsSpecified base) where
         all None s read = tt
         all (Some whole) None read = absurd read
         all (Some whole) (Some rest) read =
-            let more = longer-of keeps tells text rest in
+            let more = longer-of keeps bytes_law text rest in
             subst (λ l. AppendsFront v w (sound_bytes base l)) (sym read)
             (subst (AppendsFront v w) (sym more.1)
             (AppendsFront-within v w (whole_bytes base text) more.0 front))
@@ -111,8 +111,8 @@ module _ (base : Base) (specified : IsSpecified base) where
     -- a prefix of one more piece
     pub decoded-front : KeepsBytes → TellsBytes → AppendsFront w x bytes
         → DecodesFront base (from_to r t) (from_to v x)
-    decoded-front keeps tells front =
-        front-whole keeps tells r t v x (so_far.text ++ more)
+    decoded-front keeps bytes_law front =
+        front-whole keeps bytes_law r t v x (so_far.text ++ more)
         (Consumes-trans r s t so_far.text more so_far.read read)
         (subst (AppendsFront v x) (sym (reads.decodes so_far.text so_far.keeps))
         (AppendsFront-more v w x (whole_bytes base so_far.text) bytes so_far.written front))
@@ -121,9 +121,9 @@ module _ (base : Base) (specified : IsSpecified base) where
   pub decoded-only : KeepsBytes → TellsBytes → {kept : Kept} {r s t v w : Option (List ℕ)}
       → Decoded base kept r s v w → (more : List ℕ) → Consumes s t more
       → DecodesFront base (from_to r t) (from_to v w)
-  decoded-only keeps tells {kept} {r} {s} {t} {v} {w} so_far more read =
+  decoded-only keeps bytes_law {kept} {r} {s} {t} {v} {w} so_far more read =
       let longer = keeps base specified so_far.text more in
-      front-whole keeps tells r t v w (so_far.text ++ more)
+      front-whole keeps bytes_law r t v w (so_far.text ++ more)
       (Consumes-trans r s t so_far.text more so_far.read read)
       (subst (AppendsFront v w) (sym longer.1)
       (AppendsFront-within v w (whole_bytes base so_far.text) longer.0
@@ -226,24 +226,24 @@ module _ (failed : Bool) (result : Result (Unit {0}) StreamFault) (fault : Optio
 
   pub end-error : (error : DecodeError) → result ≡ Err (Decode error)
       → (failed ≡ false) × (fault ≡ Some error)
-  end-error error told = by-cases failed fault refl refl
+  end-error error returned = by-cases failed fault refl refl
     where
       by-cases : (b : Bool) (f : Option DecodeError) → failed ≡ b → fault ≡ f
           → (failed ≡ false) × (fault ≡ Some error)
       by-cases true f is same =
-          let no = sym told ∙ write is in cc
-      by-cases false None is same = let no = sym told ∙ judged is ∙ ap result_of same in cc
+          let no = sym returned ∙ write is in cc
+      by-cases false None is same = let no = sym returned ∙ judged is ∙ ap result_of same in cc
       by-cases false (Some other) is same =
-          let here = sym told ∙ judged is ∙ ap result_of same in (is, cc)
+          let here = sym returned ∙ judged is ∙ ap result_of same in (is, cc)
 
   pub end-write : result ≡ Err Write → IsTrue failed
-  end-write told = by-cases failed fault refl refl
+  end-write returned = by-cases failed fault refl refl
     where
       by-cases : (b : Bool) (f : Option DecodeError) → failed ≡ b → fault ≡ f → IsTrue failed
       by-cases true f is same = is
-      by-cases false None is same = let no = sym told ∙ judged is ∙ ap result_of same in cc
+      by-cases false None is same = let no = sym returned ∙ judged is ∙ ap result_of same in cc
       by-cases false (Some other) is same =
-          let no = sym told ∙ judged is ∙ ap result_of same in cc
+          let no = sym returned ∙ judged is ∙ ap result_of same in cc
 
   pub end-other : (result ≡ Err Read → ⊥) × (result ≡ Err TooLong → ⊥)
   end-other = by-cases failed fault refl refl
@@ -251,8 +251,8 @@ module _ (failed : Bool) (result : Result (Unit {0}) StreamFault) (fault : Optio
       by-cases : (b : Bool) (f : Option DecodeError) → failed ≡ b → fault ≡ f
           → (result ≡ Err Read → ⊥) × (result ≡ Err TooLong → ⊥)
       by-cases true f is same =
-          let here = write is in (λ told. cc, λ told. cc)
+          let here = write is in (λ returned. cc, λ returned. cc)
       by-cases false None is same =
-          let here = judged is ∙ ap result_of same in (λ told. cc, λ told. cc)
+          let here = judged is ∙ ap result_of same in (λ returned. cc, λ returned. cc)
       by-cases false (Some other) is same =
-          let here = judged is ∙ ap result_of same in (λ told. cc, λ told. cc)
+          let here = judged is ∙ ap result_of same in (λ returned. cc, λ returned. cc)

@@ -50,8 +50,8 @@ module _ (base : Base) (is : IsSpecified base) (text : List ℕ) (len : ℕ)
   pub verdict-groups : TellsFault → (due : ℕ) → decoded_len base len ≡ Ok due
       → (verdict : Option DecodeError) → or_else fault (held_fault ended base held) ≡ verdict
       → verdict_of verdict ≡ verdict_of (fault_of base text)
-  verdict-groups tells due valid verdict judged =
-      sym (ap verdict_of (tells base is text len fault held ended read
+  verdict-groups fault_law due valid verdict judged =
+      sym (ap verdict_of (fault_law base is text len fault held ended read
       ∙ ap (λ o. or_else o (or_else fault (held_fault ended base held)))
       (no-fault (length_fault base len) (most_bytes base len) due valid) ∙ judged)) where
         no-fault : (o : Option DecodeError) (m n : ℕ) → unless_fault o m ≡ Ok n → o ≡ None
@@ -61,8 +61,8 @@ module _ (base : Base) (is : IsSpecified base) (text : List ℕ) (len : ℕ)
   -- a fault of the length is reported before that of a group
   pub verdict-length : TellsFault → (error : DecodeError) → decoded_len base len ≡ Err error
       → Err error ≡ verdict_of (fault_of base text)
-  verdict-length tells error due =
-      sym (ap verdict_of (tells base is text len fault held ended read
+  verdict-length fault_law error due =
+      sym (ap verdict_of (fault_law base is text len fault held ended read
       ∙ ap (λ o. or_else o (or_else fault (held_fault ended base held)))
       (has-fault (length_fault base len) (most_bytes base len) due))) where
         has-fault : (o : Option DecodeError) (m : ℕ) → unless_fault o m ≡ Err error
@@ -80,12 +80,12 @@ pub bytes-judged : (base : Base) → IsSpecified base → TellsBytes → (k : Ke
     → or_else k.fault (held_fault k.ended base (held k)) ≡ Some error)
     → written ≡ result_unwrap_or judged 0 → (text : List ℕ) → Keeps base k text
     → sound_bytes base text ≡ whole_bytes base text ++ take written output
-bytes-judged base is tells k (Ok count) output written sound faulty same text keeps =
-    tells base is text k.len k.fault (held k) k.ended keeps
+bytes-judged base is bytes_law k (Ok count) output written sound faulty same text keeps =
+    bytes_law base is text k.len k.fault (held k) k.ended keeps
     ∙ ap (λ o. whole_bytes base text ++ bytes_unless o base (held k)) (sound text keeps).0
     ∙ ap (λ bs. whole_bytes base text ++ bs) (sound text keeps).1
     ∙ ap (λ n. whole_bytes base text ++ take n output) (sym same)
-bytes-judged base is tells k (Err error) output written sound faulty same text keeps =
-    tells base is text k.len k.fault (held k) k.ended keeps
+bytes-judged base is bytes_law k (Err error) output written sound faulty same text keeps =
+    bytes_law base is text k.len k.fault (held k) k.ended keeps
     ∙ ap (λ o. whole_bytes base text ++ bytes_unless o base (held k)) (faulty text keeps)
     ∙ ap (λ n. whole_bytes base text ++ take n output) (sym same)

@@ -114,7 +114,7 @@ decoded_judged = (
       fault_is = refl;
       written = refl;
     };
-    faulty = λ error told. cc;
+    faulty = λ error returned. cc;
   },
   λ few read write. refl,
 )
@@ -521,7 +521,7 @@ keeps_told base text keeps = sym keeps.counted
 
 stands_told : (decoder : Decoder) (text : List ℕ) → HasConsumed decoder text
     → decoder_len decoder ≡ length text
-stands_told decoder text stands = stands.counted
+stands_told decoder text consumed = consumed.counted
 
 gone_on_told : (base : Base) (pieces : BufferDecoder) → GoesOn base kept_so_far pieces
     → (base_of_lent pieces.encoding ≡ base) × (pieces.kept ≡ kept_so_far)
@@ -613,11 +613,11 @@ pushed_bytes : (decoder : Decoder) (output : List ℕ)
     → whole_bytes (base_of_decoder decoder) (codes "SGVs") ≡ codes "Hel"
     → HasConsumed decoder [] → AppendsPushed decoder (codes "SGVs") (codes "> ") output
     → (output ≡ codes "> Hel") × (output ≡ codes "> Hel")
-pushed_bytes decoder output none some stands pushed =
-    let done = pushed.bytes [] stands in (
+pushed_bytes decoder output none some consumed pushed =
+    let done = pushed.bytes [] consumed in (
       done.appended ∙ ap (λ bytes. codes "> " ++ bytes)
           (sym (done.decoded ∙ ap (λ before. before ++ done.bytes) none) ∙ some),
-      (pushed.decoded (codes "> ") [] stands
+      (pushed.decoded (codes "> ") [] consumed
           (record { appended = sym (ap (λ bytes. codes "> " ++ bytes) none) })).appended
           ∙ ap (λ bytes. codes "> " ++ bytes) some,
     )
@@ -637,11 +637,11 @@ finished_bytes : (decoder : Decoder) (output : List ℕ)
     → HasConsumed decoder (codes "SGVsbG8")
     → AppendsFinished decoder (codes "> Hel") output
     → (output ≡ codes "> Hello") × (output ≡ codes "> Hello")
-finished_bytes decoder output whole sound stands finished =
-    let done = finished.bytes (codes "SGVsbG8") stands in
+finished_bytes decoder output whole sound consumed finished =
+    let done = finished.bytes (codes "SGVsbG8") consumed in
     let all = sym sound ∙ done.decoded ∙ ap (λ before. before ++ done.bytes) whole in (
       done.appended ∙ ap (λ bytes. codes "> Hel" ++ bytes) (sym (ap (drop 3) all)),
-      finished.decoded (codes "> ") (codes "SGVsbG8") stands
+      finished.decoded (codes "> ") (codes "SGVsbG8") consumed
           (record { appended = sym (ap (λ bytes. codes "> " ++ bytes) whole) })
           ∙ ap (λ bytes. codes "> " ++ bytes) sound,
     )

@@ -139,8 +139,8 @@ returns-then-count-asked g c =
               fault_is = sound;
               written = ended-all done ends works;
             });
-        faulty = λ error told.
-            let because = end-error failed result fault write judged error told in
+        faulty = λ error returned.
+            let because = end-error failed result fault write judged error returned in
             record {
               text = done.text;
               read = done.read;
@@ -158,11 +158,11 @@ returns-then-count-asked g c =
           → failed ≡ false → result ≡ result_of (fault_of base text))
           done.read at_end (λ few reads works. judged works);
       read = (
-        λ told. absurd (other.0 told),
+        λ returned. absurd (other.0 returned),
         λ err. not-both (has_failed c.fill.new.reader) err reader_works,
       );
       write = (end-write failed result fault write judged, write);
-      too_long = λ told. absurd (other.1 told);
+      too_long = λ returned. absurd (other.1 returned);
     }
 
 pub read-written-requires-clause-room : goal.read-written-requires-clause-room
