@@ -69,12 +69,12 @@ module _ (base : Base) (is : base_of base32_dnssec_fields ≡ Ok base)
         → IsTrue result ↔ (map (meaning encoding) one ≡ map (meaning encoding) other)
         → (bytes others : List ℕ) → Means base one bytes → Means base other others
         → IsTrue result ↔ (bytes ≡ others)
-    same_name result tells bytes others means more =
+    same_name result decides bytes others means more =
         let equal = same_built (base_of base32_dnssec_fields) encoding base is_built is in
-        let told = subst
-        (λ b. IsTrue result ↔ (map (meaning b) one ≡ map (meaning b) other)) equal tells in
+        let decided = subst
+        (λ b. IsTrue result ↔ (map (meaning b) one ≡ map (meaning b) other)) equal decides in
         let data_same = same_data one other bytes others means more in
-        ((λ h. data_same.0 (told.0 h)), (λ h. told.1 (data_same.1 h)))
+        ((λ h. data_same.0 (decided.0 h)), (λ h. decided.1 (data_same.1 h)))
 
 -- Bytes of two lists that mean the same, up to an index.
 module _ (base : Base) (one other : List ℕ) where
@@ -161,18 +161,18 @@ module _ (base url : Base) (is : base_of base64_fields ≡ Ok base)
       (cases_lt byte 128)
 
   -- whether a byte is only in base64url, means something in base64, or nothing in base64url
-  abbrev is_told : Base → Base → ℕ → Bool
-  is_told b u byte =
+  abbrev stays_invalid : Base → Base → ℕ → Bool
+  stays_invalid b u byte =
       byte == 45 || byte == 95 || not (is_invalid (meaning b byte)) || is_invalid (meaning u byte)
 
-  abbrev are_told : Base → Base → Bool
-  are_told b u = list_all (is_told b u) (range_with_len 0 128)
+  abbrev stay_invalid : Base → Base → Bool
+  stay_invalid b u = list_all (stays_invalid b u) (range_with_len 0 128)
 
-  told : are_told base url ≡ true
-  told =
-      known (λ b. are_told b url) false base64_fields base is
-      ∙ known (λ u. got (λ b. are_told b u) false (base_of base64_fields)) false base64url_fields
-      url also
+  computed_too : stay_invalid base url ≡ true
+  computed_too =
+      known (λ b. stay_invalid b url) false base64_fields base is
+      ∙ known (λ u. got (λ b. stay_invalid b u) false (base_of base64_fields)) false
+      base64url_fields url also
 
   -- any other byte that means nothing in base64 means nothing in base64url
   pub invalid_byte : (byte : ℕ) → (byte ≡ 45 → ⊥) × (byte ≡ 95 → ⊥)
@@ -180,7 +180,7 @@ module _ (base url : Base) (is : base_of base64_fields ≡ Ok base)
   invalid_byte byte apart invalid =
       ⊎_elim {C = is_invalid (meaning url byte) ≡ true}
       (λ (low : byte < 128).
-      let here = each_byte (is_told base url) told byte low in
+      let here = each_byte (stays_invalid base url) computed_too byte low in
       grind (arith, nat_tests, apart.0, apart.1))
       (λ (high : 128 ≤ byte).
       ap is_invalid (get_or_past url.meanings byte Invalid (omega (arith, high, long_too))))

@@ -45,9 +45,9 @@ two_texts : (base : Base) (one other bytes others : List ℕ) → Means base one
     → (IsTrue answer ↔ IsBefore bytes others))
 two_texts base one other bytes others means also = (
   λ alike. (alike bytes).0 means,
-  λ answer tells. tells bytes means,
-  λ answer tells. tells bytes others means also,
-  λ answer tells. tells bytes others means also,
+  λ answer it. it bytes means,
+  λ answer it. it bytes others means also,
+  λ answer it. it bytes others means also,
 )
 
 -- `G` is no digit of HEXLOWER, and that is the fault of each longer text

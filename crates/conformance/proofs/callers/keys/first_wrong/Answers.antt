@@ -22,10 +22,10 @@ found c base is =
 pub returns-clause-symbol : goal.returns-clause-symbol
 returns-clause-symbol c = λ base is index.
     let has = c.eighteen.ensures.hexlower base is in
-    let told = c.fault_told.ensures.symbol base (specified_by hexlower_fields base is) has.padding
+    let law = c.fault_told.ensures.symbol base (specified_by hexlower_fields base is) has.padding
     has.ignores c.args.text.now
     (even-length base has (length c.args.text.now) c.requires.even) index in
-    ((λ h. told.1 (sym (found c base is) ∙ h)), (λ h. found c base is ∙ told.0 h))
+    ((λ h. law.1 (sym (found c base is) ∙ h)), (λ h. found c base is ∙ law.0 h))
 
 pub returns-clause-none : goal.returns-clause-none
 returns-clause-none c = λ base is h.

@@ -9,9 +9,9 @@ use Rattle.conformance.proofs.NameLemmas.{is_built-seen}
 use Rattle.conformance.proofs.callers.keys.place_after.Goals as goal
 use Rattle.conformance.proofs.callers.keys.place_after.Goals.{In-Err-Error-decode}
 
-told : (c : In-Err-Error-decode)
+fault_is : (c : In-Err-Error-decode)
     → fault_of c.base64_nopad-encoding.result c.args.text.now ≡ Some c.in-Err-Error-decode.error
-told c = rw c.in-Err-Error-decode.field-0-is at c.in-Err-Error-decode.ensures.refusal
+fault_is c = rw c.in-Err-Error-decode.field-0-is at c.in-Err-Error-decode.ensures.refusal
 
 after_front : (c : In-Err-Error-decode) → c.args.len ≤ c.in-Err-Error-decode.error.position
 after_front c =
@@ -28,7 +28,7 @@ after_front c =
     let past = c.fault_stays.ensures.before seen
     (record { fields = base64_nopad_fields; is_built = is_built }) front (drop c.args.len text)
     c.in-Err-Error-decode.error whole c.in-Ok.ensures.sound.0
-    (ap (fault_of seen) (take-append-drop c.args.len text) ∙ told c) in
+    (ap (fault_of seen) (take-append-drop c.args.len text) ∙ fault_is c) in
     omega (arith, past, len)
 
 pub overflow_sub-result : goal.overflow_sub-result
@@ -44,4 +44,4 @@ returns-in-Err-Error-decode c =
       position = c.args.len + (error.position - c.args.len);
       kind = kind;
     }))) base64_nopad_fields c.base64_nopad-encoding.result c.base64_nopad-encoding.ensures
-    (error.kind, told d ∙ ap (λ n. Some (record { position = n; kind = error.kind })) place)
+    (error.kind, fault_is d ∙ ap (λ n. Some (record { position = n; kind = error.kind })) place)

@@ -10,7 +10,7 @@ use Rattle.conformance.proofs.callers.streamed.decode_pieces.Goals as goal
 pub loop-piece-init : goal.loop-piece-init
 loop-piece-init c = record {
   base = c.new-decoder.ensures.base;
-  stands = c.new-decoder.ensures.nothing;
+  consumed = c.new-decoder.ensures.nothing;
   sound =
       sym (append-nil c.args.output.now.items)
       ∙ ap (λ l. c.args.output.now.items ++ l) (sym c.new-decoder.ensures.no_bytes);
@@ -31,7 +31,7 @@ push-requires c =
       limit =
           omega (
             arith,
-            c.loop-piece.invariant.stands.counted,
+            c.loop-piece.invariant.consumed.counted,
             length-flat_map-take bytes_of pieces index none c.loop-piece-test.true,
             c.requires.limit,
           );
@@ -47,10 +47,10 @@ loop-piece-preserved c =
     let piece = (get_or pieces index none).now in
     let more = joined-more bytes_of pieces index none c.loop-piece-test.true in
     let appends =
-    rw (now.base, now.drained) at (c.in_ok-push.ensures.appends.bytes text now.stands) in
+    rw (now.base, now.drained) at (c.in_ok-push.ensures.appends.bytes text now.consumed) in
     record {
       base = c.push.ensures.base ∙ now.base;
-      stands = rw more (c.in_ok-push.ensures.stands text now.stands);
+      consumed = rw more (c.in_ok-push.ensures.stands text now.consumed);
       sound =
           rw more
           (c.in_ok-extend_from_slice.ensures.items
@@ -69,9 +69,9 @@ returns-in-Ok-clause-sound c =
     let text = flat_map bytes_of pieces in
     let all : take c.loop-piece.piece-index pieces ≡ pieces =
     take_all c.loop-piece.piece-index pieces (omega (arith, c.loop-piece-test.false)) in
-    let stands = rw all at now.stands in
+    let consumed = rw all at now.consumed in
     let sound = rw all at now.sound in
-    let appends = rw (now.base, now.drained) at (c.in-Ok.ensures.appends.bytes text stands) in
+    let appends = rw (now.base, now.drained) at (c.in-Ok.ensures.appends.bytes text consumed) in
     c.in_ok-extend_from_slice-in-Ok.ensures.items
     ∙ ap (λ l. c.loop-piece.output.items ++ l) c.deref-in-Ok.ensures.value
     ∙ handed-on c.args.output.now.items (whole_bytes base text) (sound_bytes base text)
@@ -83,8 +83,8 @@ returns-in-Ok-clause-verdict c =
     let now = c.loop-piece.invariant in
     let all : take c.loop-piece.piece-index pieces ≡ pieces =
     take_all c.loop-piece.piece-index pieces (omega (arith, c.loop-piece-test.false)) in
-    let stands = rw all at now.stands in
-    rw now.base at (c.in-Ok.ensures.verdict (flat_map bytes_of pieces) stands)
+    let consumed = rw all at now.consumed in
+    rw now.base at (c.in-Ok.ensures.verdict (flat_map bytes_of pieces) consumed)
 
 pub returns-in-Ok-clause-means : goal.returns-in-Ok-clause-means
 returns-in-Ok-clause-means c =

@@ -6,7 +6,7 @@ use Rattle.conformance.proofs.callers.streamed.decode_pieces.Given as goal
 abbrev pub invariant-loop-piece : goal.invariant-loop-piece
 invariant-loop-piece l = record {
   base : base_of_decoder l.decoder ≡ l.fn.encoding;
-  stands : HasConsumed l.decoder (flat_map (λ piece. piece.now) (take l.piece-index l.pieces));
+  consumed : HasConsumed l.decoder (flat_map (λ piece. piece.now) (take l.piece-index l.pieces));
   sound :
       l.output.items
       ≡ l.fn.output.items

@@ -32,6 +32,6 @@ returns-clause-fault c =
     (subst (λ n. length front % n ≡ 0) (sym size) c.requires.whole) in
     is_built-seen (λ base. (error : DecodeError) → c.decode.result ≡ Err (Error error)
     → IsFaultOfAll base front error) base64_fields seen is_built
-    (λ error told after due.
+    (λ error returned after due.
     c.fault_stays.ensures.text seen is front after error whole
-    (subst (λ r. IfErr r (IsRefusal seen front)) told c.decode.ensures.refusal) due)
+    (subst (λ r. IfErr r (IsRefusal seen front)) returned c.decode.ensures.refusal) due)
