@@ -109,18 +109,18 @@ encoded_hello :
     × Done words (from_to hello nothing) (from_to nothing (Some (codes "SGVsbG8="))))
 encoded_hello = encoded_in _ asked refl
 
-told_in : (base : Base) → Asks question Question base
+answered_in : (base : Base) → Asks question Question base
     → (IsCanonical base → TellsCanonical base (codes "true" ++ 10 ∷ [])
     × Replies question hello hello (codes "true" ++ 10 ∷ []))
     × (¬ IsCanonical base → TellsCanonical base (codes "false" ++ 10 ∷ [])
     × Replies question hello hello (codes "false" ++ 10 ∷ []))
-told_in base asks = (
+answered_in base asks = (
   λ is.
-      let tells : TellsCanonical base (codes "true" ++ 10 ∷ []) = inl (is, refl) in
-      (tells, OfQuestion base asks refl tells),
+      let answered : TellsCanonical base (codes "true" ++ 10 ∷ []) = inl (is, refl) in
+      (answered, OfQuestion base asks refl answered),
   λ is_not.
-      let tells : TellsCanonical base (codes "false" ++ 10 ∷ []) = inr (is_not, refl) in
-      (tells, OfQuestion base asks refl tells),
+      let answered : TellsCanonical base (codes "false" ++ 10 ∷ []) = inr (is_not, refl) in
+      (answered, OfQuestion base asks refl answered),
 )
 
 -- the answer to a question, with nothing read
@@ -130,7 +130,7 @@ told :
     × Replies question hello hello (codes "true" ++ 10 ∷ []))
     × (¬ IsCanonical base → TellsCanonical base (codes "false" ++ 10 ∷ [])
     × Replies question hello hello (codes "false" ++ 10 ∷ [])))
-told = told_in _ asked_whether
+told = answered_in _ asked_whether
 
 -- the line of an answer, and the reply to `list`, with nothing read
 replied :
@@ -243,7 +243,7 @@ begins_told base reader writer = (λ begins. begins, λ begins. begins)
 line_told : (base : Base) (line : List ℕ) → TellsCanonical base line
     → (IsCanonical base × (line ≡ codes "true" ++ 10 ∷ []))
     ⊎ ((¬ IsCanonical base) × (line ≡ codes "false" ++ 10 ∷ []))
-line_told base line tells = tells
+line_told base line answered = answered
 
 -- what was written is what was asked for
 done_told : (output : List ℕ)
@@ -294,7 +294,7 @@ asked_told base asks = ap (λ request. base_of (fields_in request)) asks.is_requ
 -- a reply reads nothing, and what is asked for is an answer or a reply
 reply_told : (given : List (List ℕ)) (old new : Option (List ℕ)) (output : List ℕ)
     → Replies given old new output → Keeps old new
-reply_told given old new output (OfQuestion base asks keeps tells) = keeps
+reply_told given old new output (OfQuestion base asks keeps answered) = keeps
 reply_told given old new output (OfNames is keeps listed) = keeps
 
 fulfilled_told : (given : List (List ℕ)) (old new : Option (List ℕ)) (output : List ℕ)

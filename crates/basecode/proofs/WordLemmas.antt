@@ -175,24 +175,24 @@ module _ (word name : List ℕ) (given : Verb) (asks : ask_of word ≡ Some (Con
 
 -- the arguments ask whether data has one text only, in the encoding with a name
 module _ (name : List ℕ) (base : Base) (known : IsNamed name base) where
-  fulfilled_told : (old new : Option (List ℕ)) (output : List ℕ)
+  fulfilled_answered : (old new : Option (List ℕ)) (output : List ℕ)
       → Fulfils (codes "canonical" ∷ name ∷ []) old new output → TellsCanonical base output
-  fulfilled_told old new output (ByAnswer verb other asked answers) =
+  fulfilled_answered old new output (ByAnswer verb other asked answers) =
       absurd (false≢true (ap is_question
       (ask_asked (codes "canonical") name (Conversion verb) other asked Question refl)))
-  fulfilled_told old new output (ByReply (OfQuestion other asked keeps tells)) =
+  fulfilled_answered old new output (ByReply (OfQuestion other asked keeps answered)) =
       subst (λ b. TellsCanonical b output)
-      (base_asked (codes "canonical") name Question other asked base known) tells
-  fulfilled_told old new output (ByReply (OfNames is keeps listed)) =
+      (base_asked (codes "canonical") name Question other asked base known) answered
+  fulfilled_answered old new output (ByReply (OfNames is keeps listed)) =
       absurd (names_by_two (both (Some Question) (fields_named name)) is)
 
   -- what was written says so
-  pub canonical_told : (old new : Option (List ℕ)) (line : List ℕ)
+  pub canonical_answered : (old new : Option (List ℕ)) (line : List ℕ)
       → Done (codes "canonical" ∷ name ∷ []) (from_to old new) (from_to (Some []) (Some line))
       → TellsCanonical base line
-  canonical_told old new line done =
+  canonical_answered old new line done =
       subst (TellsCanonical base) (sym done.written)
-      (fulfilled_told old new done.output done.fulfils)
+      (fulfilled_answered old new done.output done.fulfils)
 
 -- and a line is read as it was written
 pub line_read : (base : Base) (line : List ℕ) → TellsCanonical base line
