@@ -17,6 +17,6 @@ pub mod WholeLengthLemmas
 pub mod FinalGroupLemmas
 pub mod LoneGroupLemmas
 pub mod FaultStaysLemmas
-pub mod ToldLemmas
+pub mod ByteFaultLemmas
 pub mod PlainRunLemmas
 pub mod SymbolLemmas

@@ -24,13 +24,13 @@ abbrev rules_in : Result Base Refusal → Option (Rules × Bool)
 rules_in (Ok base) = Some (rules_of base, ignores_some base)
 rules_in (Err refusal) = None
 
-abbrev told : Rules → Option (Rules × Bool)
-told rules = Some (rules, not (length rules.ignored == 0))
+abbrev expected : Rules → Option (Rules × Bool)
+expected rules = Some (rules, not (length rules.ignored == 0))
 
 same : (p q : Rules × Bool) → Some p ≡ Some q → p ≡ q
 same p q h = cc
 
-has : (rules : Rules) (fields : Fields) → rules_in (base_of fields) ≡ told rules
+has : (rules : Rules) (fields : Fields) → rules_in (base_of fields) ≡ expected rules
     → Builds (HasRules rules) fields
 has rules fields shown base is =
     let equal = same (rules_of base, ignores_some base) (rules, not (length rules.ignored == 0))

@@ -82,8 +82,8 @@ module _ (base : Base) (ruled : IsRuled base) (one : HasOneForm base) where
       abbrev back : List ℕ
       back = drop (length means.symbols) text
 
-      abbrev stands_for : ℕ → ℕ
-      stands_for byte = unwrap_or (own_character base (meaning base byte)) byte
+      abbrev own_or_same : ℕ → ℕ
+      own_or_same byte = unwrap_or (own_character base (meaning base byte)) byte
 
       whole : length means.symbols + means.padding ≡ size
       whole = GroupMeans-length base (meanings_in base group) piece means (ap is_some some)
@@ -108,12 +108,12 @@ module _ (base : Base) (ruled : IsRuled base) (one : HasOneForm base) where
           plain_is base ruled one.checks front piece (rw parts.0 means.means)
 
       count : length (plain_text base piece) ≡ length means.symbols
-      count = sym (ap length symbols_are) ∙ length-map front stands_for ∙ front_len
+      count = sym (ap length symbols_are) ∙ length-map front own_or_same ∙ front_len
 
       group_is : own_in group ≡ plain_text base piece ++ replicate means.padding character
       group_is =
           ap (own_form base) (sym (take-append-drop (length means.symbols) text))
-          ∙ map-append stands_for front back
+          ∙ map-append own_or_same front back
           ∙ (λ i. symbols_are i
           ++ paddings_are base ruled back means.padding character some parts.1 i)
 

@@ -3,7 +3,7 @@ use Rattle.std.proofs.Common.{◌≡◌, ℕ, zero, suc, ◌+◌, ◌-◌, ◌<�
 use Rattle.data_encoding_meaning.specs.text.Base.{Base, meaning, is_ignored}
 use Rattle.data_encoding_meaning.specs.text.Grammar.{Positioned, kept, kept_in, kept_from}
 use Rattle.data_encoding_meaning.specs.decoding.Fault.{position_of}
-use Rattle.data_encoding_meaning.proofs.grammar.KeptLemmas.{kept-more, kept_in-stands}
+use Rattle.data_encoding_meaning.proofs.grammar.KeptLemmas.{kept-more, kept_in-within}
 
 -- If a piece is cut before a kept byte, the ones before it are kept.
 abbrev IsCut : Base → ℕ → List ℕ → ℕ → ℕ → Type 0
@@ -23,9 +23,9 @@ module _ (base : Base) (start byte : ℕ) (part : List ℕ)
   -- of the others, none is at this position
   past : (index : ℕ) → index < length rest → start ≡ position_of rest index → ⊥
   past index inside is =
-      let stands = kept_in-stands base (start + 1) (start + 1 + length part) part index
+      let bounds = kept_in-within base (start + 1) (start + 1 + length part) part index
       (omega arith) inside in
-      absurd (omega (arith, stands.0, is))
+      absurd (omega (arith, bounds.0, is))
 
   cut_by : (b : Bool) → not (is_ignored (meaning base byte)) ≡ b → (index count : ℕ)
       → index < length (cond b (here ∷ rest) rest)

@@ -173,11 +173,11 @@ module _ (base : Base) where
       )
 
 -- the law
-pub run-told : (base : Base) (run : List ℕ) → IgnoresNone base run
+pub run-same : (base : Base) (run : List ℕ) → IgnoresNone base run
     → is_valid_length base (length run) ≡ true
     → (fault_of base run ≡ fault_of (ignoring_nothing base) run)
     × (partial_of base run ≡ partial_of (ignoring_nothing base) run)
     × (sound_bytes base run ≡ sound_bytes (ignoring_nothing base) run)
-run-told base run all valid =
+run-same base run all valid =
     run-alike base run
     (recursion_from_All (λ byte. is_ignored (meaning base byte) ≡ false) run all) valid

@@ -19,7 +19,7 @@ use Rattle.data_encoding_meaning.specs.decoding.Decoding.{HasDecodedTo}
 use Rattle.data_encoding_meaning.proofs.digits.WidthLemmas.{group_symbols-pos}
 use Rattle.data_encoding_meaning.proofs.lists.RunLemmas.{runs-nil, runs-append, runs-join, runs-short, flat_map-runs}
 use Rattle.data_encoding_meaning.proofs.grammar.PositionLemmas.{length-kept_plain, length-positioned_from, filter-plain, length-meanings}
-use Rattle.data_encoding_meaning.proofs.grammar.KeptLemmas.{between, kept-split, kept_from-more, kept_in-stands, length-between}
+use Rattle.data_encoding_meaning.proofs.grammar.KeptLemmas.{between, kept-split, kept_from-more, kept_in-within, length-between}
 use Rattle.data_encoding_meaning.proofs.grammar.LengthLemmas.{length_fault-none, length_fault-valid, valid-whole, whole-length}
 use Rattle.data_encoding_meaning.proofs.grammar.GroupLemmas.{group_fault-inside, located-inside}
 use Rattle.data_encoding_meaning.proofs.grammar.SoundLemmas.{first-AreSound, sound-AreSound, sound-all, first-none}
@@ -163,7 +163,7 @@ module _ {base : Base} {text : List ℕ} {read written : ℕ} {output : List ℕ
       rw fault_inside.2 (subst (λ g. fault_inside.0 < length g
       → (read ≤ position_of g fault_inside.0) × (position_of g fault_inside.0 < at.stop))
       (sym at.next.is_part.is_kept)
-      (kept_in-stands base read at.stop (between read at.stop text) fault_inside.0
+      (kept_in-within base read at.stop (between read at.stop text) fault_inside.0
       (omega (arith, part_len, at.next.is_part.after))) fault_inside.1)
 
   -- a decoding stops there, having read this far and written the bytes of that

@@ -8,7 +8,7 @@ use Rattle.data_encoding_meaning.specs.text.Lengths.{is_valid_count}
 use Rattle.data_encoding_meaning.specs.decoding.Fault.{fault_at_first, plain_fault, trailing_fault}
 use Rattle.data_encoding_meaning.specs.laws.Layers.{TellsSymbols, checking_none}
 use Rattle.data_encoding_meaning.specs.laws.Told.{first_other}
-use Rattle.data_encoding_meaning.proofs.decoding.ToldLemmas.{first_other-meanings}
+use Rattle.data_encoding_meaning.proofs.decoding.ByteFaultLemmas.{first_other-meanings}
 use Rattle.data_encoding_meaning.proofs.grammar.UnpaddedGroupLemmas.{PlainMeans-sound, plain_fault-valid}
 
 module _ (base : Base) (width : IsWidth base.width) (symbols : List ℕ)
@@ -19,8 +19,8 @@ module _ (base : Base) (width : IsWidth base.width) (symbols : List ℕ)
   found : position (λ m. not (is_symbol m)) means ≡ first_other base symbols
   found = first_other-meanings base symbols
 
-  none-told : first_other base symbols ≡ None → TellsSymbols base symbols None
-  none-told none =
+  none-other : first_other base symbols ≡ None → TellsSymbols base symbols None
+  none-other none =
       let count : is_valid_count base.width (length means) ≡ true =
       rw (length-map symbols (meaning base)) valid in
       let each = found ∙ none in
@@ -31,9 +31,9 @@ module _ (base : Base) (width : IsWidth base.width) (symbols : List ℕ)
         ap (λ o. fault_at_first o (trailing_fault base means)) each,
       )
 
-  pub symbols-told : TellsSymbols base symbols (first_other base symbols)
-  symbols-told = by (first_other base symbols) refl where
+  pub symbols-first_other : TellsSymbols base symbols (first_other base symbols)
+  symbols-first_other = by (first_other base symbols) refl where
     by : (o : Option ℕ) → first_other base symbols ≡ o → TellsSymbols base symbols o
-    by None none = none-told none
+    by None none = none-other none
     by (Some index) some =
         ap (λ o. fault_at_first o (trailing_fault base means)) (found ∙ some)

@@ -71,20 +71,20 @@ position_after-positioned start (byte ∷ other ∷ part) h =
     ∙ position_after-positioned (start + 1) (other ∷ part) (omega arith) ∙ omega arith
 
 -- each position is in its piece
-abbrev StandsIn : ℕ → ℕ → Positioned → Type 0
-StandsIn start stop k = (start ≤ k.position) × (k.position < stop)
+abbrev LiesWithin : ℕ → ℕ → Positioned → Type 0
+LiesWithin start stop k = (start ≤ k.position) × (k.position < stop)
 
-each_stands : (start stop n : ℕ) (part : List ℕ) → start ≤ n → n + length part ≤ stop
-    → AllByRecursion (StandsIn start stop) (positioned_from n part)
-each_stands start stop n [] low high = tt
-each_stands start stop n (byte ∷ part) low high =
-    ((low, omega arith), each_stands start stop (n + 1) part (omega arith) (omega arith))
+each_within : (start stop n : ℕ) (part : List ℕ) → start ≤ n → n + length part ≤ stop
+    → AllByRecursion (LiesWithin start stop) (positioned_from n part)
+each_within start stop n [] low high = tt
+each_within start stop n (byte ∷ part) low high =
+    ((low, omega arith), each_within start stop (n + 1) part (omega arith) (omega arith))
 
-pub kept_in-stands : (base : Base) (start stop : ℕ) (part : List ℕ) (index : ℕ)
+pub kept_in-within : (base : Base) (start stop : ℕ) (part : List ℕ) (index : ℕ)
     → start + length part ≤ stop → index < length (kept_in base start part)
     → (start ≤ position_of (kept_in base start part) index)
     × (position_of (kept_in base start part) index < stop)
-kept_in-stands base start stop part index h inside =
-    All-get_or (StandsIn start stop) _ index _ inside
-    (All-filter _ (StandsIn start stop) _ (All-from_recursion (StandsIn start stop) _
-    (each_stands start stop start part (omega arith) h)))
+kept_in-within base start stop part index h inside =
+    All-get_or (LiesWithin start stop) _ index _ inside
+    (All-filter _ (LiesWithin start stop) _ (All-from_recursion (LiesWithin start stop) _
+    (each_within start stop start part (omega arith) h)))

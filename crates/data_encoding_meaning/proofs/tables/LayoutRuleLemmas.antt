@@ -117,10 +117,10 @@ module _ (base : Base) (ruled : IsRuled base) where
       ap meaning_of_entry (code-read base ruled byte low)
       ∙ character-back count (meaning base byte) count-few (within-at byte low)
 
-  padding-told : (o : Option ℕ) → IsRuledPadding base o
+  layout-padding : (o : Option ℕ) → IsRuledPadding base o
       → get_or (layout base) 512 0 ≡ unwrap_or o 128
       → TellsPadding base.width (layout base)
-  padding-told None rule is =
+  layout-padding None rule is =
       inl (
         is,
         λ byte low e.
@@ -129,7 +129,7 @@ module _ (base : Base) (ruled : IsRuled base) where
             ∙ passes_at is_no_padding base.meanings byte Invalid rule
             (omega (arith, low, ruled.long))),
       )
-  padding-told (Some character) rule is =
+  layout-padding (Some character) rule is =
       inr (
         subst (λ n. n < 128) (sym is) rule.0,
         ap (entry_in (layout base)) is ∙ code-read base ruled character rule.0 ∙ ap code_of rule.1,
@@ -137,16 +137,16 @@ module _ (base : Base) (ruled : IsRuled base) where
       )
 
   -- if the layout says that a byte is ignored, it is
-  told-ignored : (byte : ℕ) → IsIgnoredIn (layout base) byte → meaning base byte ≡ Ignored
-  told-ignored byte is = sym (meaning-read byte is.0) ∙ ap meaning_of_entry is.1
+  ignored-meaning : (byte : ℕ) → IsIgnoredIn (layout base) byte → meaning base byte ≡ Ignored
+  ignored-meaning byte is = sym (meaning-read byte is.0) ∙ ap meaning_of_entry is.1
 
-  ignored-told : (byte : ℕ) → byte < 128 → meaning base byte ≡ Ignored
+  ignored-entry : (byte : ℕ) → byte < 128 → meaning base byte ≡ Ignored
       → IsIgnoredIn (layout base) byte
-  ignored-told byte low is = (low, code-read base ruled byte low ∙ ap code_of is)
+  ignored-entry byte low is = (low, code-read base ruled byte low ∙ ap code_of is)
 
-  end-told : (ignores : Bool) (o : Option Wrapping) → ignores_some base ≡ ignores
+  layout-end : (ignores : Bool) (o : Option Wrapping) → ignores_some base ≡ ignores
       → base.wrapping ≡ o → IsRuledWrapping base o → TellsWrapping base.width (layout base)
-  end-told false None none no_lines rule =
+  layout-end false None none no_lines rule =
       let long = long-layout base ruled
       ∙ (λ i. 514 + length (wrapping_bytes (none i) (no_lines i))) in
       inl (
@@ -154,10 +154,10 @@ module _ (base : Base) (ruled : IsRuled base) where
         λ byte is.
             let some : list_any is_ignored base.meanings ≡ true =
             list_any_at is_ignored base.meanings byte Invalid (omega (arith, is.0, ruled.long))
-            (ap is_ignored (told-ignored byte is)) in
+            (ap is_ignored (ignored-meaning byte is)) in
             cc,
       )
-  end-told true None some no_lines rule =
+  layout-end true None some no_lines rule =
       let long = long-layout base ruled
       ∙ (λ i. 514 + length (wrapping_bytes (some i) (no_lines i))) in
       let found = some_passes is_ignored base.meanings Invalid some in
@@ -165,9 +165,9 @@ module _ (base : Base) (ruled : IsRuled base) where
       inr (inl (
         omega (arith, long),
         (read).column ∙ ap column_of no_lines,
-        (found.0, ignored-told found.0 low (ignored-is (meaning base found.0) found.2)),
+        (found.0, ignored-entry found.0 low (ignored-is (meaning base found.0) found.2)),
       ))
-  end-told ignores (Some lines) is some rule =
+  layout-end ignores (Some lines) is some rule =
       let long = long-layout base ruled
       ∙ ap (λ w. 514 + length (wrapping_bytes (ignores_some base) w)) some in
       let here : get_or (layout base) 514 0 ≡ lines.column = (read).column ∙ ap column_of some in
@@ -182,9 +182,10 @@ module _ (base : Base) (ruled : IsRuled base) where
             ap (λ n. get_or (layout base) n 0) (omega arith)
             ∙ sym (get_or-drop 515 (layout base) (k - 515) 0)
             ∙ ap (λ l. get_or l (k - 515) 0) ((read).separator ∙ ap separator_of some) in
-            let told = all-at (λ byte. (byte < 128) × (meaning base byte ≡ Ignored))
+            let ignored_here = all-at (λ byte. (byte < 128) × (meaning base byte ≡ Ignored))
             lines.separator rule.ignored (k - 515) (omega (arith, from, less, long)) in
-            subst (IsIgnoredIn (layout base)) (sym at) (ignored-told _ told.0 told.1);
+            subst (IsIgnoredIn (layout base)) (sym at)
+            (ignored-entry _ ignored_here.0 ignored_here.1);
       }))
 
   is_layout_of : IsLayoutOf base.width (layout base)
@@ -199,8 +200,8 @@ module _ (base : Base) (ruled : IsRuled base) where
         subst (λ n. (n < count) ⊎ ((128 ≤ n) × (n ≤ 130))) (sym (code-read base ruled byte low))
         (code-few count (meaning base byte) (within-at byte low));
     invalid_from_128 = high-read base ruled;
-    padding = padding-told base.padding ruled.padding (end-read base ruled 0);
-    end = end-told (ignores_some base) base.wrapping refl refl ruled.wrapping;
+    padding = layout-padding base.padding ruled.padding (end-read base ruled 0);
+    end = layout-end (ignores_some base) base.wrapping refl refl ruled.wrapping;
   }
 
   pub is_layout : IsLayout (layout base)
@@ -263,8 +264,8 @@ module _ (bytes : List ℕ) (width : ℕ) (width_is : get_or bytes 513 0 % 8 ≡
   size-few : size ≤ 64
   size-few = symbols-few width rule.is_width
 
-  abbrev told : Base
-  told = record {
+  abbrev described : Base
+  described = record {
     width = width;
     order = cond (sum / 8 % 2 == 1) MostSignificantFirst LeastSignificantFirst;
     symbols = take size bytes;
@@ -288,7 +289,8 @@ module _ (bytes : List ℕ) (width : ℕ) (width_is : get_or bytes 513 0 % 8 ≡
   low-at : (byte : ℕ) → byte < 128 → get_or low byte 0 ≡ entry_in bytes byte
   low-at byte h = get_or-take 128 (drop 256 bytes) byte 0 h ∙ get_or-drop 256 bytes byte 0
 
-  meaning-at : (byte : ℕ) → byte < 128 → meaning told byte ≡ meaning_of_entry (entry_in bytes byte)
+  meaning-at : (byte : ℕ) → byte < 128
+      → meaning described byte ≡ meaning_of_entry (entry_in bytes byte)
   meaning-at byte h =
       get_or-map meaning_of_entry low byte 0 Invalid (omega (arith, h, long-low))
       ∙ ap meaning_of_entry (low-at byte h)
@@ -297,14 +299,14 @@ module _ (bytes : List ℕ) (width : ℕ) (width_is : get_or bytes 513 0 % 8 ≡
   long-symbols = length-take-le size bytes (omega (arith, size-few, long))
 
   own : (i : ℕ) → i < length (take size bytes) → (get_or (take size bytes) i 0 < 128)
-      × (meaning told (get_or (take size bytes) i 0) ≡ Symbol i)
+      × (meaning described (get_or (take size bytes) i 0) ≡ Symbol i)
   own i h =
       let below : i < size = omega (arith, h, long-symbols) in
       let same = get_or-take size bytes i 0 below in
       let at = rule.own i below in
       let few : i < 64 = omega (arith, below, size-few) in (
         subst (λ n. n < 128) (sym same) at.0,
-        ap (meaning told) same ∙ meaning-at (get_or bytes i 0) at.0
+        ap (meaning described) same ∙ meaning-at (get_or bytes i 0) at.0
             ∙ ap meaning_of_entry at.1 ∙ value-symbol i few,
       )
 
@@ -317,24 +319,25 @@ module _ (bytes : List ℕ) (width : ℕ) (width_is : get_or bytes 513 0 % 8 ≡
       ∙ entry-within size (entry_in bytes i)
       (entry-is size (entry_in bytes i) (rule.entries i few)))
 
-  ruled-padding : TellsPadding width bytes → IsRuledPadding told (padding_in (get_or bytes 512 0))
+  ruled-padding : TellsPadding width bytes
+      → IsRuledPadding described (padding_in (get_or bytes 512 0))
   ruled-padding (inl none) =
-      subst (λ n. IsRuledPadding told (padding_in n)) (sym none.0)
+      subst (λ n. IsRuledPadding described (padding_in n)) (sym none.0)
       (list_all-places is_no_padding (map meaning_of_entry low) Invalid (λ i h.
       let few : i < 128 = omega (arith, h, length-map low meaning_of_entry, long-low) in
       ap is_no_padding (meaning-at i few)
       ∙ entry-no_padding (entry_in bytes i) (apart_test (entry_in bytes i) 130 (none.1 i few))))
   ruled-padding (inr some) =
-      subst (IsRuledPadding told) (sym (padding_in-some (get_or bytes 512 0) some.0)) (
+      subst (IsRuledPadding described) (sym (padding_in-some (get_or bytes 512 0) some.0)) (
         some.0,
         meaning-at (get_or bytes 512 0) some.0 ∙ ap meaning_of_entry some.1,
         apart_test (8 % width) 0 some.2,
       )
 
   abbrev IsIgnored : ℕ → Type 0
-  IsIgnored byte = (byte < 128) × (meaning told byte ≡ Ignored)
+  IsIgnored byte = (byte < 128) × (meaning described byte ≡ Ignored)
 
-  ignored-at : (byte : ℕ) → IsIgnoredIn bytes byte → meaning told byte ≡ Ignored
+  ignored-at : (byte : ℕ) → IsIgnoredIn bytes byte → meaning described byte ≡ Ignored
   ignored-at byte is = meaning-at byte is.0 ∙ ap meaning_of_entry is.1
 
   wrapping-of : (column : ℕ) → 0 < column → wrapping_by column (drop 515 bytes)
@@ -346,14 +349,15 @@ module _ (bytes : List ℕ) (width : ℕ) (width_is : get_or bytes 513 0 % 8 ≡
   no_column is = get_or_past bytes 514 0 (omega (arith, is))
 
   ruled-wrapping : TellsWrapping width bytes
-      → IsRuledWrapping told (wrapping_by (get_or bytes 514 0) (drop 515 bytes))
+      → IsRuledWrapping described (wrapping_by (get_or bytes 514 0) (drop 515 bytes))
   ruled-wrapping (inl none) =
-      subst (λ n. IsRuledWrapping told (wrapping_by n (drop 515 bytes))) (sym (no_column none.0)) tt
+      subst (λ n. IsRuledWrapping described (wrapping_by n (drop 515 bytes)))
+      (sym (no_column none.0)) tt
   ruled-wrapping (inr (inl some)) =
-      subst (λ n. IsRuledWrapping told (wrapping_by n (drop 515 bytes))) (sym some.1) tt
+      subst (λ n. IsRuledWrapping described (wrapping_by n (drop 515 bytes))) (sym some.1) tt
   ruled-wrapping (inr (inr lines)) =
       let rest = length-drop 515 bytes in
-      subst (IsRuledWrapping told) (sym (wrapping-of (get_or bytes 514 0) lines.some))
+      subst (IsRuledWrapping described) (sym (wrapping-of (get_or bytes 514 0) lines.some))
       (record {
         some = lines.some;
         short = lines.short;
@@ -376,7 +380,7 @@ module _ (bytes : List ℕ) (width : ℕ) (width_is : get_or bytes 513 0 % 8 ≡
         odd-bit : (n : ℕ) → n < 2 → (n == 0) ≡ false → n ≡ 1
         odd-bit n h k = grind (arith, nat_tests)
 
-  is_ruled : IsRuled told
+  is_ruled : IsRuled described
   is_ruled = record {
     is_width = rule.is_width;
     count = long-symbols;
@@ -394,12 +398,12 @@ module _ (bytes : List ℕ) (width : ℕ) (width_is : get_or bytes 513 0 % 8 ≡
   }
 
   -- and its layout is the bytes
-  table-is : symbol_table told ≡ take 256 bytes
+  table-is : symbol_table described ≡ take 256 bytes
   table-is =
       let all : 256 / size * length (take size bytes) ≡ 256 =
       ap (λ n. 256 / size * n) long-symbols ∙ times_symbols width rule.is_width in
       let count = length-repeats (256 / size) (take size bytes) in
-      ext_get_or 0 (symbol_table told) (take 256 bytes)
+      ext_get_or 0 (symbol_table described) (take 256 bytes)
       (count ∙ all ∙ sym (length-take-le 256 bytes (omega (arith, long))))
       (λ k h.
       let few : k < 256 = omega (arith, h, count, all) in
@@ -438,16 +442,18 @@ module _ (bytes : List ℕ) (width : ℕ) (width_is : get_or bytes 513 0 % 8 ≡
   padding-is (inr some) =
       ap (λ o. unwrap_or o 128) (padding_in-some (get_or bytes 512 0) some.0)
 
-  flags-are : flags width (told).order (told).checks_trailing_bits (told).concatenates ≡ sum
+  flags-are : flags width (described).order (described).checks_trailing_bits
+      (described).concatenates ≡ sum
   flags-are =
-      ap (λ w. flags w (told).order (told).checks_trailing_bits (told).concatenates) (sym width_is)
+      ap (λ w. flags w (described).order (described).checks_trailing_bits (described).concatenates)
+      (sym width_is)
       ∙ sum-is sum rule.flags
 
   wrapped : TellsWrapping width bytes
-      → wrapping_bytes (ignores_some told) (wrapping_by (get_or bytes 514 0) (drop 515 bytes))
+      → wrapping_bytes (ignores_some described) (wrapping_by (get_or bytes 514 0) (drop 515 bytes))
       ≡ drop 514 bytes
   wrapped (inl none) =
-      let ignores : ignores_some told ≡ false =
+      let ignores : ignores_some described ≡ false =
       none_passes is_ignored (map meaning_of_entry low) Invalid (λ i h.
       let few : i < 128 = omega (arith, h, length-map low meaning_of_entry, long-low) in
       ap is_ignored (meaning-at i few)
@@ -456,7 +462,7 @@ module _ (bytes : List ℕ) (width : ℕ) (width_is : get_or bytes 513 0 % 8 ≡
       ∙ sym (drop_of_length-le bytes {i = 514} (omega (arith, none.0)))
   wrapped (inr (inl some)) =
       let ignored = some.2 in
-      let ignores : ignores_some told ≡ true =
+      let ignores : ignores_some described ≡ true =
       list_any_at is_ignored (map meaning_of_entry low) ignored.0 Invalid
       (omega (arith, ignored.1.0, length-map low meaning_of_entry, long-low))
       (ap is_ignored (ignored-at ignored.0 ignored.1)) in
@@ -464,13 +470,13 @@ module _ (bytes : List ℕ) (width : ℕ) (width_is : get_or bytes 513 0 % 8 ≡
       ∙ sym (drop-cons bytes 514 0 (omega (arith, some.0))
       ∙ (λ i. some.1 i ∷ drop_of_length-le bytes {i = 515} (omega (arith, some.0)) i))
   wrapped (inr (inr lines)) =
-      ap (wrapping_bytes (ignores_some told)) (wrapping-of (get_or bytes 514 0) lines.some)
+      ap (wrapping_bytes (ignores_some described)) (wrapping-of (get_or bytes 514 0) lines.some)
       ∙ sym (drop-cons bytes 514 0 (omega (arith, lines.ended)))
 
   abbrev end : List ℕ
   end = get_or bytes 512 0 ∷ sum ∷ drop 514 bytes
 
-  ends-are : ends told ≡ end
+  ends-are : ends described ≡ end
   ends-are =
       λ i. padding-is rule.padding i ∷ flags-are i ∷ wrapped rule.end i
 
@@ -479,18 +485,18 @@ module _ (bytes : List ℕ) (width : ℕ) (width_is : get_or bytes 513 0 % 8 ≡
       sym (drop-cons bytes 512 0 (omega (arith, long))
       ∙ ap (λ l. get_or bytes 512 0 ∷ l) (drop-cons bytes 513 0 (omega (arith, long))))
 
-  pub layout-told : layout told ≡ bytes
-  layout-told =
+  pub layout-described : layout described ≡ bytes
+  layout-described =
       (λ i. table-is i ++ codes-are i ++ high-is i ++ (ends-are ∙ end-is) i)
       ∙ ap (λ l. l ++ take 128 (drop 384 bytes) ++ drop 512 bytes) (sym (take-add 256 128 bytes))
       ∙ ap (λ l. l ++ drop 512 bytes) (sym (take-add 384 128 bytes))
       ∙ take-append-drop 512 bytes
 
-  pub specified-told : (base : Base) × IsSpecified base × (layout base ≡ bytes)
-  specified-told = (told, IsSpecified-ruled told is_ruled, layout-told)
+  pub specified-described : (base : Base) × IsSpecified base × (layout base ≡ bytes)
+  specified-described = (described, IsSpecified-ruled described is_ruled, layout-described)
 
 pub layouts : Layouts
 layouts bytes = (
   λ has. layout-rules has.0 bytes has.1 has.2,
-  λ rule. specified-told bytes (get_or bytes 513 0 % 8) refl rule,
+  λ rule. specified-described bytes (get_or bytes 513 0 % 8) refl rule,
 )

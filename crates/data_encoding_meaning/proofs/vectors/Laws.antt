@@ -112,11 +112,11 @@ told_of_text : FaultTold → SymbolTold → TrailingTold → WholeTold
     → fault_of (built base64_nopad_fields) (codes "SGV!Q!") ≡ Some (at Symbol index) → index ≡ 3)
     × (fault_of (built base64_nopad_fields) (codes "SGVsQR") ≡ Some (at Trailing 5))
     × (fault_of (built hexlower_fields) (codes "4G4g") ≡ Some (at Symbol 1))
-told_of_text told symbol trailing whole =
+told_of_text fault symbol trailing whole =
     let base = built base64_nopad_fields in
     let is = is_specified base64_nopad_fields refl in
     let some : (a b : ℕ) → Some a ≡ Some b → b ≡ a = λ a b h. cc in (
-      told base is refl refl (codes "SGVsQR") refl,
+      fault base is refl refl (codes "SGVsQR") refl,
       (λ index h. some 3 index ((symbol base is refl refl (codes "SGV!Q!") refl index).0 h)),
       (trailing base is refl refl (codes "SGVsQR") refl 5).1 (refl, refl, refl),
       whole (built hexlower_fields) (is_specified hexlower_fields refl) refl refl

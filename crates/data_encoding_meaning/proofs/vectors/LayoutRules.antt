@@ -81,12 +81,11 @@ padding_told : (bytes : List ℕ)
     × (TellsPadding 6 bytes → slice_index bytes 512 ≡ 128 → entry_in bytes 61 ≡ 130 → ⊥)
     × (TellsPadding 6 bytes → slice_index bytes 512 ≡ 61 → entry_in bytes 61 ≡ 130)
 padding_told bytes = (
-  λ tells. ⊎_elim (λ none. none.0) (λ some. absurd (some.2 refl)) tells,
-  λ tells high. ⊎_elim (λ none. omega (arith, none.0, high)) (λ some. omega (arith, some.0, high))
-      tells,
-  λ tells none is. ⊎_elim (λ no. no.1 61 (lit< tt) is) (λ some. omega (arith, some.0, none)) tells,
-  λ tells equals. ⊎_elim (λ none. absurd (omega (arith, none.0, equals)))
-      (λ some. rw equals at some.1) tells,
+  λ it. ⊎_elim (λ none. none.0) (λ some. absurd (some.2 refl)) it,
+  λ it high. ⊎_elim (λ none. omega (arith, none.0, high)) (λ some. omega (arith, some.0, high)) it,
+  λ it none is. ⊎_elim (λ no. no.1 61 (lit< tt) is) (λ some. omega (arith, some.0, none)) it,
+  λ it equals. ⊎_elim (λ none. absurd (omega (arith, none.0, equals)))
+      (λ some. rw equals at some.1) it,
 )
 
 -- what follows byte 513: nothing, and LF is not ignored; or one byte, which is 0, and some byte is
@@ -129,7 +128,7 @@ ignored_told : (bytes : List ℕ)
     → (IsIgnoredIn bytes 200 → ⊥) × (IsIgnoredIn bytes 10 → entry_in bytes 10 ≡ 129)
 ignored_told bytes = (λ ignored. omega (arith, ignored.0), λ ignored. ignored.1)
 
--- in any layout of six bits with a byte after byte 514, the lines are as told
+-- in any layout of six bits with a byte after byte 514, the lines are as described
 six_bits_told : (bytes : List ℕ) → IsLayoutOf 6 bytes → 515 < length bytes
     → (slice_index bytes 512 ≡ 61 → entry_in bytes 61 ≡ 130) × TellsLines 6 bytes
 six_bits_told bytes rules more =

@@ -161,17 +161,17 @@ module _ (base : Base) where
       )
 
   -- the fault that follows from the bytes of a text from a position on
-  abbrev told_from : ℕ → List ℕ → Option DecodeError
-  told_from start text =
+  abbrev fault_from : ℕ → List ℕ → Option DecodeError
+  fault_from start text =
       told_by (position_from (is_other base) start text) (leaves_bits base text)
       (start + length text)
 
   -- that of whole groups, and of what follows them
-  told-append : (start : ℕ) (text after : List ℕ) (whole : ℕ)
+  fault_from-append : (start : ℕ) (text after : List ℕ) (whole : ℕ)
       → base.width * length text ≡ 8 * whole
-      → told_from start (text ++ after)
-      ≡ or_else (told_from start text) (told_from (start + length text) after)
-  told-append start text after whole bits =
+      → fault_from start (text ++ after)
+      ≡ or_else (fault_from start text) (fault_from (start + length text) after)
+  fault_from-append start text after whole bits =
       let first = position_from (is_other base) start text in
       let later = position_from (is_other base) (start + length text) after in
       let len : start + length (text ++ after) ≡ start + length text + length after =
@@ -190,22 +190,22 @@ module _ (base : Base) where
 
   -- Consecutive bytes from a position on are judged as their fault says.
   module _ (start : ℕ) (text : List ℕ) (some : 0 < length text) where
-    located-told : (o : Option ℕ) (leaves : Bool)
+    located-first : (o : Option ℕ) (leaves : Bool)
         → ((index : ℕ) → o ≡ Some index → index < length text)
         → located (positioned_from start text)
         (fault_at_first o (cond leaves (faulty_at TrailingFault (length text - 1)) None))
         ≡ told_by (added start o) leaves (start + length text)
-    located-told (Some index) leaves within =
+    located-first (Some index) leaves within =
         rw (position_of-positioned_from start text index (within index refl))
-    located-told None true within =
+    located-first None true within =
         let last : start + (length text - 1) ≡ start + length text - 1 = omega (arith, some) in
         rw (position_of-positioned_from start text (length text - 1) (omega (arith, some)), last)
-    located-told None false within = refl
+    located-first None false within = refl
 
-    symbols-told : located (positioned_from start text)
+    located-symbols : located (positioned_from start text)
         (symbols_fault base (map (meaning base) text))
-        ≡ told_from start text
-    symbols-told =
+        ≡ fault_from start text
+    located-symbols =
         let other : Character → Bool = λ m. not (is_symbol m) in
         let first = position_from (is_other base) 0 text in
         let is : position other (map (meaning base) text) ≡ first =
@@ -215,19 +215,20 @@ module _ (base : Base) where
         ap (λ n. position_from (is_other base) n text) begins
         ∙ from-start (is_other base) start 0 text in
         rw (is, length-map text (meaning base), further)
-        (located-told first (leaves_bits base text)
+        (located-first first (leaves_bits base text)
         (λ index h. omega (arith, from-within (is_other base) 0 index text h)))
 
     module _ (unpadded : is_padded base ≡ false)
         (valid : is_valid_count base.width (length text) ≡ true)
       where
-        judged-told : fault_after false base (positioned_from start text) ≡ told_from start text
-        judged-told =
+        fault_after-from : fault_after false base (positioned_from start text)
+            ≡ fault_from start text
+        fault_after-from =
             let meant = map (meaning base) text in
             let bytes = bytes-positioned_from start text in
             rw (bytes, unpadded)
             (rw (plain_fault-valid base meant (rw (length-map text (meaning base)) valid))
-            symbols-told)
+            located-symbols)
 
 -- a valid number of symbols less those of a group
 valid-less : (width : ℕ) → IsWidth width → (len : ℕ) → group_symbols width ≤ len
@@ -261,12 +262,13 @@ module _ (base : Base) (width : IsWidth base.width) (unpadded : is_padded base �
   never_final group = ap (λ b. not b && list_any is_padding (meanings_in base group)) joins
 
   -- the groups of a text from a position on
-  groups-told : (text : List ℕ) (start : ℕ) → is_valid_count base.width (length text) ≡ true
-      → first_after false base (runs size (positioned_from start text)) ≡ told_from base start text
-  groups-told =
+  first_after-from : (text : List ℕ) (start : ℕ) → is_valid_count base.width (length text) ≡ true
+      → first_after false base (runs size (positioned_from start text)) ≡ fault_from base start text
+  first_after-from =
       by_runs size size-pos
       (λ text. (start : ℕ) → is_valid_count base.width (length text) ≡ true
-      → first_after false base (runs size (positioned_from start text)) ≡ told_from base start text)
+      → first_after false base (runs size (positioned_from start text))
+      ≡ fault_from base start text)
       (λ start valid. rw (runs-nil {X = Positioned} size size-pos)
       (rw (and-false base.checks_trailing_bits)))
       (λ text some others start valid.
@@ -275,7 +277,7 @@ module _ (base : Base) (width : IsWidth base.width) (unpadded : is_padded base �
       (λ (short : length text < size).
       let len = length-positioned_from start text in
       rw (runs-short size ks (omega (arith, len, some)) (omega (arith, len, short)))
-      (or_none (fault_after false base ks) ∙ judged-told base start text some unpadded valid))
+      (or_none (fault_after false base ks) ∙ fault_after-from base start text some unpadded valid))
       (λ (long : size ≤ length text).
       let front = take size text in
       let back = drop size text in
@@ -295,13 +297,13 @@ module _ (base : Base) (width : IsWidth base.width) (unpadded : is_padded base �
       let cut : runs size ks ≡ placed ∷ runs size further =
       ap (runs size) parts
       ∙ runs-append size placed further size-pos (length-positioned_from start front ∙ len) in
-      let judged = judged-told base start front (omega (arith, len, size-pos)) unpadded
+      let judged = fault_after-from base start front (omega (arith, len, size-pos)) unpadded
       front_valid in
       ap (first_after false base) cut
       ∙ (λ i. or_else (judged i) (first_after (never_final placed i) base (runs size further)))
-      ∙ ap (or_else (told_from base start front)) (others (start + length front) back_valid)
-      ∙ sym (told-append base start front back (group_bytes base.width) bits)
-      ∙ ap (told_from base start) (take-append-drop size text))
+      ∙ ap (or_else (fault_from base start front)) (others (start + length front) back_valid)
+      ∙ sym (fault_from-append base start front back (group_bytes base.width) bits)
+      ∙ ap (fault_from base start) (take-append-drop size text))
       (cases_lt (length text) size))
 
   -- the law
@@ -310,12 +312,16 @@ module _ (base : Base) (width : IsWidth base.width) (unpadded : is_padded base �
     valid : is_valid_count base.width (length text) ≡ true
     valid = rw unpadded at (length_fault-valid base (length text) no_fault none)
 
-    pub fault-told : fault_of base text ≡ told_fault base text
-    fault-told =
+    pub fault_of-bytes : fault_of base text ≡ told_fault base text
+    fault_of-bytes =
         let first : position_from (is_other base) 0 text ≡ first_other base text =
         sym (position_from-zero (is_other base) text) in
         let begins : 0 + length text ≡ length text = omega arith in
-        rw (no_fault, filter-plain base none (positioned_from 0 text), groups-told text 0 valid)
+        rw (
+          no_fault,
+          filter-plain base none (positioned_from 0 text),
+          first_after-from text 0 valid,
+        )
         (λ i. told_by (first i) (leaves_bits base text) (begins i))
 
     -- If eight bits are whole symbols, no bits are left.
@@ -327,8 +333,9 @@ module _ (base : Base) (width : IsWidth base.width) (unpadded : is_padded base �
           (leaves-after base text [] (base.width * length text / 8)
           (whole-eight base.width width eight (length text) valid) all).1
 
-      pub whole-told : fault_of base text ≡ told_by (first_other base text) false 0
-      whole-told = fault-told ∙ by (first_other base text) (leaves_bits base text) none-left where
+      pub fault_of-whole : fault_of base text ≡ told_by (first_other base text) false 0
+      fault_of-whole =
+          fault_of-bytes ∙ by (first_other base text) (leaves_bits base text) none-left where
         by : (o : Option ℕ) (leaves : Bool) → (o ≡ None → leaves ≡ false)
             → told_by o leaves (length text) ≡ told_by o false 0
         by None leaves h = rw (h refl)
@@ -338,31 +345,31 @@ same_error : (error other : DecodeError) → Some error ≡ Some other → error
 same_error error other h = cc
 
 -- The position of the fault, by its kind.
-pub symbol-told : (o : Option ℕ) (leaves : Bool) (len index : ℕ)
+pub symbol-fault : (o : Option ℕ) (leaves : Bool) (len index : ℕ)
     → (told_by o leaves len ≡ Some (record { position = index; kind = SymbolFault }))
     ↔ (o ≡ Some index)
-symbol-told (Some place) leaves len index = (
+symbol-fault (Some place) leaves len index = (
   (λ h.
       let at : place ≡ index = ap (λ e. e.position) (same_error _ _ h) in ap (λ n. Some n) at),
   (λ h. cc),
 )
-symbol-told None true len index = (
+symbol-fault None true len index = (
   (λ h.
       let kind : TrailingFault ≡ SymbolFault = ap (λ e. e.kind) (same_error _ _ h) in absurd cc),
   (λ h. cc),
 )
-symbol-told None false len index = ((λ h. cc), (λ h. cc))
+symbol-fault None false len index = ((λ h. cc), (λ h. cc))
 
-pub trailing-told : (o : Option ℕ) (leaves : Bool) (len index : ℕ) → (leaves ≡ true → 0 < len)
+pub trailing-fault : (o : Option ℕ) (leaves : Bool) (len index : ℕ) → (leaves ≡ true → 0 < len)
     → (told_by o leaves len ≡ Some (record { position = index; kind = TrailingFault }))
     ↔ ((o ≡ None) × (leaves ≡ true) × (index + 1 ≡ len))
-trailing-told (Some place) leaves len index some = (
+trailing-fault (Some place) leaves len index some = (
   (λ h.
       let kind : SymbolFault ≡ TrailingFault = ap (λ e. e.kind) (same_error _ _ h) in absurd cc),
   (λ h. absurd (cc h.0)),
 )
-trailing-told None false len index some = ((λ h. cc), (λ h. absurd (cc h.1)))
-trailing-told None true len index some = (
+trailing-fault None false len index some = ((λ h. cc), (λ h. absurd (cc h.1)))
+trailing-fault None true len index some = (
   (λ h.
       let at : len - 1 ≡ index = ap (λ e. e.position) (same_error _ _ h) in
       (refl, refl, omega (arith, at, some refl))),
