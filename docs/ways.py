@@ -45,7 +45,7 @@ ENCODE = """
     join_fours spread_six_bits eight_threes four_threes         # and the highest bit is first.
 """
 MIME = """
-    decode_text: of decode_run_after_ignored decode_next decode_rest    # Bytes are ignored,
+    decode_text: of decode_run_after_ignored decode_next        # Bytes are ignored,
     decode_by_blocks gather                                     # but within no group.
     five_bytes_of_word                                          # Symbols have six bits.
     decode_by_several: entry_of decode_whole_turns              # What is left is short.
@@ -55,7 +55,8 @@ MIME = """
     has_trailing is_end decode_front
 """
 SHORT = MIME + """
-    decode_ignoring: decode_rest has_lanes is_short_run decode_after_runs    # The text is short,
+    decode_text: decode_rest                                    # The text is short,
+    decode_ignoring: has_lanes is_short_run decode_after_runs
     decode_first_run: entry_of progress_at                      # also for lanes.
     is_short_run: is_short_before has_next_gaps                 # No run comes before the fault,
     has_next_gaps: count_gaps                                   # and few bytes after it.
@@ -63,8 +64,7 @@ SHORT = MIME + """
     decode_by_few: entry_of decode_whole_turns
 """
 LINES = MIME + """
-    decode_ignoring: decode_first_run is_short_before           # The text is long,
-    decode_ignoring: decode_after_runs decode_more_runs
+    decode_text: decode_ignoring                                # The text is long,
     is_short_run: is_broken_next                                # and so are its lines.
     decode_padded_group: starts_whole decode_group ignored_front
     words_of_groups: look_up_16 words_of_two count_below.1 look_up_64 words_of_eight

@@ -218,7 +218,7 @@ impl EncodingRef<'_> {
     }
 }
 
-// Whether a part has at least two gaps of ignored bytes, and as many as blocks need to go on.
+// Whether a part has at least two gaps of ignored bytes, as blocks need to go on.
 #[inline(always)]
 fn has_gaps(ignored: &IgnoredBytes, part: &[u8]) -> bool
     requires few { length part.now ≤ FIRST_LEN }
@@ -229,9 +229,12 @@ fn has_gaps(ignored: &IgnoredBytes, part: &[u8]) -> bool
         let kept = ignored.kept_bits(&part[16 * turn..16 * turn + 16]);
         let starts = !kept & (kept << 1 | before) & 0xffff;
         gaps += starts.count_ones() as usize;
+        if gaps >= 2 {
+            return true;
+        }
         before = kept >> 15;
     }
-    gaps >= 2 && gaps * MIXED >= part.len()
+    false
 }
 
 // Moves what is left of a block to the front of the room, and packs the next bytes of the text, as

@@ -90,7 +90,12 @@ impl EncodingRef<'_> {
         ensures { HasEnded self.now input.now output.new stop.new result }
     {
         if self.fields.ignores {
-            return self.decode_ignoring::<L, O, G>(input, output, stop);
+            if input.len() < 48 * G::BYTES {
+                return self.decode_ignoring::<L, O, G>(input, output, stop);
+            }
+            stop.read = 0;
+            stop.written = 0;
+            return self.decode_rest::<L, O, G>(input, output, stop);
         }
         let look_up = L::of(&self.fields.values);
         let entries = Entries {
@@ -106,7 +111,7 @@ impl EncodingRef<'_> {
         }
     }
 
-    // If bytes are ignored, most short texts are few runs, with ignored bytes after each.
+    // A short text, where bytes are ignored: most are few runs, with ignored bytes after each.
     // Not inlined, so that other texts keep their registers.
     #[inline(never)]
     fn decode_ignoring<L: LookUp, O: ConstantOrder, G: GroupSize>(
@@ -119,11 +124,6 @@ impl EncodingRef<'_> {
         requires exact { HasExactOutput self.now input.now output.old }
         ensures { HasEnded self.now input.now output.new stop.new result }
     {
-        if input.len() >= 48 * G::BYTES {
-            stop.read = 0;
-            stop.written = 0;
-            return self.decode_rest::<L, O, G>(input, output, stop);
-        }
         let at = self.decode_first_run::<L, O, G>(input, output);
         stop.written = at.written;
         if at.read + at.ignored == input.len() {

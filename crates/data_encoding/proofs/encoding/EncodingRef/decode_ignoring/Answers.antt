@@ -1,13 +1,6 @@
-use Rattle.std.proofs.Common.{ℕ, sym, subst, length-drop, arith}
-use Rattle.data_encoding_meaning.specs.text.Base.{IsWidth}
-use Rattle.data_encoding_meaning.proofs.decoding.ProgressLemmas.{begin}
-use Rattle.data_encoding_meaning.proofs.digits.SizeLemmas.{bytes-are}
+use Rattle.std.proofs.Common.{ℕ, length-drop, arith}
 use Rattle.data_encoding.proofs.decoding.StepLemmas.{decoded-after, under_way}
 use Rattle.data_encoding.proofs.encoding.EncodingRef.decode_ignoring.Goals as goal
-
-pub overflow_mul-BYTES : goal.overflow_mul-BYTES
-overflow_mul-BYTES g c =
-    record { fits = omega (arith, bytes-are g.G.GroupSize.is_group, c.BYTES.ensures) }
 
 pub overflow_add-at : goal.overflow_add-at
 overflow_add-at g c =
@@ -24,9 +17,3 @@ returns-then-at-input g c =
     let at = c.decode_first_run-at.ensures in
     decoded-after (under_way g.G.GroupSize.is_group c.requires.coded.width_is at.exact at.so_far)
     at.front (omega (arith, c.if-at-input.true))
-
-pub decode_rest-requires-clause-so_far : goal.decode_rest-requires-clause-so_far
-decode_rest-requires-clause-so_far g c =
-    begin c.args.self.now (subst IsWidth (sym c.requires.coded.width_is)
-    g.G.GroupSize.is_group.is_width)
-    c.args.input.now c.args.output.now

@@ -4,7 +4,7 @@ use Rattle.data_encoding.proofs.decoding.OutputLemmas.{goes-further, goes-nowher
 use Rattle.data_encoding.specs.Progress.{GoesOn}
 use Rattle.data_encoding.proofs.encoding.EncodingRef.decode_runs.Given.{Over}
 use Rattle.data_encoding.proofs.encoding.EncodingRef.decode_runs.Goals as goal
-use Rattle.data_encoding.proofs.encoding.EncodingRef.decode_runs.Goals.{Joined-has_lanes-2, else-has_lanes-2, then-has_lanes-2+then-input-at+else-is_short+else-left-least}
+use Rattle.data_encoding.proofs.encoding.EncodingRef.decode_runs.Goals.{Joined-has_lanes-2, else-has_lanes-2, then-has_lanes-2+then-input-at+else-is_short+else-left-SYMBOLS+else-left-least}
 
 pub overflow_mul-SYMBOLS : goal.overflow_mul-SYMBOLS
 overflow_mul-SYMBOLS g c =
@@ -18,7 +18,7 @@ turned : (g : Over) (c : Joined-has_lanes-2 g)
     c.if-has_lanes-2.output
 turned g c =
     elim c.if-has_lanes-2.branch [
-      | then-has_lanes-2+then-input-at+else-is_short+else-left-least w ↦
+      | then-has_lanes-2+then-input-at+else-is_short+else-left-SYMBOLS+else-left-least w ↦
           rw (w.at-is, w.output-is) w.decode_runs_by_turns-at.ensures
       | else-has_lanes-2 w ↦ rw (w.at-is, w.output-is) (goes-nowhere c.requires.at)
     ]

@@ -4,8 +4,18 @@ use Rattle.data_encoding_meaning.proofs.decoding.IgnoredFrontLemmas.{no_front}
 use Rattle.data_encoding.proofs.decoding.OutputLemmas.{exact-same}
 use Rattle.data_encoding.proofs.decoding.StepLemmas.{decoded-all, under_way}
 use Rattle.data_encoding_meaning.proofs.decoding.ProgressLemmas.{begin}
+use Rattle.data_encoding_meaning.proofs.digits.SizeLemmas.{bytes-are}
 use Rattle.data_encoding.proofs.tables.TableLemmas.{Reads-seen}
 use Rattle.data_encoding.proofs.encoding.EncodingRef.decode_text.Goals as goal
+
+pub overflow_mul-BYTES : goal.overflow_mul-BYTES
+overflow_mul-BYTES g c =
+    record { fits = omega (arith, bytes-are g.G.GroupSize.is_group, c.BYTES.ensures) }
+
+pub decode_rest-requires-clause-so_far : goal.decode_rest-requires-clause-so_far
+decode_rest-requires-clause-so_far g c =
+    begin c.args.self.now (subst IsWidth (sym c.requires.coded.width_is)
+    g.G.GroupSize.is_group.is_width) c.args.input.now c.args.output.now
 
 pub decode_run_after_ignored-at-requires-clause-entries :
     goal.decode_run_after_ignored-at-requires-clause-entries
