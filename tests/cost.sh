@@ -33,8 +33,10 @@ bounds='
 2.20 3.20 lines of 12
 2.20 3.20 lines of 16
 2.20 3.20 lines of 24
+2.20 3.20 lines of 40
 2.20 3.20 base32 in lines of 16
 2.20 3.20 base32 in lines of 32
+2.20 3.20 base32 in lines of 40
 2.30 3.25 lines of 50 to 76
 1.75 2.70 a space after each symbol
 2.10 3.05 a space after each 4 symbols
@@ -51,7 +53,7 @@ bounds='
 10.7 21.8 padded texts of one byte
 4.80 9.00 padded texts of 20 bytes
 2.25 3.20 64 and 4 symbols by turns, with gaps of four
-2.80 4.25 192 and 4 symbols by turns, with gaps of two and four
+2.80 4.35 192 and 4 symbols by turns, with gaps of two and four
 2.80 5.70 one symbol and line ends
 2.10 2.20 40 bytes in pairs and 400 plain ones by turns
 2.65 1.35 plain

@@ -104,6 +104,11 @@ static void lines_of_32(size_t turn) {
     line(32, "\n");
 }
 
+static void lines_of_40(size_t turn) {
+    (void)turn;
+    line(40, "\n");
+}
+
 static void ragged_lines(size_t turn) {
     (void)turn;
     line(50 + number_below(27), "\n");
@@ -213,8 +218,10 @@ static const struct row rows[] = {
     {"lines of 12", &base64, lines_of_12, DE_OK},
     {"lines of 16", &base64, lines_of_16, DE_OK},
     {"lines of 24", &base64, lines_of_24, DE_OK},
+    {"lines of 40", &base64, lines_of_40, DE_OK},
     {"base32 in lines of 16", &base32, lines_of_16, DE_OK},
     {"base32 in lines of 32", &base32, lines_of_32, DE_OK},
+    {"base32 in lines of 40", &base32, lines_of_40, DE_OK},
     {"lines of 50 to 76", &base64, ragged_lines, DE_OK},
     {"a space after each symbol", &base64, spaces_after_1, DE_OK},
     {"a space after each 4 symbols", &base64, spaces_after_4, DE_OK},
