@@ -1,4 +1,4 @@
-use Rattle.std.proofs.Common.{◌≡◌, ◌+◌, ◌/◌, ◌%◌, ◌∙◌, false, None, Some, take, drop, length, rules, sym, subst, arith, length-append, length-take, length-take-le}
+use Rattle.std.proofs.Common.{◌≡◌, ◌+◌, ◌/◌, ◌%◌, ◌∙◌, false, None, Some, take, drop, length, sym, subst, arith, length-append, length-take, length-take-le}
 use Rattle.std.proofs.lemmas.Bool.{false≢true}
 use Rattle.std.proofs.lemmas.List.{take-append-le, take-take}
 use Rattle.data_encoding.specs.Base.{group_symbols}
@@ -6,7 +6,7 @@ use Rattle.data_encoding.specs.Grammar.{Means}
 use Rattle.data_encoding.specs.Laws.{further}
 use Rattle.encoding_stream.specs.Pieces.{base_of_pieces, FillsGroups}
 use Rattle.encoding_stream.specs.Reading.{ReadsOn}
-use Rattle.encoding_stream.proofs.PieceLemmas.{is-specified, no-fault}
+use Rattle.encoding_stream.proofs.PieceLemmas.{is-specified, no-fault, no-fault-inside}
 use Rattle.encoding_stream.proofs.ReadPieceLemmas.{reads-nothing}
 use Rattle.encoding_stream.proofs.ReadRunLemmas.{IsFresh, due-fits, reads-run, run-sound}
 use Rattle.encoding_stream.proofs.pieces.BufferDecoder.read_run.Goals as goal
@@ -136,7 +136,7 @@ invariant_of-self-2 c =
         c.due-len.ensures.few,
       );
       inside = λ k d at. omega (arith, s.inside k d at);
-      fault_inside = search rules;
+      fault_inside = no-fault-inside s.kept _ (sym c.is_some.ensures ∙ c.if-is_some.false);
     }
 
 pub returns-then-self-ne0-clause-reads : goal.returns-then-self-ne0-clause-reads
