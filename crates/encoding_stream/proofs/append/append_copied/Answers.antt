@@ -26,7 +26,7 @@ returns-in_err-reserve-clause-room g c = λ room.
     let len = length-take-le read.result read.new.output read.ensures.within in
     absurd (false≢true (c.in_err-reserve.ensures.succeeds
     (elim c.if-rest-gt0.branch [
-      then-rest-gt0 w ↦ omega (
+      | then-rest-gt0 w ↦ omega (
         arith,
         room,
         few,

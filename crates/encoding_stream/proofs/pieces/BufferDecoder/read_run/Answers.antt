@@ -217,10 +217,12 @@ slice_bounds-decode_run-end-3 c =
 
 pub decode_run-requires-clause-exact : goal.decode_run-requires-clause-exact
 decode_run-requires-clause-exact c =
-    rw (length-take-le c.due-len.result.0 c.args.piece.now c.due-len.ensures.few,
-    length-take-le c.due-len.result.1 c.args.output.now
-    (due-fits c.args.self.now (length c.args.piece.now) c.if-self-ne0.false
-    (sym c.is_some.ensures ∙ c.if-is_some.false) c.due-len.ensures.bytes c.requires.room))
+    rw (
+      length-take-le c.due-len.result.0 c.args.piece.now c.due-len.ensures.few,
+      length-take-le c.due-len.result.1 c.args.output.now
+          (due-fits c.args.self.now (length c.args.piece.now) c.if-self-ne0.false
+          (sym c.is_some.ensures ∙ c.if-is_some.false) c.due-len.ensures.bytes c.requires.room),
+    )
     c.due-len.ensures.due
 
 pub invariant_of-self : goal.invariant_of-self
