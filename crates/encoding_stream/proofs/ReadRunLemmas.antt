@@ -10,7 +10,8 @@ use Rattle.data_encoding.specs.Laws.{further}
 use Rattle.data_encoding.specs.Lengths.{decoded_len, length_fault, most_bytes, unless_fault}
 use Rattle.data_encoding.specs.Pieces.{CountsGroups, ReadsSound}
 use Rattle.encoding_stream.specs.declared.pieces.Kept.{Kept}
-use Rattle.encoding_stream.specs.Pieces.{at_positions, FillsGroups, Keeps}
+use Rattle.encoding_stream.specs.declared.pieces.BufferDecoder.{BufferDecoder}
+use Rattle.encoding_stream.specs.Pieces.{at_positions, base_of_pieces, bytes_due, most_completed, FillsGroups, Keeps}
 use Rattle.encoding_stream.specs.Reading.{has_final, HasOnlyWholeGroups, ReadsOn, ReadsRunTo}
 use Rattle.encoding_stream.proofs.PieceLemmas.{no-fault}
 use Rattle.encoding_stream.proofs.ReadPieceLemmas.{fills-few}
@@ -26,6 +27,14 @@ pub record IsFresh (kept : Kept) : Type 0 where
 nothing-held : (count : ℕ) (positions bytes : List ℕ) → count ≡ 0
     → at_positions count positions bytes ≡ []
 nothing-held count positions bytes none = ap (λ n. at_positions n positions bytes) none
+
+-- where nothing is held and no group has a fault, there is room for what is due
+pub due-fits : (pieces : BufferDecoder) (len : ℕ) {due room : ℕ} → pieces.kept.count ≡ 0
+    → is_some pieces.kept.fault ≡ false → due ≡ bytes_due (base_of_pieces pieces) len
+    → most_completed (base_of_pieces pieces) pieces.kept len ≤ room → due ≤ room
+due-fits pieces len none sound is within =
+    let all : pieces.kept.count + len ≡ len = omega (arith, none) in
+    rw is (rw (sound, all) at within)
 
 -- the positions and bytes that are not held may be any
 pub reads-run : (base : Base) → IsWidth base.width → (old : Kept) → IsFresh old

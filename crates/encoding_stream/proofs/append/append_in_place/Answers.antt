@@ -1,4 +1,4 @@
-use Rattle.std.proofs.Common.{◌≡◌, ◌+◌, length, take, rules, arith, ◌∙◌}
+use Rattle.std.proofs.Common.{◌≡◌, ◌+◌, length, take, rules, arith, length-take-le, ◌∙◌}
 use Rattle.std.proofs.lemmas.Grind.{common_steps}
 use Rattle.encoding_stream.proofs.ReadPieceLemmas.{cut-written}
 use Rattle.encoding_stream.proofs.append.append_in_place.Goals as goal
@@ -20,3 +20,15 @@ returns-clause-appends g c =
           read.new.output _ front (omega (arith, whole, sized)) whole read.ensures.len
           read.ensures.within;
     }
+
+pub returns-clause-rest : goal.returns-clause-rest
+returns-clause-rest g c = λ rest room.
+    let read = c.read-written in
+    omega (
+      arith,
+      room,
+      read.ensures.reads.few rest,
+      length-take-le read.result read.new.output read.ensures.within,
+      c.truncate.ensures.len,
+      c.truncate.ensures.capacity,
+    )

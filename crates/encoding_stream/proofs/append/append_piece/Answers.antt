@@ -1,7 +1,9 @@
 use Rattle.std.proofs.Common.{◌≡◌, ◌+◌, ◌-◌, ◌≤◌, ◌++◌, length, take, vec_capacity, vec_len, refl, subst, ◌∙◌, arith, inl, inr, ⊎_elim, Result, Ok, Err}
 use Rattle.std.proofs.lemmas.Bool.{false≢true}
+use Rattle.std.proofs.lemmas.List.{take_all}
 use Rattle.std.specs.Prelude.{OnErr}
 use Rattle.encoding_stream.specs.Pieces.{base_of_pieces, most_completed}
+use Rattle.encoding_stream.specs.Reading.{AppendsPiece}
 use Rattle.encoding_stream.proofs.DecoderLemmas.{appends-next, appends-nothing, part-adds-none, room-both}
 use Rattle.encoding_stream.proofs.PieceLemmas.{is-specified}
 use Rattle.encoding_stream.proofs.append.append_piece.Goals as goal
@@ -109,3 +111,18 @@ loop-read-preserved g c =
           (c.in_ok-append_chunk.ensures.rest (here (room c.loop-read-test.true)))))
           now.grown;
     }
+
+pub returns-clause-appends : goal.returns-clause-appends
+returns-clause-appends g c =
+    subst (λ p. AppendsPiece (base_of_pieces c.args.pieces.now) c.args.pieces.now.kept
+    c.loop-read.pieces.kept p c.args.output.now.items c.loop-read.output.items)
+    (take_all c.loop-read.read c.args.piece.now c.loop-read-test.false)
+    c.loop-read.invariant.appends
+
+pub returns-then-piece-le-SHORT-clause-room : goal.returns-then-piece-le-SHORT-clause-room
+returns-then-piece-le-SHORT-clause-room g c = λ room.
+    let whole : length c.args.piece.now ≡ length c.args.piece.now + 0 = omega arith in
+    c.append_copied.ensures.room
+    (subst (λ n. vec_len c.args.output.now
+    + most_completed (base_of_pieces c.args.pieces.now) c.args.pieces.now.kept n
+    ≤ vec_capacity c.args.output.now) whole room)

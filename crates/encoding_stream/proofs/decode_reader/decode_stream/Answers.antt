@@ -1,6 +1,8 @@
-use Rattle.std.proofs.Common.{◌≡◌, ◌≤◌, ◌++◌, length, length-take, length-append, drop, take, refl, sym, ◌∙◌, subst, rules, arith, length-take-le, false}
+use Rattle.std.proofs.Common.{◌≡◌, ◌≤◌, ◌++◌, Option, None, Some, length, length-take, length-append, drop, take, refl, sym, ◌∙◌, subst, arith, length-take-le, false}
 use Rattle.std.proofs.lemmas.List.{length-drop}
+use Rattle.std.proofs.lemmas.Bool.{false≢true}
 use Rattle.std.specs.Io.KnownBytes.{IsAtEnd}
+use Rattle.std.specs.Prelude.{IfSome}
 use Rattle.std.proofs.KnownBytes.{Consumes-whole}
 use Rattle.data_encoding.specs.Fault.{fault_of}
 use Rattle.encoding_stream.specs.Decoded.{result_of, EndsText}
@@ -46,8 +48,9 @@ loop-count-preserved g c =
       decoded =
           decoded-more base c.new-pieces.ensures.specified now.decoded c.in-Ok.ensures.bytes reads
           (on-works c.write_all.result c.if-is_err.ensures.value c.write_all.ensures.bytes);
-      reader_works = search rules;
-      writer_works = search rules;
+      reader_works = c.in-Ok.ensures.failed;
+      writer_works =
+          (rw now.writer_works at c.write_all.ensures.failed) ∙ sym c.if-is_err.ensures.value;
       limit = omega (arith, reads.counted, taken, c.if-count-left.false, now.limit);
       chunk =
           length-append c.fill.new.buffer (drop asked c.loop-count.buffer)
@@ -184,3 +187,15 @@ read-written-requires-clause-room g c =
       c.min-asked.ensures,
       c.loop-count.invariant.room,
     )
+
+-- what holds of each value holds of the one that is there
+each_some : {X : Type 0} {P : X → Type 0} (r : Option X) → ((x : X) → P x) → IfSome r P
+each_some None all = tt
+each_some (Some x) all = all x
+
+pub returns-then-is_err-clause-judges : goal.returns-then-is_err-clause-judges
+returns-then-is_err-clause-judges g c =
+    each_some (g.R.Read.remaining (inner_of c.args.reader.now))
+    (λ _ _ _ works. absurd (false≢true (sym works
+    ∙ (rw c.loop-count.invariant.writer_works at c.write_all.ensures.failed)
+    ∙ sym c.if-is_err.ensures.value)))

@@ -1,4 +1,4 @@
-use Rattle.std.proofs.Common.{◌≡◌, ℕ, ◌+◌, ◌%◌, ◌<◌, ◌≤◌, ◌⊎◌, ⊎_elim, inl, inr, List, ◌++◌, length, length-append, length-take, drop, take, refl, ap, ◌∙◌, rules, arith, length-take-le}
+use Rattle.std.proofs.Common.{◌≡◌, ℕ, ◌+◌, ◌%◌, ◌<◌, ◌≤◌, ◌⊎◌, ⊎_elim, inl, inr, List, ◌++◌, length, length-append, length-take, drop, take, refl, ap, ◌∙◌, arith, length-take-le}
 use Rattle.std.proofs.lemmas.Bool.{cases_lt}
 use Rattle.std.proofs.lemmas.Option.{IfSome_then}
 use Rattle.std.proofs.lemmas.List.{length-drop, take-append-le}
@@ -177,8 +177,8 @@ loop-count-preserved g c =
     (rw piece at c.in-Ok-write_text.ensures.text) in
     record {
       encoded = rw (← sum) encoded;
-      reader_works = search rules;
-      writer_works = search rules;
+      reader_works = c.in-Ok.ensures.failed;
+      writer_works = c.in-Ok-write_text.ensures.failed;
       chunk =
           length-append c.fill.new.buffer (drop asked c.loop-count.buffer)
           ∙ omega (

@@ -1,4 +1,6 @@
 use Rattle.std.proofs.Common.{arith}
+use Rattle.std.proofs.Math.Seq.{take-length}
+use Rattle.std.proofs.lemmas.Bool.{false≢true}
 use Rattle.encoding_stream.specs.Pieces.{base_of_pieces}
 use Rattle.encoding_stream.proofs.PieceLemmas.{is-specified}
 use Rattle.encoding_stream.proofs.ReadRunLemmas.{stopped-most, stopped-within}
@@ -40,3 +42,11 @@ returns-in-Err-2-clause-written c =
     c.requires.exact c.in-Err.partial c.in-Err.ensures.bounds
     (rw c.by_ref.ensures at c.in-Err.ensures.most) in
     omega (arith, fits, c.decode_mut.ensures.len)
+
+pub returns-in-Ok-clause-means : goal.returns-in-Ok-clause-means
+returns-in-Ok-clause-means c =
+    rw (take-length c.args.text.now, ← c.by_ref.ensures) c.in-Ok.ensures.decoded.1
+
+pub returns-in-Err-2-clause-all : goal.returns-in-Err-2-clause-all
+returns-in-Err-2-clause-all c = λ bytes means.
+    absurd (false≢true (c.in-Err.ensures.accepted bytes (rw c.by_ref.ensures means)))

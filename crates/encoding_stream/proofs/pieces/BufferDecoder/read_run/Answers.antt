@@ -1,4 +1,4 @@
-use Rattle.std.proofs.Common.{◌≡◌, ◌+◌, ◌/◌, ◌%◌, ◌∙◌, false, None, Some, take, drop, length, rules, sym, subst, arith, length-append, length-take, length-take-le}
+use Rattle.std.proofs.Common.{◌≡◌, ◌+◌, ◌/◌, ◌%◌, ◌∙◌, false, None, Some, take, drop, length, sym, subst, arith, length-append, length-take, length-take-le}
 use Rattle.std.proofs.lemmas.Bool.{false≢true}
 use Rattle.std.proofs.lemmas.List.{take-append-le, take-take}
 use Rattle.data_encoding.specs.Base.{group_symbols}
@@ -6,9 +6,9 @@ use Rattle.data_encoding.specs.Grammar.{Means}
 use Rattle.data_encoding.specs.Laws.{further}
 use Rattle.encoding_stream.specs.Pieces.{base_of_pieces, FillsGroups}
 use Rattle.encoding_stream.specs.Reading.{ReadsOn}
-use Rattle.encoding_stream.proofs.PieceLemmas.{is-specified, no-fault}
+use Rattle.encoding_stream.proofs.PieceLemmas.{is-specified, no-fault, no-fault-inside}
 use Rattle.encoding_stream.proofs.ReadPieceLemmas.{reads-nothing}
-use Rattle.encoding_stream.proofs.ReadRunLemmas.{IsFresh, reads-run, run-sound}
+use Rattle.encoding_stream.proofs.ReadRunLemmas.{IsFresh, due-fits, reads-run, run-sound}
 use Rattle.encoding_stream.proofs.pieces.BufferDecoder.read_run.Goals as goal
 
 pub returns-in-Err-clause-reads : goal.returns-in-Err-clause-reads
@@ -36,9 +36,9 @@ returns-in-Err-clause-reads c =
       );
     } in
     let fresh : IsFresh old = record {
-      none = search rules;
-      sound = search rules;
-      goes_on = search rules;
+      none = c.if-self-ne0.false;
+      sound = sym c.is_some.ensures ∙ c.if-is_some.false;
+      goes_on = c.if-self.false;
     } in
     rw (take-append-le partial.written new (drop c.due-len.result.1 c.args.output.now) within)
     (subst (λ e. ReadsOn base old (record old {
@@ -80,9 +80,9 @@ returns-clause-reads c =
     let whole =
     c.are_whole.ensures.whole c.if-not-are_whole.false front bytes front-is bytes-is means in
     let fresh : IsFresh old = record {
-      none = search rules;
-      sound = search rules;
-      goes_on = search rules;
+      none = c.if-self-ne0.false;
+      sound = sym c.is_some.ensures ∙ c.if-is_some.false;
+      goes_on = c.if-self.false;
     } in
     let ends = c.has_final-self.ensures.ends front bytes bytes-is means in
     rw (take-append-le written new (drop c.due-len.result.1 c.args.output.now)
@@ -136,7 +136,7 @@ invariant_of-self-2 c =
         c.due-len.ensures.few,
       );
       inside = λ k d at. omega (arith, s.inside k d at);
-      fault_inside = search rules;
+      fault_inside = no-fault-inside s.kept _ (sym c.is_some.ensures ∙ c.if-is_some.false);
     }
 
 pub returns-then-self-ne0-clause-reads : goal.returns-then-self-ne0-clause-reads
@@ -203,3 +203,41 @@ returns-clause-within c =
       c.in-Ok.ensures.written,
       length-append c.decode_run.new.output (drop c.due-len.result.1 c.args.output.now),
     )
+
+pub slice_bounds-decode_run-end-2 : goal.slice_bounds-decode_run-end-2
+slice_bounds-decode_run-end-2 c =
+    due-fits c.args.self.now _ c.if-self-ne0.false (sym c.is_some.ensures ∙ c.if-is_some.false)
+    c.due-len.ensures.bytes c.requires.room
+
+pub slice_bounds-decode_run-end-3 : goal.slice_bounds-decode_run-end-3
+slice_bounds-decode_run-end-3 c =
+    sym (length-take-le c.due-len.result.1 c.args.output.now
+    (due-fits c.args.self.now _ c.if-self-ne0.false
+    (sym c.is_some.ensures ∙ c.if-is_some.false) c.due-len.ensures.bytes c.requires.room))
+
+pub decode_run-requires-clause-exact : goal.decode_run-requires-clause-exact
+decode_run-requires-clause-exact c =
+    rw (
+      length-take-le c.due-len.result.0 c.args.piece.now c.due-len.ensures.few,
+      length-take-le c.due-len.result.1 c.args.output.now
+          (due-fits c.args.self.now (length c.args.piece.now) c.if-self-ne0.false
+          (sym c.is_some.ensures ∙ c.if-is_some.false) c.due-len.ensures.bytes c.requires.room),
+    )
+    c.due-len.ensures.due
+
+pub invariant_of-self : goal.invariant_of-self
+invariant_of-self c =
+    let s = c.args.self.now in
+    let read =
+    length-take-le c.due-len.result.0 c.args.piece.now c.due-len.ensures.few in
+    record {
+      specified = s.specified;
+      width = s.width;
+      group = s.group;
+      short = s.short;
+      held = omega (arith, s.held);
+      clear = λ _. c.if-self-ne0.false;
+      limit = omega (arith, c.requires.limit, c.due-len.ensures.few);
+      inside = λ k d at. omega (arith, s.inside k d at);
+      fault_inside = omega (arith, c.in-Err.ensures.position, read);
+    }
