@@ -269,16 +269,14 @@ pub(crate) fn is_short_run<G: GroupSize>(
     len < 16 * G::SYMBOLS && is_broken_next::<G>(values, len, at, input)
 }
 
-/// Returns whether turns of eight groups, the last of which such a run leaves unused in part, take
-/// more time than a block, and enough bytes are left after it that the room of a block is worth it.
+/// Returns whether a run of this many symbols is so short that a turn for each such run takes more
+/// time than a block, and enough bytes are left after it that the room of a block is worth it.
 #[inline(always)]
 pub(crate) fn is_short_before<G: GroupSize>(len: usize, at: Progress, input: &[u8]) -> bool
     requires { at.read + at.ignored ≤ length input.now }
 {
     let left = input.len() - at.read - at.ignored;
-    let turn = 8 * G::SYMBOLS;
-    let unused = (turn - len % turn) % turn;
-    len <= LONG_LEN.min(unused + 16) && left > 12 * len
+    len <= SHORT_LEN.max(4 * G::SYMBOLS) && left > 12 * len
 }
 
 // Whether bytes are ignored within the next group, and so many more follow, also beside the length
@@ -341,8 +339,8 @@ const NEXT_LEN: usize = 16;
 // What is nearer to the start takes less time than a block.
 const NEAR_LEN: usize = 64;
 
-// No longer run is short, however much of its last turn is unused.
-const LONG_LEN: usize = 64;
+// No run of so many symbols, or of four groups, is worth turns of its own.
+const SHORT_LEN: usize = 24;
 
 // With so many bytes left, a block is worth its time also if none of the next ones is ignored.
 const MANY_LEFT: usize = 128;
