@@ -336,10 +336,10 @@ module _ (base : Base) (width : IsWidth base.width) (unpadded : is_padded base �
       pub fault_of-whole : fault_of base text ≡ told_by (first_other base text) false 0
       fault_of-whole =
           fault_of-bytes ∙ by (first_other base text) (leaves_bits base text) none-left where
-        by : (o : Option ℕ) (leaves : Bool) → (o ≡ None → leaves ≡ false)
-            → told_by o leaves (length text) ≡ told_by o false 0
-        by None leaves h = rw (h refl)
-        by (Some index) leaves h = refl
+            by : (o : Option ℕ) (leaves : Bool) → (o ≡ None → leaves ≡ false)
+                → told_by o leaves (length text) ≡ told_by o false 0
+            by None leaves h = rw (h refl)
+            by (Some index) leaves h = refl
 
 same_error : (error other : DecodeError) → Some error ≡ Some other → error ≡ other
 same_error error other h = cc
