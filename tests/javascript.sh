@@ -59,7 +59,7 @@ is 'the version of the package' "$(sed -n 's/^## //p' "$OLDPWD/CHANGELOG.md" | h
 size=$(node "${flags[@]}" --input-type=module -e "
     import { MODULE } from '$room/package/memory64/module.js';
     console.log(Buffer.from(MODULE, 'base64').length)")
-holds "the module goes by words: ${size:-no} bytes" test "${size:-500000}" -lt 500000
+holds "the module goes by words: ${size:-no} bytes" test "${size:-600000}" -lt 600000
 
 # Where no folder of the PATH has rt, and no module is kept.
 mkdir -p alone/bindings
