@@ -1,4 +1,6 @@
+use Rattle.std.proofs.Common.{arith}
 use Rattle.data_encoding_kernel.specs.Ignore.{HoldsIgnored}
+use Rattle.data_encoding.proofs.decoding.OutputLemmas.{begins-within, goes-nowhere}
 use Rattle.data_encoding.proofs.tables.TableLemmas.{HoldsValues-seen, ascii-seen}
 use Rattle.data_encoding.proofs.encoding.EncodingRef.decode_by_blocks.Given.{Over}
 use Rattle.data_encoding.proofs.encoding.EncodingRef.decode_by_blocks.Goals as goal
@@ -17,3 +19,16 @@ decode_in_room-requires-clause-ignored g c =
 pub decode_in_room-requires-2-clause-ignored : goal.decode_in_room-requires-2-clause-ignored
 decode_in_room-requires-2-clause-ignored g c =
     held g (goal.at.decode_in_room-requires-2-clause-ignored g c).After-of-ignored
+
+pub overflow_add-rest : goal.overflow_add-rest
+overflow_add-rest g c =
+    record { fits = omega (arith, begins-within c.requires.at, c.requires.at.exact.limit) }
+
+pub slice_bounds-rest-start : goal.slice_bounds-rest-start
+slice_bounds-rest-start g c = begins-within c.requires.at
+
+pub slice_bounds-rest-count : goal.slice_bounds-rest-count
+slice_bounds-rest-count g c = begins-within c.requires.at
+
+pub returns-then-not-has_gaps : goal.returns-then-not-has_gaps
+returns-then-not-has_gaps g c = goes-nowhere c.requires.at

@@ -1,4 +1,4 @@
-use Rattle.std.proofs.Common.{◌≡◌, ◌≤◌, take, arith}
+use Rattle.std.proofs.Common.{◌≡◌, ◌≤◌, take, refl, arith}
 use Rattle.data_encoding.proofs.decoding.StepLemmas.{under_way}
 use Rattle.data_encoding.proofs.decoding.BlockLemmas.{packed-on, packed-room, packing-len, packs-further}
 use Rattle.data_encoding.proofs.decoding.OutputLemmas.{kept-before}
@@ -78,3 +78,19 @@ returns-then-now-SYMBOLS-clause-on g c =
     c.decode_run_within-count.ensures.within
     (c.decode_run_within-count.ensures.run c.args.self.now c.requires.entries.reads) in
     rw c.after-now.ensures (packs-further c.loop.invariant.on run.1)
+
+pub loop-init : goal.loop-init
+loop-init g c = record {
+  on = record { packing = c.requires.packing; start = refl; read = refl; end = refl };
+  kept = refl;
+  further = omega arith;
+}
+
+pub returns-after-loop-clause-on : goal.returns-after-loop-clause-on
+returns-after-loop-clause-on g c = c.loop.invariant.on
+
+pub returns-after-loop-clause-kept : goal.returns-after-loop-clause-kept
+returns-after-loop-clause-kept g c = c.loop.invariant.kept
+
+pub returns-after-loop-clause-further : goal.returns-after-loop-clause-further
+returns-after-loop-clause-further g c = c.loop.invariant.further

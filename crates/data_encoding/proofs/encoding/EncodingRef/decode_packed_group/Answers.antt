@@ -1,5 +1,6 @@
 use Rattle.std.proofs.Common.{◌≡◌, ◌+◌, ◌-◌, ◌≤◌, ◌∙◌, length, take, drop, inl, inr, refl, ap, arith, subst, sym, length-take-le}
 use Rattle.std.proofs.lemmas.List.{drop-drop}
+use Rattle.std.proofs.lemmas.Slice.{take-put_mid_below}
 use Rattle.data_encoding_meaning.proofs.decoding.GroupJudgementLemmas.{few-bits}
 use Rattle.data_encoding_meaning.proofs.digits.SizeLemmas.{IsGroup-same}
 use Rattle.data_encoding_meaning.proofs.lists.PartLemmas.{IsWhole-same}
@@ -135,3 +136,21 @@ overflow_add-result-2 g c = record { fits = omega (arith, c.SYMBOLS-3.ensures, c
 
 pub slice_bounds-decode_group-count : goal.slice_bounds-decode_group-count
 slice_bounds-decode_group-count g c = c.requires.packing.packed.so_far.fits
+
+pub returns-in-Err-clause-kept : goal.returns-in-Err-clause-kept
+returns-in-Err-clause-kept g c =
+    take-put_mid_below c.args.at.written (length c.args.output.now - c.args.at.written)
+    c.args.output.now c.decode_group.new.output c.args.at.written (omega arith)
+    c.requires.packing.packed.so_far.fits
+
+pub returns-then-not-self-clause-kept : goal.returns-then-not-self-clause-kept
+returns-then-not-self-clause-kept g c =
+    take-put_mid_below c.args.at.written (length c.args.output.now - c.args.at.written)
+    c.args.output.now c.decode_group.new.output c.args.at.written (omega arith)
+    c.requires.packing.packed.so_far.fits
+
+pub returns-clause-kept : goal.returns-clause-kept
+returns-clause-kept g c =
+    take-put_mid_below c.args.at.written (length c.args.output.now - c.args.at.written)
+    c.args.output.now c.decode_group.new.output c.args.at.written (omega arith)
+    c.requires.packing.packed.so_far.fits

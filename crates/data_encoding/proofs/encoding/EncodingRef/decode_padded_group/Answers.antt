@@ -5,7 +5,7 @@ use Rattle.data_encoding_meaning.proofs.digits.SizeLemmas.{IsGroup-same}
 use Rattle.data_encoding_meaning.proofs.lists.PartLemmas.{IsWhole-same}
 use Rattle.data_encoding_meaning.proofs.lists.WriteLemmas.{length-rewritten_same, rewritten}
 use Rattle.data_encoding_meaning.specs.decoding.Decoding.{IsGathered}
-use Rattle.data_encoding.proofs.decoding.OutputLemmas.{exact-same}
+use Rattle.data_encoding.proofs.decoding.OutputLemmas.{begins-within, exact-same, goes-nowhere, goes-nowhere_rest}
 use Rattle.data_encoding.proofs.decoding.StepLemmas.{IsUnderWay, after_group, final-not, gathered-next, room-next_group, under_way, written-few}
 use Rattle.data_encoding.proofs.encoding.EncodingRef.decode_padded_group.Given.{Over}
 use Rattle.data_encoding.proofs.encoding.EncodingRef.decode_padded_group.Goals as goal
@@ -109,3 +109,26 @@ returns g c =
       };
       further = omega arith;
     }
+
+pub returns-then-not-self : goal.returns-then-not-self
+returns-then-not-self g c = goes-nowhere c.requires.at
+
+pub returns-then-not-starts_whole : goal.returns-then-not-starts_whole
+returns-then-not-starts_whole g c = goes-nowhere c.requires.at
+
+pub returns-in-Err : goal.returns-in-Err
+returns-in-Err g c =
+    goes-nowhere_rest _ c.requires.reads.holds.is_width c.requires.at c.decode_group.auto.output
+
+pub is_padded_next-requires : goal.is_padded_next-requires
+is_padded_next-requires g c = begins-within c.requires.at
+
+pub overflow_add-rest : goal.overflow_add-rest
+overflow_add-rest g c =
+    record { fits = omega (arith, begins-within c.requires.at, c.requires.at.exact.limit) }
+
+pub slice_bounds-rest-start : goal.slice_bounds-rest-start
+slice_bounds-rest-start g c = begins-within c.requires.at
+
+pub slice_bounds-rest-count : goal.slice_bounds-rest-count
+slice_bounds-rest-count g c = begins-within c.requires.at

@@ -2,8 +2,8 @@ use Rattle.std.proofs.Common.{◌≡◌, ℕ, ◌+◌, ◌-◌, ◌*◌, refl, a
 use Rattle.std.proofs.Math.Nat.{mul-mod_left, zero-mod}
 use Rattle.data_encoding_meaning.proofs.decoding.IgnoredFrontLemmas.{no_front}
 use Rattle.data_encoding_meaning.proofs.lists.WriteLemmas.{length-rewritten_same}
-use Rattle.data_encoding.proofs.decoding.OutputLemmas.{exact-same, goes-nowhere}
-use Rattle.data_encoding.proofs.decoding.StepLemmas.{after_none, after_run, room-next_run, under_way, written-few}
+use Rattle.data_encoding.proofs.decoding.OutputLemmas.{begins-within, exact-same, goes-nowhere_rest}
+use Rattle.data_encoding.proofs.decoding.StepLemmas.{after_run, room-next_run, under_way, written-few}
 use Rattle.data_encoding_meaning.proofs.digits.SizeLemmas.{IsGroup-same}
 use Rattle.data_encoding_meaning.proofs.lists.PartLemmas.{length-rest}
 use Rattle.data_encoding.proofs.encoding.EncodingRef.decode_run_after_ignored.Goals as goal
@@ -32,15 +32,8 @@ overflow_add-result-2 g c =
 
 pub returns-then-count-eq0-clause-on : goal.returns-then-count-eq0-clause-on
 returns-then-count-eq0-clause-on g c =
-    let at = c.requires.at in
-    let now = under_way g.G.GroupSize.is_group c.requires.entries.reads.width_is at.exact
-    at.so_far in
-    goes-nowhere (record {
-      exact = exact-same at.exact (length-rewritten_same c.args.at.written c.args.output.now
-          c.decode_run-count.new.output at.so_far.fits c.decode_run-count.auto.output);
-      so_far = (after_none now _ c.decode_run-count.auto.output).so_far;
-      front = at.front;
-    })
+    goes-nowhere_rest _ c.requires.entries.reads.holds.is_width c.requires.at
+    c.decode_run-count.auto.output
 
 pub returns-clause-on : goal.returns-clause-on
 returns-clause-on g c =
@@ -101,3 +94,9 @@ slice_bounds-decode_run-count g c = omega (arith, length-drop {A = ℕ}, c.requi
 
 pub slice_bounds-decode_run-count-2 : goal.slice_bounds-decode_run-count-2
 slice_bounds-decode_run-count-2 g c = c.requires.at.so_far.fits
+
+pub slice_bounds-decode_run-start : goal.slice_bounds-decode_run-start
+slice_bounds-decode_run-start g c = begins-within c.requires.at
+
+pub slice_bounds-decode_run-start-2 : goal.slice_bounds-decode_run-start-2
+slice_bounds-decode_run-start-2 g c = c.requires.at.so_far.fits

@@ -1,6 +1,6 @@
 use Rattle.std.proofs.Common.{arith}
 use Rattle.data_encoding_meaning.proofs.digits.SizeLemmas.{IsSmall-group}
-use Rattle.data_encoding.proofs.decoding.OutputLemmas.{goes-further, goes-nowhere}
+use Rattle.data_encoding.proofs.decoding.OutputLemmas.{begins-within, goes-further, goes-nowhere}
 use Rattle.data_encoding.specs.Progress.{GoesOn}
 use Rattle.data_encoding.proofs.encoding.EncodingRef.decode_runs.Given.{Over}
 use Rattle.data_encoding.proofs.encoding.EncodingRef.decode_runs.Goals as goal
@@ -41,3 +41,29 @@ returns-else-packs g c =
 
 pub returns-then-is_padded_next : goal.returns-then-is_padded_next
 returns-then-is_padded_next g c = goes-nowhere c.requires.at
+
+pub is_padded_next-requires : goal.is_padded_next-requires
+is_padded_next-requires g c = begins-within c.requires.at
+
+pub overflow_sub-input : goal.overflow_sub-input
+overflow_sub-input g c = omega (arith, begins-within c.requires.at)
+
+pub overflow_sub-input-then-has_lanes-2 : goal.overflow_sub-input-then-has_lanes-2
+overflow_sub-input-then-has_lanes-2 g c = omega (arith, begins-within c.requires.at)
+
+pub overflow_sub-left : goal.overflow_sub-left
+overflow_sub-left g c = omega (arith, begins-within c.decode_runs_by_turns-at.ensures.reached)
+
+pub overflow_sub-left-then-input-at : goal.overflow_sub-left-then-input-at
+overflow_sub-left-then-input-at g c = omega (arith, begins-within c.decode_runs_by_turns-at.ensures.reached)
+
+pub returns-then-is_short : goal.returns-then-is_short
+returns-then-is_short g c = c.decode_runs_by_turns-at.ensures
+
+pub is_short_run-requires : goal.is_short_run-requires
+is_short_run-requires g c = begins-within c.decode_runs_one_by_one-len.ensures.reached
+
+pub returns-then-ends_short : goal.returns-then-ends_short
+returns-then-ends_short g c =
+    goes-further (turned g (goal.at.returns-then-ends_short g c).Joined-has_lanes-2).further
+    c.decode_runs_one_by_one-len.ensures

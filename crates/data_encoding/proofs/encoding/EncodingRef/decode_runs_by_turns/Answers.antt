@@ -3,7 +3,7 @@ use Rattle.std.proofs.Math.Nat.{mul-mod_left}
 use Rattle.std.proofs.lemmas.Nat.{div-add-mod'}
 use Rattle.data_encoding_meaning.proofs.digits.SizeLemmas.{IsSmall-group}
 use Rattle.data_encoding_meaning.proofs.lists.PartLemmas.{IsWhole-same}
-use Rattle.data_encoding.proofs.decoding.OutputLemmas.{goes-further}
+use Rattle.data_encoding.proofs.decoding.OutputLemmas.{goes-further, goes-nowhere}
 use Rattle.data_encoding.proofs.encoding.EncodingRef.decode_runs_by_turns.Goals as goal
 
 pub overflow_mul-SYMBOLS : goal.overflow_mul-SYMBOLS
@@ -64,3 +64,35 @@ overflow_sub-left g c = c.loop-index.invariant.on.reached.so_far.within
 
 pub overflow_sub-next : goal.overflow_sub-next
 overflow_sub-next g c = c.decode_run_by_turns-next.ensures.on.further
+
+pub loop-index-init : goal.loop-index-init
+loop-index-init g c = record { on = goes-nowhere c.requires.at }
+
+pub returns-then-left-SYMBOLS : goal.returns-then-left-SYMBOLS
+returns-then-left-SYMBOLS g c = c.loop-index.invariant.on
+
+pub returns-then-is_short_run : goal.returns-then-is_short_run
+returns-then-is_short_run g c =
+    goes-further c.loop-index.invariant.on.further c.decode_run_by_turns-next.ensures.on
+
+pub returns-then-len-eq0 : goal.returns-then-len-eq0
+returns-then-len-eq0 g c =
+    goes-further c.loop-index.invariant.on.further c.decode_run_by_turns-next.ensures.on
+
+pub returns-then-at-next : goal.returns-then-at-next
+returns-then-at-next g c =
+    let before = goes-further c.loop-index.invariant.on.further
+    c.decode_run_by_turns-next.ensures.on in
+    goes-further before.further c.decode_padded-at.ensures
+
+pub returns-then-at-eq0-3 : goal.returns-then-at-eq0-3
+returns-then-at-eq0-3 g c =
+    let before = goes-further c.loop-index.invariant.on.further
+    c.decode_run_by_turns-next.ensures.on in
+    goes-further before.further c.decode_runs_like-at.ensures
+
+pub loop-index-preserved-then-is_padded_next : goal.loop-index-preserved-then-is_padded_next
+loop-index-preserved-then-is_padded_next g c =
+    let before = goes-further c.loop-index.invariant.on.further
+    c.decode_run_by_turns-next.ensures.on in
+    record { on = goes-further before.further c.decode_padded-at.ensures }

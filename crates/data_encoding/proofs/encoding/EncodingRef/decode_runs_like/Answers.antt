@@ -1,5 +1,5 @@
 use Rattle.std.proofs.Common.{ℕ, arith, length-drop}
-use Rattle.data_encoding.proofs.decoding.OutputLemmas.{goes-further}
+use Rattle.data_encoding.proofs.decoding.OutputLemmas.{goes-further, goes-nowhere}
 use Rattle.data_encoding.proofs.encoding.EncodingRef.decode_runs_like.Goals as goal
 
 pub decode_run_by_turns-at-requires : goal.decode_run_by_turns-at-requires
@@ -34,3 +34,6 @@ overflow_add-end-in-loop g c =
 
 pub bounds-input-end : goal.bounds-input-end
 bounds-input-end g c = omega arith
+
+pub loop-init : goal.loop-init
+loop-init g c = record { on = goes-nowhere c.requires.at }

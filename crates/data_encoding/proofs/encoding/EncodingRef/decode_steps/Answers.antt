@@ -1,6 +1,6 @@
 use Rattle.std.proofs.Common.{arith}
 use Rattle.data_encoding.proofs.decoding.StepLemmas.{decoded-after, under_way}
-use Rattle.data_encoding.proofs.decoding.OutputLemmas.{exact-same}
+use Rattle.data_encoding.proofs.decoding.OutputLemmas.{begins-within, exact-same}
 use Rattle.data_encoding.proofs.encoding.EncodingRef.decode_steps.Goals as goal
 
 pub loop-at-init : goal.loop-at-init
@@ -31,3 +31,11 @@ returns g c =
     let now = under_way g.G.GroupSize.is_group c.requires.entries.reads.width_is at.exact
     at.so_far in
     decoded-after now at.front c.loop-at-test.false
+
+pub progress_at-at-requires : goal.progress_at-at-requires
+progress_at-at-requires g c = record { within = c.requires.so_far.within }
+
+pub overflow_add-at : goal.overflow_add-at
+overflow_add-at g c =
+    let reached = c.loop-at.invariant.reached in
+    record { fits = omega (arith, begins-within reached, reached.exact.limit) }
