@@ -55,7 +55,8 @@ pub overflow_sub-left : goal.overflow_sub-left
 overflow_sub-left g c = omega (arith, begins-within c.decode_runs_by_turns-at.ensures.reached)
 
 pub overflow_sub-left-then-input-at : goal.overflow_sub-left-then-input-at
-overflow_sub-left-then-input-at g c = omega (arith, begins-within c.decode_runs_by_turns-at.ensures.reached)
+overflow_sub-left-then-input-at g c =
+    omega (arith, begins-within c.decode_runs_by_turns-at.ensures.reached)
 
 pub returns-then-is_short : goal.returns-then-is_short
 returns-then-is_short g c = c.decode_runs_by_turns-at.ensures
