@@ -39,3 +39,9 @@ pub overflow_add-at : goal.overflow_add-at
 overflow_add-at g c =
     let reached = c.loop-at.invariant.reached in
     record { fits = omega (arith, begins-within reached, reached.exact.limit) }
+
+pub returns-in-Ended : goal.returns-in-Ended
+returns-in-Ended g c = c.in-Ended.ensures
+
+pub returns-in-Faulty : goal.returns-in-Faulty
+returns-in-Faulty g c = c.in-Faulty.ensures

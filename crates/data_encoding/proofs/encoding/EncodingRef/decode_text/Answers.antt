@@ -1,5 +1,5 @@
-use Rattle.std.proofs.Common.{sym, ◌∙◌, subst, arith}
-use Rattle.data_encoding_meaning.specs.text.Base.{IsWidth}
+use Rattle.std.proofs.Common.{sym, ap, ◌∙◌, subst, arith}
+use Rattle.data_encoding_meaning.specs.text.Base.{IsWidth, ignores_some}
 use Rattle.data_encoding_meaning.proofs.decoding.IgnoredFrontLemmas.{no_front}
 use Rattle.data_encoding.proofs.decoding.OutputLemmas.{exact-same}
 use Rattle.data_encoding.proofs.decoding.StepLemmas.{decoded-all, under_way}
@@ -41,3 +41,19 @@ returns-in-More g c =
     let now = under_way g.G.GroupSize.is_group c.requires.coded.width_is
     (exact-same c.requires.exact len) c.in-More.ensures.1 in
     decoded-all now (omega (arith, c.if-stop-input.true))
+
+pub decode_next-requires-clause-ignores : goal.decode_next-requires-clause-ignores
+decode_next-requires-clause-ignores g c =
+    sym c.if-self.false ∙ c.self.invariant.ignores ∙ ap ignores_some c.self.view_is
+
+pub decode_next-requires-clause-at : goal.decode_next-requires-clause-at
+decode_next-requires-clause-at g c = c.decode_run_after_ignored-at.ensures.on.reached
+
+pub decode_rest-requires-in-More-2-clause-so_far : goal.decode_rest-requires-in-More-2-clause-so_far
+decode_rest-requires-in-More-2-clause-so_far g c = c.in-More-2.ensures.1
+
+pub returns-in-Ended : goal.returns-in-Ended
+returns-in-Ended g c = c.in-Ended.ensures
+
+pub returns-in-Faulty : goal.returns-in-Faulty
+returns-in-Faulty g c = c.in-Faulty.ensures
