@@ -1,13 +1,21 @@
-use Rattle.std.proofs.Common.{◌≡◌, ◌≤◌, ℕ, Ok, Err, length, take, refl, inl, ◌∙◌, arith}
+use Rattle.std.proofs.Common.{◌≡◌, ◌≤◌, ℕ, Ok, Err, length, take, refl, inl, ◌∙◌, ◌<◌, subst, arith}
 use Rattle.std.specs.Prelude.{Result}
 use Rattle.std.specs.declared.vec.Vec.{Vec}
 use Rattle.std.proofs.lemmas.List.{take-append-le, take-take}
+use Rattle.data_encoding_meaning.specs.declared.error.DecodeError.{DecodeError}
 use Rattle.data_encoding_meaning.specs.declared.error.DecodeFault.{DecodeFault}
+use Rattle.data_encoding_meaning.specs.declared.error.DecodeFault.TheVariants.{Error}
+use Rattle.data_encoding_meaning.proofs.decoding.StopLemmas.{fault-partial}
+use Rattle.std.proofs.lemmas.Bool.{false≢true}
 use Rattle.data_encoding.proofs.encoding.EncodingRef.decode.Goals as goal
 
 never-err : {A : Type 0} {bytes : Vec ℕ A} {fault : DecodeFault}
     → ◌≡◌ {A = Result (Vec ℕ A) DecodeFault} (Ok bytes) (Err fault) → ⊥
 never-err is = absurd (cc is)
+
+same-error : {A : Type 0} {one other : DecodeError}
+    → ◌≡◌ {A = Result (Vec ℕ A) DecodeFault} (Err (Error one)) (Err (Error other)) → one ≡ other
+same-error is = cc
 
 pub returns-in-Ok : goal.returns-in-Ok
 returns-in-Ok c =
@@ -26,4 +34,16 @@ returns-in-Ok c =
       refusal = cc;
       accepted = λ bytes means. inl refl;
       position = λ error is. absurd (never-err is);
+    }
+
+pub returns-in-Err : goal.returns-in-Err
+returns-in-Err c =
+    let decoded = c.in-Err.ensures in
+    record {
+      means = cc;
+      sound = cc;
+      refusal = fault-partial c.args.self.now c.args.input.now c.in-Err.partial decoded.fault;
+      accepted = λ bytes means. absurd (false≢true (decoded.accepted bytes means));
+      position = λ error is.
+          subst (λ e. e.position < length c.args.input.now) (same-error is) decoded.bounds.1;
     }
