@@ -1,10 +1,9 @@
 use Rattle.std.proofs.Common.{refl}
-use Rattle.data_encoding.specs.Base.{Base}
-use Rattle.data_encoding_calls.specs.Facts.{TellsWidth}
 use Rattle.data_encoding_calls.proofs.NumberLemmas.{by-known}
 use Rattle.data_encoding_calls.proofs.facts.numbered_bit_width.Goals as goal
 
 pub returns : goal.returns
-returns c =
-    let Does = λ (b : Base). TellsWidth b c.bit_width.result 0 in
-    by-known Does c.in-Some.ensures.known (record { status = refl; value = cc })
+returns c = by-known _ c.in-Some.ensures.known (record {
+  status = refl;
+  value = cc;
+})
