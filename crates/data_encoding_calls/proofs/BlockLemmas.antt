@@ -7,8 +7,8 @@ use Rattle.data_encoding.specs.Text.{text_of}
 use Rattle.data_encoding.specs.declared.kept_data.KeptData.{KeptData}
 use Rattle.data_encoding.specs.KeptData.{held_data, piece_text}
 use Rattle.data_encoding_calls.specs.Blocks.{if_kept, last_text, piece_status, DataPlaces, EncodesPiece}
-use Rattle.data_encoding_calls.specs.Calls.{front_status, over}
-use Rattle.data_encoding_calls.specs.Status.{no_encoder, ok, too_long}
+use Rattle.data_encoding_calls.specs.Calls.{front_status, over, WritesFront}
+use Rattle.data_encoding_calls.specs.Status.{no_encoder, ok, short_buffer, too_long}
 
 -- what a test of two numbers chooses
 pub if-less : (a b x y : ℕ) → a < b → x ≡ (if nat_lt a b then x else y)
@@ -65,6 +65,17 @@ refuses-data base piece places answer refused status = record {
   held = λ is. absurd (refused is);
   encodes = λ is. absurd (refused is);
   refused = λ _. refl;
+}
+
+-- what a copy to the start of an output with room for it writes
+pub writes-front : (bytes old copied : List ℕ) (before : ℕ) → length bytes ≤ length old
+    → copied ≡ bytes
+    → WritesFront bytes old (copied ++ drop (length bytes) old) before (length bytes) ok
+writes-front bytes old copied before fits same = record {
+  status = if-not (length old) (length bytes) short_buffer ok fits;
+  front = λ _. ap (λ l. l ++ drop (length bytes) old) same;
+  written = λ _. refl;
+  refused = λ refused. absurd (refused refl);
 }
 
 -- What was written to the start of an output, and what follows it unchanged.

@@ -1,7 +1,8 @@
 -- A decoding that stops at a fault: its status, and the bytes that are due for what was read.
-use Rattle.std.proofs.Common.{◌≡◌, ℕ, zero, suc, ◌*◌, ◌/◌, ◌≤◌, Bool, true, false, if◌then◌else◌, List, length, Option, None, Some, Ok, refl, sym, ap, ◌∙◌, arith}
+use Rattle.std.proofs.Common.{◌≡◌, ℕ, zero, suc, ◌*◌, ◌/◌, ◌≤◌, Bool, true, false, if◌then◌else◌, List, ◌++◌, length, take, drop, Option, None, Some, Result, Ok, refl, sym, ap, ◌∙◌, length-take-le, arith}
 use Rattle.std.proofs.Math.Nat.{div-mul-le_self, div-zero, le-div_iff_mul-le, mul-le-mul_left, mul-le-mul_right}
 use Rattle.std.proofs.lemmas.Bool.{le-ltb}
+use Rattle.std.proofs.lemmas.Slice.{drop-append-drop}
 use Rattle.std.specs.Result.{IsOkAnd}
 use Rattle.data_encoding.specs.declared.error.DecodeError.{DecodeError}
 use Rattle.data_encoding.specs.declared.error.DecodePartial.{DecodePartial}
@@ -79,3 +80,11 @@ front-fits base read written len most few due is =
     len few in
     let all = due-unless (length_fault base len) (most_bytes base len) most due in
     omega (arith, here, grows, all)
+
+-- what follows the bytes due, where an output has others in their place
+pub after-due : {due : Result ℕ DecodeError} (most other : ℕ) (new old : List ℕ) → due ≡ Ok most
+    → due ≡ Ok other → length new ≡ length (take most old) → most ≤ length old
+    → drop other (new ++ drop most old) ≡ drop other old
+after-due most other new old is same size fits =
+    let one : most ≡ other = cc in
+    drop-append-drop most old new other (omega arith) (size ∙ length-take-le most old fits)

@@ -1,8 +1,29 @@
-use Rattle.std.proofs.Common.{◌≡◌, inr, Some, length, take, drop, sym, ◌∙◌, arith, subst, ap}
+use Rattle.std.proofs.Common.{◌≡◌, inr, Some, length, take, drop, refl, sym, ◌∙◌, arith, subst, ap}
 use Rattle.std.proofs.lemmas.List.{length-append, length-take-le, take-append-le}
 use Rattle.data_encoding.specs.Grammar.{Means}
-use Rattle.data_encoding_calls.proofs.DecodeLemmas.{fault-stopped, front-fits, some-one, status-known}
+use Rattle.data_encoding_calls.proofs.DecodeLemmas.{after-due, fault-stopped, front-fits, some-one, status-known}
 use Rattle.data_encoding_calls.proofs.convert.decode_by.Goals as goal
+
+pub returns-in-Ok-decode_mut-clause-means : goal.returns-in-Ok-decode_mut-clause-means
+returns-in-Ok-decode_mut-clause-means c = λ _.
+    let decoded = c.in-Ok-decode_mut.ensures.decoded in
+    rw (take-append-le c.in-Ok-decode_mut.written c.decode_mut.new.output
+    (drop c.in-Ok.most c.args.output.now) decoded.0) decoded.1
+
+pub returns-in-Ok-decode_mut-clause-end : goal.returns-in-Ok-decode_mut-clause-end
+returns-in-Ok-decode_mut-clause-end c = λ _. refl
+
+pub returns-in-Ok-decode_mut-clause-after : goal.returns-in-Ok-decode_mut-clause-after
+returns-in-Ok-decode_mut-clause-after c = λ most is.
+    after-due c.in-Ok.most most c.decode_mut.new.output c.args.output.now
+    (sym c.decode_len.ensures.value ∙ c.in-Ok.is) is c.decode_mut.ensures.len
+    (omega (arith, c.if-output-most.false))
+
+pub returns-in-Err-decode_mut-clause-after : goal.returns-in-Err-decode_mut-clause-after
+returns-in-Err-decode_mut-clause-after c = λ most is.
+    after-due c.in-Ok.most most c.decode_mut.new.output c.args.output.now
+    (sym c.decode_len.ensures.value ∙ c.in-Ok.is) is c.decode_mut.ensures.len
+    (omega (arith, c.if-output-most.false))
 
 pub returns-in-Err-decode_mut-clause-status : goal.returns-in-Err-decode_mut-clause-status
 returns-in-Err-decode_mut-clause-status c =
