@@ -12,3 +12,9 @@ returns-then-after-input g c =
     let at = c.decode_one_run-after.ensures.reached in
     decoded-after (under_way g.G.GroupSize.is_group c.requires.coded.width_is at.exact at.so_far)
     at.front (omega (arith, c.if-after-input.true))
+
+pub decode_rest-requires-clause-so_far : goal.decode_rest-requires-clause-so_far
+decode_rest-requires-clause-so_far g c = c.decode_one_run-after.ensures.reached.so_far
+
+pub returns : goal.returns
+returns g c = c.decode_rest.ensures

@@ -97,3 +97,6 @@ overflow_mul-room g c =
     let few = few-bits g.G.GroupSize.is_group c.WIDTH.ensures c.in-Ok.count
     (omega (arith, c.requires.few, c.in-Ok.ensures.symbols.within)) in
     record { fits = omega (arith, few) }
+
+pub returns-in-Err-clause-fault : goal.returns-in-Err-clause-fault
+returns-in-Err-clause-fault g c = c.in-Err.ensures.fault
