@@ -1,8 +1,7 @@
-use Rattle.std.proofs.Common.{◌≡◌, ◌≤◌, ◌++◌, Option, None, Some, length, length-take, length-append, drop, take, refl, sym, ◌∙◌, subst, arith, length-take-le, false}
+use Rattle.std.proofs.Common.{◌≡◌, ◌≤◌, ◌++◌, length, length-take, length-append, drop, take, refl, sym, ◌∙◌, subst, arith, length-take-le, false}
 use Rattle.std.proofs.lemmas.List.{length-drop, take-append-le}
 use Rattle.std.proofs.lemmas.Bool.{false≢true}
 use Rattle.std.specs.Io.KnownBytes.{IsAtEnd}
-use Rattle.std.specs.Prelude.{IfSome}
 use Rattle.std.proofs.KnownBytes.{Consumes-whole}
 use Rattle.data_encoding.specs.Fault.{fault_of}
 use Rattle.encoding_stream.specs.Decoded.{result_of, EndsText}
