@@ -185,6 +185,11 @@ reads-buffer base here is old new buffer rest count bytes few reads =
     subst (λ b. ReadsOn b old new (take count buffer) bytes) is
     (subst (λ p. ReadsOn here old new p bytes) (take-append-le count buffer rest few) reads)
 
+-- what holds of each value holds of the one that is there
+pub each_some : {X : Type 0} {P : X → Type 0} (r : Option X) → ((x : X) → P x) → IfSome r P
+each_some None all = tt
+each_some (Some x) all = all x
+
 -- a call that did not fail, and one that did
 pub on-works : {A E P : Type 0} (result : Result A E) → false ≡ is_err result → OnOk result P → P
 on-works (Ok value) works holds = holds

@@ -1,4 +1,4 @@
-use Rattle.std.proofs.Common.{take, arith, length-take-le}
+use Rattle.std.proofs.Common.{◌++◌, ◌∙◌, ap, arith, inl, length-take-le, refl, take, Result, Ok, Err, OnErr}
 use Rattle.std.proofs.lemmas.Bool.{false≢true}
 use Rattle.encoding_stream.specs.Pieces.{base_of_pieces}
 use Rattle.encoding_stream.proofs.DecoderLemmas.{adds-none}
@@ -36,3 +36,33 @@ returns-in_err-reserve-clause-room g c = λ room.
       )
       | else-rest-gt0 w ↦ omega (arith, room, few, len, w.more-is)
     ])))
+
+-- what holds holds after an error
+on_err : {A E P : Type 0} (result : Result A E) → P → OnErr result P
+on_err (Ok value) holds = tt
+on_err (Err error) holds = holds
+
+pub returns-in_err-reserve-clause-unchanged : goal.returns-in_err-reserve-clause-unchanged
+returns-in_err-reserve-clause-unchanged g c =
+    on_err _ c.in_err-reserve.ensures.items
+
+pub returns-in_err-reserve-clause-capacity : goal.returns-in_err-reserve-clause-capacity
+returns-in_err-reserve-clause-capacity g c =
+    on_err _ c.in_err-reserve.ensures.err
+
+pub returns-then-written-eq0-clause-rest : goal.returns-then-written-eq0-clause-rest
+returns-then-written-eq0-clause-rest g c = λ room.
+    omega (arith, room, c.read-written.ensures.reads.few c.args.rest)
+
+pub returns-then-written-eq0-clause-grows : goal.returns-then-written-eq0-clause-grows
+returns-then-written-eq0-clause-grows g c = inl (record { items = refl; capacity = refl })
+
+pub returns-clause-appends : goal.returns-clause-appends
+returns-clause-appends g c = record {
+  bytes = take c.read-written.result c.read-written.new.output;
+  reads = c.read-written.ensures.reads;
+  appended =
+      (rw c.unwrap.ensures at c.extend_from_slice.ensures.items)
+      ∙ ap (λ l. l ++ take c.read-written.result c.read-written.new.output)
+      c.in_ok-reserve.ensures.items;
+}

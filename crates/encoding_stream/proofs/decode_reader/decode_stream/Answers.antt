@@ -1,14 +1,13 @@
-use Rattle.std.proofs.Common.{◌≡◌, ◌≤◌, ◌++◌, Option, None, Some, length, length-take, length-append, drop, take, refl, sym, ◌∙◌, subst, arith, length-take-le, false}
-use Rattle.std.proofs.lemmas.List.{length-drop}
+use Rattle.std.proofs.Common.{◌≡◌, ◌≤◌, ◌++◌, length, length-take, length-append, drop, take, refl, sym, ◌∙◌, subst, arith, length-take-le, false}
+use Rattle.std.proofs.lemmas.List.{length-drop, take-append-le}
 use Rattle.std.proofs.lemmas.Bool.{false≢true}
 use Rattle.std.specs.Io.KnownBytes.{IsAtEnd}
-use Rattle.std.specs.Prelude.{IfSome}
 use Rattle.std.proofs.KnownBytes.{Consumes-whole}
 use Rattle.data_encoding.specs.Fault.{fault_of}
 use Rattle.encoding_stream.specs.Decoded.{result_of, EndsText}
 use Rattle.encoding_stream.specs.Pieces.{base_of_pieces, Keeps}
 use Rattle.encoding_stream.specs.Watch.{has_failed, inner_of}
-use Rattle.encoding_stream.proofs.DecodedLemmas.{decoded-front, decoded-more, decoded-nothing, decoded-only, decoded-past, end-error, end-ok, end-other, end-write, ended-all, ended-front, front-all, not-both, on-works, past-few, reads-buffer}
+use Rattle.encoding_stream.proofs.DecodedLemmas.{decoded-front, decoded-more, decoded-nothing, decoded-only, decoded-past, each_some, end-error, end-ok, end-other, end-write, ended-all, ended-front, front-all, not-both, on-works, past-few, reads-buffer}
 use Rattle.encoding_stream.proofs.ReadPieceLemmas.{most-short}
 use Rattle.encoding_stream.proofs.SizeLemmas.{symbols-few}
 use Rattle.encoding_stream.proofs.decode_reader.decode_stream.Goals as goal
@@ -188,14 +187,32 @@ read-written-requires-clause-room g c =
       c.loop-count.invariant.room,
     )
 
--- what holds of each value holds of the one that is there
-each_some : {X : Type 0} {P : X → Type 0} (r : Option X) → ((x : X) → P x) → IfSome r P
-each_some None all = tt
-each_some (Some x) all = all x
-
 pub returns-then-is_err-clause-judges : goal.returns-then-is_err-clause-judges
 returns-then-is_err-clause-judges g c =
     each_some (g.R.Read.remaining (inner_of c.args.reader.now))
     (λ _ _ _ works. absurd (false≢true (sym works
     ∙ (rw c.loop-count.invariant.writer_works at c.write_all.ensures.failed)
     ∙ sym c.if-is_err.ensures.value)))
+
+pub slice_bounds-read-end : goal.slice_bounds-read-end
+slice_bounds-read-end g c =
+    sym (length-take-le c.in-Ok.count _ (simp length-append (omega (arith, c.in-Ok.ensures.bound))))
+
+pub read-written-requires-clause-limit : goal.read-written-requires-clause-limit
+read-written-requires-clause-limit g c =
+    simp length-take (omega (arith, c.if-count-left.false, c.loop-count.invariant.limit))
+
+pub loop-count-smaller : goal.loop-count-smaller
+loop-count-smaller g c =
+    let piece =
+    take-append-le c.in-Ok.count c.fill.new.buffer
+    (drop c.min-asked.result c.loop-count.buffer) c.in-Ok.ensures.bound in
+    omega (
+      arith,
+      rw piece at c.read-written.ensures.reads.counted,
+      length-take-le c.in-Ok.count c.fill.new.buffer c.in-Ok.ensures.bound,
+      c.if-count-asked.false,
+      c.if-count-left.false,
+      c.min-asked.ensures,
+      c.loop-count.invariant.limit,
+    )

@@ -1,4 +1,4 @@
-use Rattle.std.proofs.Common.{◌≡◌, ℕ, ◌+◌, ◌%◌, ◌<◌, ◌≤◌, ◌⊎◌, ⊎_elim, inl, inr, List, ◌++◌, length, length-append, length-take, drop, take, refl, ap, ◌∙◌, arith, length-take-le}
+use Rattle.std.proofs.Common.{◌≡◌, ℕ, ◌+◌, ◌%◌, ◌<◌, ◌≤◌, ◌⊎◌, ⊎_elim, inl, inr, List, ◌++◌, length, length-append, length-take, drop, take, refl, sym, ap, ◌∙◌, arith, length-take-le}
 use Rattle.std.proofs.lemmas.Bool.{cases_lt}
 use Rattle.std.proofs.lemmas.Option.{IfSome_then}
 use Rattle.std.proofs.lemmas.List.{length-drop, take-append-le}
@@ -9,7 +9,7 @@ use Rattle.data_encoding.specs.Lengths.{alignment}
 use Rattle.encoding_stream.specs.Watch.{inner_of}
 use Rattle.encoding_stream.proofs.WriteLemmas.{AppendsFront-nothing}
 use Rattle.encoding_stream.proofs.EncodedLemmas.{all-front, all-known, encoded-all, encoded-front, encoded-more, encoded-nothing, encoded-past, front-nothing, front-of_rest}
-use Rattle.encoding_stream.proofs.DecodedLemmas.{not-both, past-few}
+use Rattle.encoding_stream.proofs.DecodedLemmas.{each_some, not-both, past-few}
 use Rattle.encoding_stream.proofs.encode_reader.encode_stream.Goals as goal
 
 -- a full buffer has whole blocks
@@ -218,4 +218,32 @@ write_text-requires-clause-fits g c =
         c.asked_for-asked.ensures.few,
       )),
       c.loop-count.invariant.room,
+    )
+
+pub asked_for-asked-requires : goal.asked_for-asked-requires
+asked_for-asked-requires g c = c.encode_piece_len-piece.ensures.some
+
+pub slice_bounds-write_text-end : goal.slice_bounds-write_text-end
+slice_bounds-write_text-end g c =
+    sym (length-take-le c.in-Ok.count _ (simp length-append (omega (arith, c.in-Ok.ensures.bound))))
+
+pub write_text-requires-clause-limit : goal.write_text-requires-clause-limit
+write_text-requires-clause-limit g c =
+    simp length-take (omega (arith, c.in-Ok.ensures.bound))
+
+pub returns-in-Ok-flush-clause-succeeds : goal.returns-in-Ok-flush-clause-succeeds
+returns-in-Ok-flush-clause-succeeds g c =
+    each_some (g.R.Read.remaining (inner_of c.args.reader.now)) (λ bytes few read write. refl)
+
+pub returns-in-Ok-flush-clause-read : goal.returns-in-Ok-flush-clause-read
+returns-in-Ok-flush-clause-read g c =
+    (λ same. cc, λ failed. not-both _ failed c.in-Ok.ensures.failed)
+
+pub loop-count-smaller : goal.loop-count-smaller
+loop-count-smaller g c =
+    omega (
+      arith,
+      c.if-count-asked.false,
+      c.if-count-left.false,
+      c.asked_for-asked.ensures.some,
     )

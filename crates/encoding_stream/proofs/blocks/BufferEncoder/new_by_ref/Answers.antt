@@ -16,3 +16,6 @@ pub returns-clause-nothing : goal.returns-clause-nothing
 returns-clause-nothing c =
     encoded-none c.args.encoding.now c.encode_align.ensures.base c.join_encode.ensures.join
     (subst (λ n. 0 < n) c.encode_align.ensures.value c.encode_align.ensures.some)
+
+pub returns-clause-base : goal.returns-clause-base
+returns-clause-base c = c.lend.ensures

@@ -67,3 +67,6 @@ pub returns-clause-after : goal.returns-clause-after
 returns-clause-after c =
     drop_at c.read_piece.new.output (drop c.due_len-due.result.total c.args.output.now)
     c.due_len-due.result.total (written (goal.at.returns-clause-after c).After-read_piece)
+
+pub returns-clause-held : goal.returns-clause-held
+returns-clause-held c = rw c.by_ref-encoding.ensures at c.read_piece.ensures.held

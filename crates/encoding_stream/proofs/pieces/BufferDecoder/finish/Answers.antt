@@ -53,3 +53,6 @@ returns-in-Err-clause-verdict c = λ text keeps.
     verdict-length (base_of_pieces s) (is-specified s) text k.len k.fault (held k) k.ended
     keeps c.pieces.ensures.verdict c.in-Err.error
     (sym (rw c.by_ref.ensures at c.decode_len.ensures.value) ∙ c.in-Err.is)
+
+pub returns-in-Err-judged-clause-position : goal.returns-in-Err-judged-clause-position
+returns-in-Err-judged-clause-position c = c.in-Err-judged.ensures.position

@@ -1,4 +1,4 @@
-use Rattle.std.proofs.Common.{◌+◌, arith}
+use Rattle.std.proofs.Common.{◌+◌, ◌∙◌, arith, sym}
 use Rattle.encoding_stream.specs.Pieces.{base_of_pieces}
 use Rattle.encoding_stream.proofs.SizeLemmas.{most-few, symbols-few}
 use Rattle.encoding_stream.proofs.pieces.BufferDecoder.most.Goals as goal
@@ -14,3 +14,6 @@ returns-clause-few c =
       s.group,
       symbols-few (base_of_pieces s).width s.width,
     )
+
+pub returns-clause-value : goal.returns-clause-value
+returns-clause-value c = rw (sym c.is_some.ensures ∙ c.if-is_some.false) c.due.ensures.bytes

@@ -27,3 +27,6 @@ returns-clause-nothing c =
 pub returns-clause-no_bytes : goal.returns-clause-no_bytes
 returns-clause-no_bytes c =
     (c.pieces.ensures.nothing c.args.encoding.now c.group_len.ensures.base).1
+
+pub returns-clause-base : goal.returns-clause-base
+returns-clause-base c = c.lend.ensures

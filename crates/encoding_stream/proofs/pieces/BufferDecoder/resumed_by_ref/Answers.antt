@@ -1,4 +1,4 @@
-use Rattle.std.proofs.Common.{sym, ◌∙◌, arith}
+use Rattle.std.proofs.Common.{refl, sym, ◌∙◌, arith}
 use Rattle.encoding_stream.proofs.OrderLemmas.{ascend-below}
 use Rattle.encoding_stream.proofs.ResumedLemmas.{held-few, may-be-kept}
 use Rattle.encoding_stream.proofs.pieces.BufferDecoder.resumed_by_ref.Goals.{then-kept-gt-DECODE_LIMIT-via-then-kept-gt-DECODE_LIMIT, then-kept-gt-DECODE_LIMIT-via-else-kept-gt-DECODE_LIMIT+then-kept-decoder, then-kept-gt-DECODE_LIMIT-via-else-kept-gt-DECODE_LIMIT+else-kept-decoder+then-kept, then-not-is_in_order-via-then-not-is_in_order, then-not-is_in_order-via-else-not-is_in_order+then-holds_ignored}
@@ -74,3 +74,9 @@ returns-clause-tested c = λ _.
       none_ignored = c.holds_ignored.ensures.sound c.if-holds_ignored.false;
       fault = c.has_possible_fault.ensures.sound c.if-not-has_possible_fault.false;
     }
+
+pub returns-clause-goes_on : goal.returns-clause-goes_on
+returns-clause-goes_on c = record { base_is = c.new_by_ref-decoder.ensures.base; kept_is = refl }
+
+pub invariant_of-decoder-clause-short : goal.invariant_of-decoder-clause-short
+invariant_of-decoder-clause-short c = c.if-kept-decoder.false
