@@ -1,4 +1,4 @@
-use Rattle.std.proofs.Common.{◌++◌, take, IsSome, refl, sym, subst}
+use Rattle.std.proofs.Common.{◌++◌, take, sym, subst}
 use Rattle.encoding_stream.specs.Pieces.{kept_by, Keeps}
 use Rattle.encoding_stream.specs.Reading.{ReadsOn}
 use Rattle.conformance.proofs.callers.referenced.decode_next.Goals as goal
@@ -23,10 +23,3 @@ returns-clause-bytes c = λ text keeps.
     c.args.piece.now (take read.result read.new.output) =
     rw going.base_is at read.ensures.reads in
     reads.decodes text (subst (λ kept. Keeps base kept text) (sym going.kept_is) keeps)
-
-pub returns-in_default-clause-taken : goal.returns-in_default-clause-taken
-returns-in_default-clause-taken c = λ is_kept.
-    subst IsSome c.in_default.is (c.resumed_by_ref.ensures.resumes is_kept)
-
-pub returns-clause-tested : goal.returns-clause-tested
-returns-clause-tested c = λ _. (c.in-Some.ensures.tested refl).short
