@@ -30,3 +30,12 @@ returns-then-most-capacity-clause-grows g c =
       c.capacity.ensures,
       c.len.ensures,
     )))
+
+pub returns-clause-room : goal.returns-clause-room
+returns-clause-room g c = c.append_copied.ensures.room
+
+pub returns-clause-rest : goal.returns-clause-rest
+returns-clause-rest g c = c.append_copied.ensures.rest
+
+pub returns-clause-grows : goal.returns-clause-grows
+returns-clause-grows g c = c.append_copied.ensures.grows

@@ -1,4 +1,4 @@
-use Rattle.std.proofs.Common.{◌++◌, ◌∙◌, ap, arith, inl, length-take-le, refl, take, Result, Ok, Err, OnErr}
+use Rattle.std.proofs.Common.{[], ◌++◌, ◌∙◌, ap, append-nil, arith, inl, inr, length-take-le, refl, sym, take, Result, Ok, Err, OnErr}
 use Rattle.std.proofs.lemmas.Bool.{false≢true}
 use Rattle.encoding_stream.specs.Pieces.{base_of_pieces}
 use Rattle.encoding_stream.proofs.DecoderLemmas.{adds-none}
@@ -65,4 +65,47 @@ returns-clause-appends g c = record {
       (rw c.unwrap.ensures at c.extend_from_slice.ensures.items)
       ∙ ap (λ l. l ++ take c.read-written.result c.read-written.new.output)
       c.in_ok-reserve.ensures.items;
+}
+
+pub returns-clause-rest : goal.returns-clause-rest
+returns-clause-rest g c = λ room.
+    let read = c.read-written in
+    omega (
+      arith,
+      room,
+      read.ensures.reads.few c.args.rest,
+      length-take-le read.result read.new.output read.ensures.within,
+      rw c.unwrap.ensures at c.extend_from_slice.ensures.len,
+      c.extend_from_slice.ensures.capacity,
+      c.in_ok-reserve.ensures.len,
+      c.in_ok-reserve.ensures.capacity,
+    )
+
+pub returns-clause-grows : goal.returns-clause-grows
+returns-clause-grows g c = inr (λ some.
+    let read = c.read-written in
+    let now = length-take-le read.result read.new.output read.ensures.within in
+    let len = rw c.unwrap.ensures at c.extend_from_slice.ensures.len in
+    let grown = c.extend_from_slice.ensures.capacity in
+    let before = c.in_ok-reserve.ensures.len in
+    let room = c.in_ok-reserve.ensures.ok in
+    elim c.if-rest-gt0.branch [
+      | then-rest-gt0 w ↦ omega (
+        arith,
+        now,
+        len,
+        grown,
+        before,
+        room,
+        rw read.ensures.base at w.most-more.ensures.value,
+        w.more-is,
+      )
+      | else-rest-gt0 w ↦ absurd (omega (arith, some, w.if-rest-gt0))
+    ])
+
+pub returns-then-written-eq0-clause-appends : goal.returns-then-written-eq0-clause-appends
+returns-then-written-eq0-clause-appends g c = record {
+  bytes = [];
+  reads = rw c.if-written-eq0.true at c.read-written.ensures.reads;
+  appended = sym (append-nil c.args.output.now.items);
 }

@@ -126,3 +126,9 @@ returns-then-piece-le-SHORT-clause-room g c = λ room.
     (subst (λ n. vec_len c.args.output.now
     + most_completed (base_of_pieces c.args.pieces.now) c.args.pieces.now.kept n
     ≤ vec_capacity c.args.output.now) whole room)
+
+pub returns-then-piece-le-SHORT-clause-appends : goal.returns-then-piece-le-SHORT-clause-appends
+returns-then-piece-le-SHORT-clause-appends g c = c.append_copied.ensures.appends
+
+pub returns-then-piece-le-SHORT-clause-no_group : goal.returns-then-piece-le-SHORT-clause-no_group
+returns-then-piece-le-SHORT-clause-no_group g c = c.append_copied.ensures.no_group

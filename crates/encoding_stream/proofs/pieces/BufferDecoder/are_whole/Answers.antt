@@ -1,4 +1,4 @@
-use Rattle.std.proofs.Common.{eqb-true, inl, inr, sym, ◌∙◌}
+use Rattle.std.proofs.Common.{eqb-true, inl, inr, refl, sym, ◌∙◌}
 use Rattle.encoding_stream.specs.Pieces.{base_of_pieces}
 use Rattle.encoding_stream.proofs.PieceLemmas.{is-specified}
 use Rattle.encoding_stream.proofs.ReadRunLemmas.{fills-by_bytes, fills-by_length, fills-by_padding}
@@ -49,3 +49,13 @@ returns-else-is_padded-clause-few c = λ test most.
     let value = rw c.by_ref-encoding.ensures at c.group_bytes.ensures.value in
     fills-by_bytes (base_of_pieces s) s.width c.args.read c.args.written
     (rw (← value) (eqb-true _ _ test)) most
+
+pub returns-then-has_whole_len-clause-by_padding :
+    goal.returns-then-has_whole_len-clause-by_padding
+returns-then-has_whole_len-clause-by_padding c = λ _. refl
+
+pub returns-then-has_whole_len-clause-by_bytes : goal.returns-then-has_whole_len-clause-by_bytes
+returns-then-has_whole_len-clause-by_bytes c = λ _. refl
+
+pub returns-then-has_whole_len-clause-by_length : goal.returns-then-has_whole_len-clause-by_length
+returns-then-has_whole_len-clause-by_length c = λ _ _. refl

@@ -10,3 +10,6 @@ returns c =
     symbols-two (base_of_pieces s).width s.width (λ is. c.if-self-eq8.false (s.group ∙ is))
     (λ is. c.if-self-eq4.false (s.group ∙ is)) in
     ap (λ n. c.args.len / n) (sym (s.group ∙ two))
+
+pub returns-then-self-eq4 : goal.returns-then-self-eq4
+returns-then-self-eq4 c = ap (λ n. c.args.len / n) (sym c.if-self-eq4.true)

@@ -11,3 +11,6 @@ returns c =
     ∙ symbols-two (base_of_pieces s).width s.width
     (λ eight. c.if-self-eq8.false (s.group ∙ eight))
     (λ four. c.if-self-eq4.false (s.group ∙ four))))
+
+pub returns-then-self-eq4 : goal.returns-then-self-eq4
+returns-then-self-eq4 c = ap (λ n. c.args.len % n == 0) (sym c.if-self-eq4.true)
