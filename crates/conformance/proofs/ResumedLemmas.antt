@@ -1,6 +1,5 @@
 -- Lines of base64 whose decoding is resumed.
-use Rattle.std.proofs.Common.{◌≡◌, ℕ, ◌-◌, Bool, true, false, List, [], ◌++◌, length, take, drop, inl, None, Result, Ok, Err, refl, sym, ap, subst, ◌∙◌, arith}
-use Rattle.std.proofs.lemmas.List.{length-drop, take_all}
+use Rattle.std.proofs.Common.{◌≡◌, ℕ, Bool, true, false, List, ◌++◌, length, take, inl, None, Result, Ok, Err, refl, sym, ap, subst, ◌∙◌}
 use Rattle.std.proofs.Math.Seq.{drop-length, take-append_seam, take-length}
 use Rattle.data_encoding.specs.declared.specification.meanings.Refusal.{Refusal}
 use Rattle.data_encoding.specs.Base.{Base, ignores_some, is_padded}
@@ -16,15 +15,6 @@ pub front-kept : (n len : ℕ) (output rest : List ℕ) → length output ≡ le
     → take n (take len (output ++ rest)) ≡ take n output
 front-kept n len output rest is =
     ap (take n) (subst (λ m. take m (output ++ rest) ≡ output) is (take-append_seam output rest))
-
--- the rest of a piece, and the next piece after it
-pub rest-joined : (read : ℕ) (piece next none rest both : List ℕ) → none ≡ []
-    → rest ≡ none ++ take (length piece - read) (drop read piece) → both ≡ rest ++ next
-    → both ≡ drop read piece ++ next
-rest-joined read piece next none rest both empty sliced joined =
-    let all = take_all (length piece - read) (drop read piece)
-    (omega (arith, length-drop read piece)) in
-    joined ∙ ap (λ l. l ++ next) (sliced ∙ (λ i. empty i ++ all i))
 
 -- a test of the base, if there is one
 tested : (Base → Bool) → Result Base Refusal → Bool

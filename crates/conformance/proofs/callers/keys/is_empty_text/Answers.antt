@@ -6,6 +6,3 @@ pub returns-clause-texts : goal.returns-clause-texts
 returns-clause-texts c = λ is.
     (c.not_canonical.ensures c.args.encoding.now c.bit_width.ensures.base).0 c.args.byte
     (sym (c.is_ignored.ensures ∙ ap is_ignored c.interpret_byte.ensures) ∙ is)
-
-pub returns-clause-value : goal.returns-clause-value
-returns-clause-value c = cc

@@ -27,8 +27,3 @@ returns-clause-sound c = λ valid.
     let same = c.run_told.ensures.same c.args.encoding.now c.decode_len.ensures.base c.args.run.now
     none valid in
     sound_alike c.decode_mut.result _ _ _ same.0 c.decode_mut.ensures.sound
-
-pub returns-then-not-ignores_none-clause-some : goal.returns-then-not-ignores_none-clause-some
-returns-then-not-ignores_none-clause-some c = λ none few len.
-    let is_none = c.ignores_none.ensures.complete none in
-    absurd (grind (arith, tests))
