@@ -9,10 +9,12 @@ use Rattle.data_encoding_meaning.proofs.decoding.StopLemmas.{fault-partial}
 use Rattle.std.proofs.lemmas.Bool.{false≢true}
 use Rattle.data_encoding.proofs.encoding.EncodingRef.decode.Goals as goal
 
+-- a result with bytes is no fault
 never-err : {A : Type 0} {bytes : Vec ℕ A} {fault : DecodeFault}
     → ◌≡◌ {A = Result (Vec ℕ A) DecodeFault} (Ok bytes) (Err fault) → ⊥
 never-err is = absurd (cc is)
 
+-- the same refusal names the same error
 same-error : {A : Type 0} {one other : DecodeError}
     → ◌≡◌ {A = Result (Vec ℕ A) DecodeFault} (Err (Error one)) (Err (Error other)) → one ≡ other
 same-error is = cc
