@@ -1,5 +1,5 @@
 -- What a run with known arguments on known bytes has done.
-use Rattle.std.proofs.Common.{◌≡◌, ℕ, ◌<◌, ◌≤◌, List, [], ◌∷◌, ◌++◌, length, take, codes, Bool, true, false, Option, None, Some, IsSome, is_some, Result, Ok, Err, IfErr, inl, inr, refl, sym, ap, ◌∙◌, subst, arith, append-nil, length-append}
+use Rattle.std.proofs.Common.{◌≡◌, ◌↔◌, ◌⊎◌, ℕ, ◌<◌, ◌≤◌, List, [], ◌∷◌, ◌++◌, length, take, codes, Bool, true, false, Option, None, Some, IsSome, is_some, Result, Ok, Err, IfErr, OnOk, inl, inr, refl, sym, ap, ◌∙◌, subst, arith, append-nil, length-append}
 use Rattle.std.proofs.lemmas.Bool.{true≢false}
 use Rattle.std.specs.Io.KnownBytes.{Consumes, IsAtEnd}
 use Rattle.data_encoding.specs.Base.{Base}
@@ -85,6 +85,40 @@ module _ (words : List (List ℕ)) (read_old read_new written_old written_new : 
         record { verb = verb; base = base; asked = asked; reason = inl explains }
     refused_conversion verb base (Err Read) asked explains ends = absurd (omega (arith, ends))
     refused_conversion verb base (Err Write) asked explains ends = absurd (omega (arith, ends))
+
+-- what holds where there was no fault holds where a run ends with status 0
+pub ended : (outcome : Result (Unit {0}) StreamFault) (P : Type 0) → OnOk outcome P
+    → status_after outcome ≡ 0 → P
+ended (Ok done) P holds ends = holds
+ended (Err (Faulty error)) P holds ends = absurd (omega (arith, ends))
+ended (Err TooLong) P holds ends = absurd (omega (arith, ends))
+ended (Err Read) P holds ends = absurd (omega (arith, ends))
+ended (Err Write) P holds ends = absurd (omega (arith, ends))
+
+-- a conversion ends with status 3 exactly when a read or a write has failed
+failure : (outcome : Result (Unit {0}) StreamFault) → status_after outcome ≡ 3
+    → (outcome ≡ Err Read) ⊎ (outcome ≡ Err Write)
+failure (Ok done) ends = absurd (omega (arith, ends))
+failure (Err (Faulty error)) ends = absurd (omega (arith, ends))
+failure (Err TooLong) ends = absurd (omega (arith, ends))
+failure (Err Read) ends = inl refl
+failure (Err Write) ends = inr refl
+
+pub failed_conversion : (outcome : Result (Unit {0}) StreamFault) (R W : Type 0)
+    → ((outcome ≡ Err Read) ↔ R) → ((outcome ≡ Err Write) ↔ W)
+    → (status_after outcome ≡ 3) ↔ (R ⊎ W)
+failed_conversion outcome R W read write = (
+  λ ends.
+      elim (failure outcome ends) [
+        | inl is ↦ inl (read.0 is)
+        | inr is ↦ inr (write.0 is)
+      ],
+  λ failed.
+      elim failed [
+        | inl r ↦ ap status_after (read.1 r)
+        | inr w ↦ ap status_after (write.1 w)
+      ],
+)
 
 -- what decoding reports of a fault explains it
 pub explained : (base : Base) (read_old read_new written_old written_new : Option (List ℕ))

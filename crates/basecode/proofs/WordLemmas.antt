@@ -31,12 +31,20 @@ two_is (a ∷ []) x y least below first second = absurd (omega arith)
 two_is (a ∷ b ∷ []) x y least below first second = λ i. sym first i ∷ sym second i ∷ []
 two_is (a ∷ b ∷ c ∷ xs) x y least below first second = absurd (omega arith)
 
--- the bytes of two arguments
-pub texts_of_two : (words : List (String Global)) (x y : String Global)
+-- the bytes of two arguments, or of one
+pub texts_of_two : (words : List (String Global)) (x y : String Global) (first second : List ℕ)
     → 2 ≤ length words → length words < 3 → x ≡ get_or words 0 x → y ≡ get_or words 1 y
-    → texts words ≡ string_bytes x ∷ string_bytes y ∷ []
-texts_of_two words x y least below first second =
-    ap texts (two_is words x y least below first second)
+    → first ≡ string_bytes x → second ≡ string_bytes y → texts words ≡ first ∷ second ∷ []
+texts_of_two words x y first second least below is_x is_y of_x of_y =
+    ap texts (two_is words x y least below is_x is_y) ∙ (λ i. sym of_x i ∷ sym of_y i ∷ [])
+
+pub texts_of_one : (words : List (String Global)) (x : String Global) (first : List ℕ)
+    → 1 ≤ length words → length words < 2 → x ≡ get_or words 0 x
+    → first ≡ string_bytes x → texts words ≡ first ∷ []
+texts_of_one [] x first least below is_x of_x = absurd (omega arith)
+texts_of_one (a ∷ []) x first least below is_x of_x =
+    λ i. (ap string_bytes (sym is_x) ∙ sym of_x) i ∷ []
+texts_of_one (a ∷ b ∷ words) x first least below is_x of_x = absurd (omega arith)
 
 abbrev task_in : Option Request → Option Task
 task_in (Some (Of task)) = Some task

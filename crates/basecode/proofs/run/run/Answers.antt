@@ -1,25 +1,23 @@
-use Rattle.std.proofs.Common.{rules, arith, ◌≡◌, ◌∙◌, refl, sym, Some, IfErr, inl, inr}
-use Rattle.std.specs.Io.KnownBytes.{Appends, Keeps}
+use Rattle.std.proofs.Common.{arith, ◌≡◌, ◌∙◌, refl, subst, sym, Some, IfErr, inl, inr}
+use Rattle.std.proofs.KnownBytes.{Keeps-refl}
 use Rattle.data_encoding.specs.Named.{listing}
 use Rattle.basecode.specs.Run.{Begins, ByReply, Converts, Explains, OfNames, OfQuestion, Replies, TellsCanonical}
 use Rattle.encoding_stream.specs.Watch.{inner_of, seen}
-use Rattle.basecode.specs.Words.{Asks, Names, request_of, texts}
+use Rattle.basecode.specs.Words.{AreRequest, Asks, Names, request_of, texts}
 use Rattle.basecode.specs.declared.command.Ask.TheVariants.{Conversion, Question}
-use Rattle.basecode.proofs.ConversionLemmas.{done_conversion, refused_conversion}
+use Rattle.basecode.proofs.ConversionLemmas.{done_conversion, ended, failed_conversion, refused_conversion}
 use Rattle.basecode.proofs.WordLemmas.{Asks-request}
 use Rattle.basecode.proofs.run.run.Given.{Over}
 use Rattle.basecode.proofs.run.run.Goals as goal
 
 pub returns-in-Ok-List-clause-done : goal.returns-in-Ok-List-clause-done
 returns-in-Ok-List-clause-done g c = λ ends.
-    let asked : request_of (texts c.args.words.now) ≡ Some Names = search rules in
-    let kept : Keeps (g.R.Read.remaining (inner_of c.args.reader.now))
-    (g.R.Read.remaining (inner_of c.args.reader.now)) =
-    search rules in
-    let listed : c.as_bytes.result.now ≡ listing = search rules in
-    let written : Appends (g.W.Write.contents (inner_of c.args.writer.now))
-    (g.W.Write.contents (inner_of c.send.new.writer)) c.as_bytes.result.now =
-    search rules in
+    let asked : request_of (texts c.args.words.now) ≡ Some Names =
+    subst (AreRequest (texts c.args.words.now)) c.in-Ok-List.field-0-is c.in-Ok-List.ensures.asked in
+    let kept = Keeps-refl (g.R.Read.remaining (inner_of c.args.reader.now)) in
+    let listed : c.as_bytes.result.now ≡ listing =
+    c.as_bytes.ensures.value ∙ c.predefined_names.ensures in
+    let written = ended _ _ c.send.ensures.sent (sym c.settle.ensures ∙ ends) in
     record {
       output = c.as_bytes.result.now;
       fulfils = ByReply (OfNames asked kept listed);
@@ -28,11 +26,11 @@ returns-in-Ok-List-clause-done g c = λ ends.
 
 pub returns-in-Ok-List-clause-begun : goal.returns-in-Ok-List-clause-begun
 returns-in-Ok-List-clause-begun g c = λ not_2.
-    let asked : request_of (texts c.args.words.now) ≡ Some Names = search rules in
-    let kept : Keeps (g.R.Read.remaining (inner_of c.args.reader.now))
-    (g.R.Read.remaining (inner_of c.args.reader.now)) =
-    search rules in
-    let listed : c.as_bytes.result.now ≡ listing = search rules in
+    let asked : request_of (texts c.args.words.now) ≡ Some Names =
+    subst (AreRequest (texts c.args.words.now)) c.in-Ok-List.field-0-is c.in-Ok-List.ensures.asked in
+    let kept = Keeps-refl (g.R.Read.remaining (inner_of c.args.reader.now)) in
+    let listed : c.as_bytes.result.now ≡ listing =
+    c.as_bytes.ensures.value ∙ c.predefined_names.ensures in
     record {
       is_begun = inr (record {
         output = c.as_bytes.result.now;
@@ -46,22 +44,18 @@ reply : (g : Over) (c : goal.After-settle-in-Question g)
     → Replies (texts c.args.words.now) (g.R.Read.remaining (inner_of c.args.reader.now))
     (g.R.Read.remaining (inner_of c.args.reader.now)) c.truth_of.result.now
 reply g c =
-    let asks : c.in-Ok-Of.task.ask ≡ Question = search rules in
+    let asks = rw c.in-Ok-Of.field-0-is at c.in-Question.is in
     let asked : Asks (texts c.args.words.now) Question c.in-Ok-Of.task.encoding =
     Asks-request _ c.in-Ok-Of.field-0 c.in-Ok-Of.task Question
     c.in-Ok-Of.field-0-is asks c.in-Ok-Of.ensures.asked in
     let shown : TellsCanonical c.in-Ok-Of.task.encoding c.truth_of.result.now =
     (rw c.in-Ok-Of.field-0-is at c.truth_of.ensures) in
-    let kept : Keeps (g.R.Read.remaining (inner_of c.args.reader.now))
-    (g.R.Read.remaining (inner_of c.args.reader.now)) =
-    search rules in
+    let kept = Keeps-refl (g.R.Read.remaining (inner_of c.args.reader.now)) in
     OfQuestion c.in-Ok-Of.task.encoding asked kept shown
 
 pub returns-in-Question-clause-done : goal.returns-in-Question-clause-done
 returns-in-Question-clause-done g c = λ ends.
-    let written : Appends (g.W.Write.contents (inner_of c.args.writer.now))
-    (g.W.Write.contents (inner_of c.send-in-Question.new.writer)) c.truth_of.result.now =
-    search rules in
+    let written = ended _ _ c.send-in-Question.ensures.sent (sym c.settle-in-Question.ensures ∙ ends) in
     record { output = c.truth_of.result.now; fulfils = ByReply (reply g c); written = written }
 
 pub returns-in-Question-clause-begun : goal.returns-in-Question-clause-begun
@@ -78,7 +72,7 @@ returns-in-Question-clause-begun g c = λ not_2.
 conversion : (g : Over) (c : goal.After-settle-in-Conversion g)
     → Asks (texts c.args.words.now) (Conversion c.in-Conversion.verb) c.in-Ok-Of.task.encoding
 conversion g c =
-    let asks : c.in-Ok-Of.task.ask ≡ Conversion c.in-Conversion.verb = search rules in
+    let asks = rw c.in-Ok-Of.field-0-is at c.in-Conversion.is in
     Asks-request _ c.in-Ok-Of.field-0 c.in-Ok-Of.task (Conversion c.in-Conversion.verb)
     c.in-Ok-Of.field-0-is asks c.in-Ok-Of.ensures.asked
 
@@ -87,7 +81,8 @@ returns-in-Conversion-clause-done g c = λ ends.
     let converts : Converts c.in-Conversion.verb c.in-Ok-Of.task.encoding
     (seen g.R.Read.remaining c.args.reader.now c.convert.new.reader)
     (seen g.W.Write.contents c.args.writer.now c.convert.new.writer) =
-    search rules in
+    ended _ _ (rw c.in-Ok-Of.field-0-is at c.convert.ensures.done)
+    (sym c.settle-in-Conversion.ensures ∙ ends) in
     done_conversion _ _ _ _ _ c.sound_text.ensures.sound c.in-Conversion.verb
     c.in-Ok-Of.task.encoding (conversion g c) converts
 
@@ -96,7 +91,7 @@ returns-in-Conversion-clause-refused g c = λ ends.
     let explains : IfErr c.convert.result (Explains c.in-Conversion.verb c.in-Ok-Of.task.encoding
     (seen g.R.Read.remaining c.args.reader.now c.convert.new.reader)
     (seen g.W.Write.contents c.args.writer.now c.convert.new.writer)) =
-    search rules in
+    (rw c.in-Ok-Of.field-0-is at c.convert.ensures.fault) in
     refused_conversion _ _ _ _ _ c.in-Conversion.verb c.in-Ok-Of.task.encoding c.convert.result
     (conversion g c) explains (sym c.settle-in-Conversion.ensures ∙ ends)
 
@@ -105,7 +100,7 @@ returns-in-Conversion-clause-begun g c = λ not_2.
     let begins : Begins c.in-Conversion.verb c.in-Ok-Of.task.encoding
     (seen g.R.Read.remaining c.args.reader.now c.convert.new.reader)
     (seen g.W.Write.contents c.args.writer.now c.convert.new.writer) =
-    search rules in
+    (rw c.in-Ok-Of.field-0-is at c.convert.ensures.begun) in
     record {
       is_begun = inl (record {
         verb = c.in-Conversion.verb;
@@ -114,6 +109,11 @@ returns-in-Conversion-clause-begun g c = λ not_2.
         begins = begins;
       });
     }
+
+pub returns-in-Conversion-clause-failed : goal.returns-in-Conversion-clause-failed
+returns-in-Conversion-clause-failed g c =
+    rw c.settle-in-Conversion.ensures
+    (failed_conversion c.convert.result _ _ c.convert.ensures.read c.convert.ensures.write)
 
 pub returns-in-Err-clause-refused : goal.returns-in-Err-clause-refused
 returns-in-Err-clause-refused g c = λ ends. absurd (omega (arith, ends))
