@@ -30,20 +30,23 @@ are c =
 
 pub returns-in-Ok-clause-asked : goal.returns-in-Ok-clause-asked
 returns-in-Ok-clause-asked c =
-    subst (λ words. Asks words c.in-Ok.task.ask c.in-Ok.task.encoding) (sym (are (goal.at.returns-in-Ok-clause-asked c).After-as_str-in-len2-2))
-    c.in-Ok.ensures.asked
+    subst (λ words. Asks words c.in-Ok.task.ask c.in-Ok.task.encoding)
+    (sym (are (goal.at.returns-in-Ok-clause-asked c).After-as_str-in-len2-2)) c.in-Ok.ensures.asked
 
 pub returns-in-Ok-clause-wrong : goal.returns-in-Ok-clause-wrong
 returns-in-Ok-clause-wrong c =
-    subst (λ words. (false ≡ true) ↔ (request_of words ≡ None)) (sym (are (goal.at.returns-in-Ok-clause-wrong c).After-as_str-in-len2-2)) c.in-Ok.ensures.wrong
+    subst (λ words. (false ≡ true) ↔ (request_of words ≡ None))
+    (sym (are (goal.at.returns-in-Ok-clause-wrong c).After-as_str-in-len2-2)) c.in-Ok.ensures.wrong
 
 pub returns-in-Err-clause-wrong : goal.returns-in-Err-clause-wrong
 returns-in-Err-clause-wrong c =
-    subst (λ words. (true ≡ true) ↔ (request_of words ≡ None)) (sym (are (goal.at.returns-in-Err-clause-wrong c).After-as_str-in-len2-2)) c.in-Err.ensures.wrong
+    subst (λ words. (true ≡ true) ↔ (request_of words ≡ None))
+    (sym (are (goal.at.returns-in-Err-clause-wrong c).After-as_str-in-len2-2)) c.in-Err.ensures.wrong
 
 pub returns-in-Err-clause-fault : goal.returns-in-Err-clause-fault
 returns-in-Err-clause-fault c =
-    subst (λ words. IsWrong words c.in-Err.fault) (sym (are (goal.at.returns-in-Err-clause-fault c).After-as_str-in-len2-2)) c.in-Err.ensures.fault
+    subst (λ words. IsWrong words c.in-Err.fault)
+    (sym (are (goal.at.returns-in-Err-clause-fault c).After-as_str-in-len2-2)) c.in-Err.ensures.fault
 
 pub returns-in_default-clause-asked : goal.returns-in_default-clause-asked
 returns-in_default-clause-asked c = tt

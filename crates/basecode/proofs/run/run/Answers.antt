@@ -1,4 +1,4 @@
-use Rattle.std.proofs.Common.{rules, arith, ◌≡◌, ◌∙◌, refl, subst, sym, Some, IfErr, inl, inr}
+use Rattle.std.proofs.Common.{arith, ◌≡◌, ◌∙◌, refl, subst, sym, Some, IfErr, inl, inr}
 use Rattle.std.proofs.KnownBytes.{Keeps-refl}
 use Rattle.data_encoding.specs.Named.{listing}
 use Rattle.basecode.specs.Run.{Begins, ByReply, Converts, Explains, OfNames, OfQuestion, Replies, TellsCanonical}
@@ -15,7 +15,8 @@ returns-in-Ok-List-clause-done g c = λ ends.
     let asked : request_of (texts c.args.words.now) ≡ Some Names =
     subst (AreRequest (texts c.args.words.now)) c.in-Ok-List.field-0-is c.in-Ok-List.ensures.asked in
     let kept = Keeps-refl (g.R.Read.remaining (inner_of c.args.reader.now)) in
-    let listed : c.as_bytes.result.now ≡ listing = search rules in
+    let listed : c.as_bytes.result.now ≡ listing =
+    c.as_bytes.ensures.value ∙ c.predefined_names.ensures in
     let written = ended _ _ c.send.ensures.sent (sym c.settle.ensures ∙ ends) in
     record {
       output = c.as_bytes.result.now;
@@ -28,7 +29,8 @@ returns-in-Ok-List-clause-begun g c = λ not_2.
     let asked : request_of (texts c.args.words.now) ≡ Some Names =
     subst (AreRequest (texts c.args.words.now)) c.in-Ok-List.field-0-is c.in-Ok-List.ensures.asked in
     let kept = Keeps-refl (g.R.Read.remaining (inner_of c.args.reader.now)) in
-    let listed : c.as_bytes.result.now ≡ listing = search rules in
+    let listed : c.as_bytes.result.now ≡ listing =
+    c.as_bytes.ensures.value ∙ c.predefined_names.ensures in
     record {
       is_begun = inr (record {
         output = c.as_bytes.result.now;
