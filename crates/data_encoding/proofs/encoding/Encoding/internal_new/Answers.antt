@@ -1,4 +1,5 @@
 use Rattle.std.proofs.Common.{◌≡◌, Some, sym, ap, ◌∙◌, arith}
+use Rattle.std.proofs.lemmas.Option.{none-some}
 use Rattle.std.proofs.lemmas.Slice.Eq.{bytes_eq-Decides}
 use Rattle.data_encoding_meaning.specs.specification.Layout.{layout}
 use Rattle.data_encoding_meaning.proofs.tables.ReadingLemmas.{read-layout}
@@ -26,3 +27,13 @@ returns-else-eq-clause-accepted c = λ base is same.
     let bytes : slice ≡ implementation =
     c.as_slice.ensures.value ∙ c.internal_implementation.ensures ∙ ap layout encoding ∙ same in
     sym c.if-eq.false ∙ c.eq.ensures ∙ (bytes_eq-Decides slice implementation).1 bytes
+
+pub returns-in_err-encoding-clause-accepted : goal.returns-in_err-encoding-clause-accepted
+returns-in_err-encoding-clause-accepted c = λ base is same.
+    absurd (none-some base (sym c.in_err-encoding.was ∙ c.parse_layout.ensures.found base is same))
+
+pub returns-then-eq-clause-layout : goal.returns-then-eq-clause-layout
+returns-then-eq-clause-layout c =
+    sym (c.as_slice.ensures.value ∙ c.internal_implementation.ensures)
+    ∙ (bytes_eq-Decides c.as_slice.result.now c.args.implementation.now).0
+    (sym c.eq.ensures ∙ c.if-eq.true)
