@@ -3,13 +3,14 @@ use Rattle.std.proofs.Common.{◌≡◌, ℕ, ◌<◌, ◌≤◌, ◌++◌, Bool
 use Rattle.std.specs.Result.{result_unwrap_or}
 use Rattle.data_encoding.specs.declared.error.DecodeError.{DecodeError}
 use Rattle.data_encoding.specs.Base.{Base}
-use Rattle.data_encoding.specs.Fault.{bytes_of_group, fault_after, fault_of, or_else, sound_bytes}
+use Rattle.data_encoding.specs.Fault.{bytes_of_group, fault_after, fault_of, or_else}
 use Rattle.data_encoding.specs.Fields.{IsSpecified}
 use Rattle.data_encoding.specs.Grammar.{Positioned}
 use Rattle.data_encoding.specs.Lengths.{decoded_len, length_fault, most_bytes, unless_fault}
 use Rattle.data_encoding.specs.Pieces.{bytes_unless, held_fault, whole_bytes, HasRead, TellsBytes, TellsFault}
 use Rattle.encoding_stream.specs.declared.pieces.Kept.{Kept}
 use Rattle.encoding_stream.specs.Pieces.{at_positions, held, verdict_of, Keeps, NoneIgnored}
+use Rattle.encoding_stream.specs.Reading.{HasLastBytes}
 use Rattle.encoding_stream.proofs.PieceLemmas.{positions-length, unfinished-kept}
 
 -- the bytes held are judged as a group, if there are any
@@ -78,8 +79,7 @@ pub bytes-judged : (base : Base) → IsSpecified base → TellsBytes → (k : Ke
     × (bytes_of_group base (held k) ≡ take count output))
     → IfErr judged (λ error. (text : List ℕ) → Keeps base k text
     → or_else k.fault (held_fault k.ended base (held k)) ≡ Some error)
-    → written ≡ result_unwrap_or judged 0 → (text : List ℕ) → Keeps base k text
-    → sound_bytes base text ≡ whole_bytes base text ++ take written output
+    → written ≡ result_unwrap_or judged 0 → HasLastBytes base k (take written output)
 bytes-judged base is bytes_law k (Ok count) output written sound faulty same text keeps =
     bytes_law base is text k.len k.fault (held k) k.ended keeps
     ∙ ap (λ o. whole_bytes base text ++ bytes_unless o base (held k)) (sound text keeps).0

@@ -1,4 +1,4 @@
-use Rattle.std.proofs.Common.{◌∙◌, arith, refl}
+use Rattle.std.proofs.Common.{◌∙◌, arith, inl, refl}
 use Rattle.encoding_stream.specs.Pieces.{base_of_pieces}
 use Rattle.encoding_stream.proofs.ReadPieceLemmas.{length-both, next-room, reads-next, reads-nothing}
 use Rattle.encoding_stream.proofs.pieces.BufferDecoder.read_bytes.Goals as goal
@@ -32,3 +32,6 @@ loop-read-preserved c =
           (rw now.base at taken.ensures.reads) c.loop-read-test.true;
       len = length-both now.front taken.new.output taken.ensures.len taken.ensures.within ∙ now.len;
     }
+
+pub returns-else-self-least-clause-until : goal.returns-else-self-least-clause-until
+returns-else-self-least-clause-until c = λ _. inl c.if-self-least.false

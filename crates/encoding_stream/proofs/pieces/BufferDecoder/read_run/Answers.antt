@@ -1,4 +1,5 @@
 use Rattle.std.proofs.Common.{◌≡◌, ◌+◌, ◌/◌, ◌%◌, ◌∙◌, false, None, Some, take, drop, length, sym, subst, arith, length-append, length-take, length-take-le}
+use Rattle.std.proofs.Math.Nat.{div-eq_of_lt}
 use Rattle.std.proofs.lemmas.Bool.{false≢true}
 use Rattle.std.proofs.lemmas.List.{take-append-le, take-take}
 use Rattle.data_encoding.specs.Base.{group_symbols}
@@ -99,6 +100,14 @@ returns-clause-reads c =
     means
     whole ends)
     few)))
+
+pub returns-then-piece-self-clause-all : goal.returns-then-piece-self-clause-all
+returns-then-piece-self-clause-all c = λ _ _ _ _ _ _.
+    let s = c.args.self.now in
+    let size = group_symbols (base_of_pieces s).width in
+    let none : length c.args.piece.now / size ≡ 0 =
+    div-eq_of_lt (omega (arith, s.group, c.if-piece-self.true)) in
+    rw none (omega arith)
 
 pub returns-then-not-are_whole-clause-all : goal.returns-then-not-are_whole-clause-all
 returns-then-not-are_whole-clause-all c = λ _ _ _ none bytes means.
