@@ -2,6 +2,7 @@ use Rattle.std.proofs.Common.{◌≡◌, ◌∙◌, ℕ, List, [], ◌∷◌, le
 use Rattle.std.proofs.lemmas.List.{nil_from_length}
 use Rattle.data_encoding.proofs.encode.lines.write_separator.Goals as goal
 
+-- of one byte, to set the first sets all
 one : (xs ys : List ℕ) → length xs ≡ length ys → length ys ≡ 1 → set xs 0 (get_or ys 0 0) ≡ ys
 one [] ys same few = absurd (omega arith)
 one (x ∷ xs) [] same few = absurd (omega arith)

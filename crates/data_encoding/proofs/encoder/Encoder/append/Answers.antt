@@ -4,6 +4,7 @@ use Rattle.data_encoding.specs.Encoder.{IsUnchanged}
 use Rattle.data_encoding.specs.KeptData.{held_data}
 use Rattle.data_encoding.proofs.encoder.Encoder.append.Goals as goal
 
+-- what follows from three facts of a refusal holds of it too
 on_err : {T E P Q R S : Type 0} (r : Result T E)
     → OnErr r P → OnErr r Q → OnErr r R → (P → Q → R → S) → OnErr r S
 on_err (Ok _) p q r f = p
