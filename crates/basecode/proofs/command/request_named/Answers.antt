@@ -41,12 +41,14 @@ returns-in-Ok-clause-wrong c =
 pub returns-in-Err-clause-wrong : goal.returns-in-Err-clause-wrong
 returns-in-Err-clause-wrong c =
     subst (λ words. (true ≡ true) ↔ (request_of words ≡ None))
-    (sym (are (goal.at.returns-in-Err-clause-wrong c).After-as_str-in-len2-2)) c.in-Err.ensures.wrong
+    (sym (are (goal.at.returns-in-Err-clause-wrong c).After-as_str-in-len2-2))
+    c.in-Err.ensures.wrong
 
 pub returns-in-Err-clause-fault : goal.returns-in-Err-clause-fault
 returns-in-Err-clause-fault c =
     subst (λ words. IsWrong words c.in-Err.fault)
-    (sym (are (goal.at.returns-in-Err-clause-fault c).After-as_str-in-len2-2)) c.in-Err.ensures.fault
+    (sym (are (goal.at.returns-in-Err-clause-fault c).After-as_str-in-len2-2))
+    c.in-Err.ensures.fault
 
 pub returns-in_default-clause-asked : goal.returns-in_default-clause-asked
 returns-in_default-clause-asked c = tt

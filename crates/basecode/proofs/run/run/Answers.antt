@@ -13,7 +13,8 @@ use Rattle.basecode.proofs.run.run.Goals as goal
 pub returns-in-Ok-List-clause-done : goal.returns-in-Ok-List-clause-done
 returns-in-Ok-List-clause-done g c = λ ends.
     let asked : request_of (texts c.args.words.now) ≡ Some Names =
-    subst (AreRequest (texts c.args.words.now)) c.in-Ok-List.field-0-is c.in-Ok-List.ensures.asked in
+    subst (AreRequest (texts c.args.words.now)) c.in-Ok-List.field-0-is
+    c.in-Ok-List.ensures.asked in
     let kept = Keeps-refl (g.R.Read.remaining (inner_of c.args.reader.now)) in
     let listed : c.as_bytes.result.now ≡ listing =
     c.as_bytes.ensures.value ∙ c.predefined_names.ensures in
@@ -27,7 +28,8 @@ returns-in-Ok-List-clause-done g c = λ ends.
 pub returns-in-Ok-List-clause-begun : goal.returns-in-Ok-List-clause-begun
 returns-in-Ok-List-clause-begun g c = λ not_2.
     let asked : request_of (texts c.args.words.now) ≡ Some Names =
-    subst (AreRequest (texts c.args.words.now)) c.in-Ok-List.field-0-is c.in-Ok-List.ensures.asked in
+    subst (AreRequest (texts c.args.words.now)) c.in-Ok-List.field-0-is
+    c.in-Ok-List.ensures.asked in
     let kept = Keeps-refl (g.R.Read.remaining (inner_of c.args.reader.now)) in
     let listed : c.as_bytes.result.now ≡ listing =
     c.as_bytes.ensures.value ∙ c.predefined_names.ensures in
@@ -55,7 +57,8 @@ reply g c =
 
 pub returns-in-Question-clause-done : goal.returns-in-Question-clause-done
 returns-in-Question-clause-done g c = λ ends.
-    let written = ended _ _ c.send-in-Question.ensures.sent (sym c.settle-in-Question.ensures ∙ ends) in
+    let written =
+    ended _ _ c.send-in-Question.ensures.sent (sym c.settle-in-Question.ensures ∙ ends) in
     record { output = c.truth_of.result.now; fulfils = ByReply (reply g c); written = written }
 
 pub returns-in-Question-clause-begun : goal.returns-in-Question-clause-begun

@@ -16,7 +16,8 @@ returns-clause-pieces g c = rw (← c.by_ref.ensures) c.append_blocks.ensures.pi
 pub returns-clause-unchanged : goal.returns-clause-unchanged
 returns-clause-unchanged g c =
     let is = c.append_blocks.ensures in
-    on_err {S = IsUnchanged c.args.self.now _} c.append_blocks.result is.unchanged is.capacity is.kept
+    on_err {S = IsUnchanged c.args.self.now _} c.append_blocks.result
+    is.unchanged is.capacity is.kept
     (λ written capacity kept. record {
       written = written;
       capacity = capacity;

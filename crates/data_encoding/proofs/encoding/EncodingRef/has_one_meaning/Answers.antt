@@ -11,7 +11,9 @@ returns-else-not-self-clause-base c =
     rw (← c.self.view_is) (is_base_of _ c.self.invariant)
 
 pub returns-then-not-self-clause-value : goal.returns-then-not-self-clause-value
-returns-then-not-self-clause-value c = rw (← c.self.view_is, ← c.self.invariant.ignores) (grind arith)
+returns-then-not-self-clause-value c =
+    rw (← c.self.view_is, ← c.self.invariant.ignores) (grind arith)
 
 pub returns-else-not-self-clause-value : goal.returns-else-not-self-clause-value
-returns-else-not-self-clause-value c = rw (← c.self.view_is, ← c.self.invariant.ignores) (grind arith)
+returns-else-not-self-clause-value c =
+    rw (← c.self.view_is, ← c.self.invariant.ignores) (grind arith)

@@ -4,7 +4,9 @@ use Rattle.encoding_stream.proofs.pieces.BufferDecoder.is_of_whole_group.Goals a
 pub returns-then-not-ignores_bytes : goal.returns-then-not-ignores_bytes
 returns-then-not-ignores_bytes c = λ _. record {
   not_length = search rules;
-  joins = sym (rw c.by_ref-encoding.ensures at c.concatenates.ensures) ∙ c.if-not-concatenates.false;
+  joins =
+      sym (rw c.by_ref-encoding.ensures at c.concatenates.ensures)
+      ∙ c.if-not-concatenates.false;
   whole = inl (
     sym (rw c.by_ref-encoding.ensures at c.ignores_bytes.ensures) ∙ c.if-not-ignores_bytes.true,
     subst (λ n. c.args.len % n ≡ 0) c.args.self.now.group c.requires.whole,
@@ -14,6 +16,8 @@ returns-then-not-ignores_bytes c = λ _. record {
 pub returns-else-not-ignores_bytes : goal.returns-else-not-ignores_bytes
 returns-else-not-ignores_bytes c = λ is. record {
   not_length = search rules;
-  joins = sym (rw c.by_ref-encoding.ensures at c.concatenates.ensures) ∙ c.if-not-concatenates.false;
+  joins =
+      sym (rw c.by_ref-encoding.ensures at c.concatenates.ensures)
+      ∙ c.if-not-concatenates.false;
   whole = inr (search rules);
 }
