@@ -31,7 +31,7 @@ ENCODING = ("data → text, in lines", """
     data_encoding/encode.rt: encode_mut encode_by_width
     data_encoding/encode/lines.rt: encode_lines encode_line
     data_encoding/encode.rt: encode_padded
-    data_encoding_kernel/encode.rt: encode_plain encode_eights encode_by_order
+    data_encoding_kernel/encode.rt: encode_plain encode_by_order encode_turns
 """)
 DECODING = ("text → data, or its fault", """
     basecode/run.rt: run convert

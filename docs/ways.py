@@ -35,13 +35,14 @@ ENCODE = """
     encode_lines                                                # The encoding has no lines,
     padded_len: symbol_count                                    # and is padded.
     filled_count: symbol_count
-    encode_plain: encode_by_order encode_short encode_eights    # There are lanes, and much data.
-    encode_four_octal encode_two                                # Symbols have six bits,
+    encode_by_order: encode_turns encode_short                  # There are lanes, and much data.
+    few_digits: octal_digits_of_four digits_of_two              # Symbols have six bits,
+    encode_few: store_thirty_two
     FewGroups::encode: encode_group
     one_bit_digits two_bit_digits three_bit_digits four_bit_digits five_bit_digits
     look_up: look_in_thirty_two look_in_sixteen
     store: store_sixteen
-    look_up_by_offsets: look_up                                 # each is a sum,
+    OffsetAlphabet::symbols_of: look_up                         # each is a sum,
     join_fours spread_six_bits eight_threes four_threes         # and the highest bit is first.
 """
 MIME = """

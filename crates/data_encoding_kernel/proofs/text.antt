@@ -1,3 +1,4 @@
 -- The text of whole groups.
 pub mod PlainGroupLemmas
 pub mod GroupTextLemmas
+pub mod FewGroupLemmas

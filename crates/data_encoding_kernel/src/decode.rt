@@ -237,10 +237,8 @@ pub fn decode_by_turns<L: LookUp, O: ConstantOrder, G: GroupSize>(
         output.new }
     ensures within { result ≤ len }
 {
-    let lanes = EightGroups { look_up: *look_up };
     let count = count_turns::<G>(input.len(), len, output.len());
-    let read = decode_turns::<EightGroups<L>, G>(&lanes, O::ORDER, count, input, output);
-    if read < len { read } else { len }
+    decode_by_eights::<L, O, G>(look_up, count, input, len, output)
 }
 
 // How many turns of eight groups start before `len`, if the input and the output have them whole.

@@ -2,13 +2,13 @@
 
 ghost use Rattle.std.specs.Prelude.{◌≡◌, ℕ, ◌+◌, ◌-◌, ◌*◌, ◌/◌, ◌<◌, ◌≤◌, ◌==◌, if◌then◌else◌, List, length, take};
 ghost use Rattle.data_encoding_meaning.specs.text.Base.{group_bytes};
+ghost use Rattle.data_encoding_kernel.specs.Lanes.{few_groups};
 ghost use Rattle.data_encoding_kernel.specs.Tables.{IsTextBy};
 
 use crate::group_size::GroupSize;
-use crate::lanes::encode::{EightByRows, EncodeEight, encode_four, encode_four_octal, encode_two};
-use crate::lanes::offset_alphabet::{
-    LONG_DATA_LEN, OffsetAlphabet, may_have_offsets, offset_alphabet_of,
-};
+use crate::lanes::encode::{SymbolLookUp, SymbolRows, encode_eight, encode_few, few_groups};
+use crate::lanes::offset_alphabet::{OffsetAlphabet, offset_alphabet_of, seeks_offsets};
+use crate::order::{ConstantOrder, LeastSignificantFirst, MostSignificantFirst};
 use crate::platform::has_lanes;
 use crate::words::encode_group;
 use data_encoding_meaning::encoding::BitOrder;
@@ -26,80 +26,88 @@ pub fn encode_plain<G: GroupSize>(
     requires exact { length output.old ≡ (8 * length input.now + (G.WIDTH - 1)) / G.WIDTH }
     ensures { IsTextBy symbols.now G.WIDTH order input.now output.new }
 {
+    match order {
+        BitOrder::MostSignificantFirst => {
+            encode_by_order::<MostSignificantFirst, G>(symbols, input, output)
+        }
+        BitOrder::LeastSignificantFirst => {
+            encode_by_order::<LeastSignificantFirst, G>(symbols, input, output)
+        }
+    }
+}
+
+// The order is a constant from here on, so that each digit is at a known bit of its word.
+#[inline(always)]
+fn encode_by_order<O: ConstantOrder, G: GroupSize>(
+    symbols: &[u8; 256],
+    input: &[u8],
+    output: &mut [u8],
+)
+    requires limit { length input.now ≤ ENCODE_LIMIT }
+    requires exact { length output.old ≡ (8 * length input.now + (G.WIDTH - 1)) / G.WIDTH }
+    ensures { IsTextBy symbols.now G.WIDTH O.ORDER input.now output.new }
+{
     if !has_lanes() {
-        return encode_by_order::<OneGroup, G>(&OneGroup, symbols, order, input, output);
+        return encode_turns::<OneGroup, O, G>(&OneGroup, symbols, input, output);
     }
     // The rest of longer data is encoded by this call too.
     if input.len() < 10 * G::BYTES - 2 {
-        return encode_short::<G>(symbols, order, input, output);
+        return encode_short::<O, G>(symbols, input, output);
     }
-    if G::WIDTH == 6 && input.len() >= LONG_DATA_LEN && may_have_offsets(symbols) {
-        return encode_long::<G>(symbols, order, input, output);
+    if seeks_offsets::<G>(symbols, input.len()) {
+        return encode_long::<O, G>(symbols, input, output);
     }
-    encode_eights::<EightByRows, G>(EightByRows, symbols, order, input, output);
+    encode_turns::<EightGroups<SymbolRows>, O, G>(&BY_ROWS, symbols, input, output);
 }
 
 // The symbols as sums if they have that form. Not inlined, so that shorter data is not slowed down.
 #[inline(never)]
-fn encode_long<G: GroupSize>(symbols: &[u8; 256], order: BitOrder, input: &[u8], output: &mut [u8])
+fn encode_long<O: ConstantOrder, G: GroupSize>(symbols: &[u8; 256], input: &[u8], output: &mut [u8])
     requires limit { length input.now ≤ ENCODE_LIMIT }
     requires exact { length output.old ≡ (8 * length input.now + (G.WIDTH - 1)) / G.WIDTH }
-    ensures { IsTextBy symbols.now G.WIDTH order input.now output.new }
+    ensures { IsTextBy symbols.now G.WIDTH O.ORDER input.now output.new }
 {
     match offset_alphabet_of(symbols) {
-        Some(alphabet) => encode_eights::<OffsetAlphabet, G>(
-            alphabet, symbols, order, input, output,
-        ),
-        None => encode_eights::<EightByRows, G>(EightByRows, symbols, order, input, output),
+        Some(look_up) => {
+            let turn = EightGroups { look_up };
+            encode_turns::<EightGroups<OffsetAlphabet>, O, G>(&turn, symbols, input, output)
+        }
+        None => encode_turns::<EightGroups<SymbolRows>, O, G>(&BY_ROWS, symbols, input, output),
     }
-}
-
-// By eight groups in lanes, and then the rest.
-#[inline(always)]
-fn encode_eights<E: EncodeEight, G: GroupSize>(
-    way: E,
-    symbols: &[u8; 256],
-    order: BitOrder,
-    input: &[u8],
-    output: &mut [u8],
-)
-    requires held { E.holds symbols.now way }
-    requires limit { length input.now ≤ ENCODE_LIMIT }
-    requires exact { length output.old ≡ (8 * length input.now + (G.WIDTH - 1)) / G.WIDTH }
-    ensures { IsTextBy symbols.now G.WIDTH order input.now output.new }
-{
-    encode_by_order::<EightGroups<E>, G>(&EightGroups { way }, symbols, order, input, output);
 }
 
 // What is less than eight groups load. Not inlined, so that the loop over eight groups, which takes
 // most of the time, is small.
 #[inline(never)]
-fn encode_short<G: GroupSize>(symbols: &[u8; 256], order: BitOrder, input: &[u8], output: &mut [u8])
+fn encode_short<O: ConstantOrder, G: GroupSize>(
+    symbols: &[u8; 256],
+    input: &[u8],
+    output: &mut [u8],
+)
     requires limit { length input.now ≤ ENCODE_LIMIT }
     requires exact { length output.old ≡ (8 * length input.now + (G.WIDTH - 1)) / G.WIDTH }
-    ensures { IsTextBy symbols.now G.WIDTH order input.now output.new }
+    ensures { IsTextBy symbols.now G.WIDTH O.ORDER input.now output.new }
 {
     // One by one, groups of several bytes take longer.
     if G::BYTES > 1 && input.len() >= 16 {
-        encode_by_order::<FewGroups, G>(&FewGroups, symbols, order, input, output);
+        encode_turns::<FewGroups, O, G>(&FewGroups, symbols, input, output);
     } else {
-        encode_by_order::<OneGroup, G>(&OneGroup, symbols, order, input, output);
+        encode_turns::<OneGroup, O, G>(&OneGroup, symbols, input, output);
     }
 }
 
 // Encodes turn by turn, while the input has as many bytes as a turn loads, and then the rest.
 #[inline(always)]
-fn encode_turns<T: EncodeTurn, G: GroupSize>(
+fn encode_turns<T: EncodeTurn, O: ConstantOrder, G: GroupSize>(
     turn: &T,
     symbols: &[u8; 256],
-    order: BitOrder,
     input: &[u8],
     output: &mut [u8],
 )
     requires held { T.holds symbols.now turn.now }
     requires limit { length input.now ≤ ENCODE_LIMIT }
     requires exact { length output.old ≡ (8 * length input.now + (G.WIDTH - 1)) / G.WIDTH }
-    ensures { IsTextBy symbols.now G.WIDTH order input.now output.new }
+    ensures { IsTextBy symbols.now G.WIDTH O.ORDER input.now output.new }
 {
     let bytes = G::BYTES;
     let groups = T::groups::<G>();
@@ -110,16 +118,14 @@ fn encode_turns<T: EncodeTurn, G: GroupSize>(
     for index in 0..count {
         let read = index * read_len;
         let written = index * written_len;
-        turn.encode::<G>(
+        turn.encode::<O, G>(
             symbols,
-            order,
             &input[read..read + (read_len + ahead_len)],
             &mut output[written..written + written_len],
         );
     }
-    T::encode_rest::<G>(
+    T::encode_rest::<O, G>(
         symbols,
-        order,
         &input[count * read_len..],
         &mut output[count * written_len..],
     );
@@ -144,44 +150,46 @@ trait EncodeTurn {
         ensures number { result ≡ further G.WIDTH }
         ensures few { result ≤ 8 };
 
-    fn encode<G: GroupSize>(
+    fn encode<O: ConstantOrder, G: GroupSize>(
         &self,
         symbols: &[u8; 256],
-        order: BitOrder,
         input: &[u8],
         output: &mut [u8],
     )
         requires held { holds symbols.now self.now }
         requires loaded { length input.now ≡ number G.WIDTH * G.BYTES + further G.WIDTH }
         requires exact { length output.old ≡ number G.WIDTH * G.SYMBOLS }
-        ensures { IsTextBy symbols.now G.WIDTH order (take (number G.WIDTH * G.BYTES) input.now)
+        ensures { IsTextBy symbols.now G.WIDTH O.ORDER (take (number G.WIDTH * G.BYTES) input.now)
             output.new };
 
     // Encodes the rest after the last turn: fewer bytes than a turn loads.
-    fn encode_rest<G: GroupSize>(
+    fn encode_rest<O: ConstantOrder, G: GroupSize>(
         symbols: &[u8; 256],
-        order: BitOrder,
         input: &[u8],
         output: &mut [u8],
     )
         requires few { length input.now < number G.WIDTH * G.BYTES + further G.WIDTH }
         requires limit { length input.now ≤ ENCODE_LIMIT }
         requires exact { length output.old ≡ (8 * length input.now + (G.WIDTH - 1)) / G.WIDTH }
-        ensures { IsTextBy symbols.now G.WIDTH order input.now output.new };
+        ensures { IsTextBy symbols.now G.WIDTH O.ORDER input.now output.new };
 }
 
 /// Eight groups in lanes.
 #[derive(Clone, Copy, Drop)]
-struct EightGroups<E> {
-    way: E,
+struct EightGroups<S> {
+    look_up: S,
 }
 
-impl<E: EncodeEight> EncodeTurn for EightGroups<E> {
+const BY_ROWS: EightGroups<SymbolRows> = EightGroups {
+    look_up: SymbolRows,
+};
+
+impl<S: SymbolLookUp> EncodeTurn for EightGroups<S> {
     ghost number = { λ width. 8 };
 
     ghost further = { λ width. 2 * (group_bytes width - 1) };
 
-    ghost holds = { λ symbols turn. E.holds symbols turn.way };
+    ghost holds = { λ symbols turn. S.holds symbols turn.look_up };
 
     #[inline(always)]
     fn groups<G: GroupSize>() -> usize {
@@ -194,56 +202,22 @@ impl<E: EncodeEight> EncodeTurn for EightGroups<E> {
     }
 
     #[inline(always)]
-    fn encode<G: GroupSize>(
+    fn encode<O: ConstantOrder, G: GroupSize>(
         &self,
         symbols: &[u8; 256],
-        order: BitOrder,
         input: &[u8],
         output: &mut [u8],
     ) {
-        self.way.encode_eight::<G>(symbols, order, input, output);
+        encode_eight::<S, G>(&self.look_up, symbols, O::ORDER, input, output);
     }
 
     #[inline(always)]
-    fn encode_rest<G: GroupSize>(
+    fn encode_rest<O: ConstantOrder, G: GroupSize>(
         symbols: &[u8; 256],
-        order: BitOrder,
         input: &[u8],
         output: &mut [u8],
     ) {
-        encode_short::<G>(symbols, order, input, output);
-    }
-}
-
-// The order is a constant from here on, so that each digit is at a known bit of its word.
-#[inline(always)]
-fn encode_by_order<T: EncodeTurn, G: GroupSize>(
-    turn: &T,
-    symbols: &[u8; 256],
-    order: BitOrder,
-    input: &[u8],
-    output: &mut [u8],
-)
-    requires held { T.holds symbols.now turn.now }
-    requires limit { length input.now ≤ ENCODE_LIMIT }
-    requires exact { length output.old ≡ (8 * length input.now + (G.WIDTH - 1)) / G.WIDTH }
-    ensures { IsTextBy symbols.now G.WIDTH order input.now output.new }
-{
-    match order {
-        BitOrder::MostSignificantFirst => encode_turns::<T, G>(
-            turn,
-            symbols,
-            BitOrder::MostSignificantFirst,
-            input,
-            output,
-        ),
-        BitOrder::LeastSignificantFirst => encode_turns::<T, G>(
-            turn,
-            symbols,
-            BitOrder::LeastSignificantFirst,
-            input,
-            output,
-        ),
+        encode_short::<O, G>(symbols, input, output);
     }
 }
 
@@ -251,8 +225,7 @@ fn encode_by_order<T: EncodeTurn, G: GroupSize>(
 struct FewGroups;
 
 impl EncodeTurn for FewGroups {
-    ghost number = { λ width. if width == 5 then 2 else if width == 3 then 4
-        else if width == 6 then 4 else 1 };
+    ghost number = { λ width. few_groups width };
 
     ghost further = { λ width. if width == 5 then 6 else if width == 3 then 4
         else if width == 6 then 4 else 0 };
@@ -261,12 +234,7 @@ impl EncodeTurn for FewGroups {
 
     #[inline(always)]
     fn groups<G: GroupSize>() -> usize {
-        match G::WIDTH {
-            5 => 2,
-            3 => 4,
-            6 => 4,
-            _ => 1,
-        }
+        few_groups::<G>()
     }
 
     #[inline(always)]
@@ -280,29 +248,26 @@ impl EncodeTurn for FewGroups {
     }
 
     #[inline(always)]
-    fn encode<G: GroupSize>(
+    fn encode<O: ConstantOrder, G: GroupSize>(
         &self,
         symbols: &[u8; 256],
-        order: BitOrder,
         input: &[u8],
         output: &mut [u8],
     ) {
-        match G::WIDTH {
-            3 => encode_four_octal::<G>(symbols, order, input, output),
-            5 => encode_two::<G>(symbols, order, input, output),
-            6 => encode_four::<G>(symbols, order, input, output),
-            _ => encode_group::<G>(symbols, order, input, output),
+        if few_groups::<G>() > 1 {
+            encode_few::<G>(symbols, O::ORDER, input, output);
+        } else {
+            encode_group::<G>(symbols, O::ORDER, input, output);
         }
     }
 
     #[inline(always)]
-    fn encode_rest<G: GroupSize>(
+    fn encode_rest<O: ConstantOrder, G: GroupSize>(
         symbols: &[u8; 256],
-        order: BitOrder,
         input: &[u8],
         output: &mut [u8],
     ) {
-        encode_turns::<OneGroup, G>(&OneGroup, symbols, order, input, output);
+        encode_turns::<OneGroup, O, G>(&OneGroup, symbols, input, output);
     }
 }
 
@@ -327,24 +292,22 @@ impl EncodeTurn for OneGroup {
     }
 
     #[inline(always)]
-    fn encode<G: GroupSize>(
+    fn encode<O: ConstantOrder, G: GroupSize>(
         &self,
         symbols: &[u8; 256],
-        order: BitOrder,
         input: &[u8],
         output: &mut [u8],
     ) {
-        encode_group::<G>(symbols, order, input, output);
+        encode_group::<G>(symbols, O::ORDER, input, output);
     }
 
     // The last group, which may be shorter or empty.
     #[inline(always)]
-    fn encode_rest<G: GroupSize>(
+    fn encode_rest<O: ConstantOrder, G: GroupSize>(
         symbols: &[u8; 256],
-        order: BitOrder,
         input: &[u8],
         output: &mut [u8],
     ) {
-        encode_group::<G>(symbols, order, input, output);
+        encode_group::<G>(symbols, O::ORDER, input, output);
     }
 }

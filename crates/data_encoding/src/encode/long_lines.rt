@@ -12,11 +12,12 @@ use crate::encode::lines::write_separator;
 use crate::encoding::EncodingRef;
 use data_encoding_kernel::group_size::GroupSize;
 use data_encoding_kernel::lanes::encode::{
-    EightByRows, EncodeEight, encode_four, encode_four_octal, encode_two,
+    SymbolLookUp, SymbolRows, encode_eight, encode_few, few_groups,
 };
 use data_encoding_kernel::lanes::offset_alphabet::{
-    LONG_DATA_LEN, OffsetAlphabet, may_have_offsets, offset_alphabet_of,
+    OffsetAlphabet, offset_alphabet_of, seeks_offsets,
 };
+use data_encoding_kernel::order::{ConstantOrder, LeastSignificantFirst, MostSignificantFirst};
 use data_encoding_meaning::encoding::BitOrder;
 
 impl EncodingRef<'_> {
@@ -28,13 +29,13 @@ impl EncodingRef<'_> {
         ensures { output.new ≡ text_of self.now input.now }
     {
         let symbols = &self.fields.symbols;
-        if G::WIDTH == 6 && input.len() >= LONG_DATA_LEN && may_have_offsets(symbols) {
+        if seeks_offsets::<G>(symbols, input.len()) {
             if let Some(alphabet) = offset_alphabet_of(symbols) {
                 self.encode_long_lines_by_offsets::<G>(symbols, &alphabet, input, output);
                 return;
             }
         }
-        self.encode_long_lines_by::<EightByRows, G>(symbols, &EightByRows, input, output);
+        self.encode_long_lines_by::<SymbolRows, G>(symbols, &SymbolRows, input, output);
     }
 
     // Not inlined, so that each loop over lines is small.
@@ -57,51 +58,46 @@ impl EncodingRef<'_> {
 
     // The order is a constant from here on.
     #[inline(always)]
-    fn encode_long_lines_by<E: EncodeEight, G: GroupSize>(
+    fn encode_long_lines_by<S: SymbolLookUp, G: GroupSize>(
         &self,
         symbols: &[u8; 256],
-        eight: &E,
+        look_up: &S,
         input: &[u8],
         output: &mut [u8],
     )
         requires fits { FitsText self.now G.WIDTH input.now output.old }
         requires holds { HoldsSymbols self.now symbols.now }
-        requires held { E.holds symbols.now eight.now }
+        requires held { S.holds symbols.now look_up.now }
         requires long { HasLongLines self.now G.BYTES }
         ensures { output.new ≡ text_of self.now input.now }
     {
         match self.fields.order() {
-            BitOrder::MostSignificantFirst => self.encode_long_lines_by_order::<E, G>(
-                symbols,
-                eight,
-                BitOrder::MostSignificantFirst,
-                input,
-                output,
-            ),
-            BitOrder::LeastSignificantFirst => self.encode_long_lines_by_order::<E, G>(
-                symbols,
-                eight,
-                BitOrder::LeastSignificantFirst,
-                input,
-                output,
-            ),
+            BitOrder::MostSignificantFirst => {
+                self.encode_long_lines_by_order::<S, MostSignificantFirst, G>(
+                    symbols, look_up, input, output,
+                );
+            }
+            BitOrder::LeastSignificantFirst => {
+                self.encode_long_lines_by_order::<S, LeastSignificantFirst, G>(
+                    symbols, look_up, input, output,
+                );
+            }
         }
     }
 
     // In lanes, while the input has a whole line and what a turn loads after it; then the last one
     // or two lines.
     #[inline(always)]
-    fn encode_long_lines_by_order<E: EncodeEight, G: GroupSize>(
+    fn encode_long_lines_by_order<S: SymbolLookUp, O: ConstantOrder, G: GroupSize>(
         &self,
         symbols: &[u8; 256],
-        eight: &E,
-        order: BitOrder,
+        look_up: &S,
         input: &[u8],
         output: &mut [u8],
     )
         requires fits { FitsText self.now G.WIDTH input.now output.old }
-        requires writes { Writes self.now symbols.now G.WIDTH order }
-        requires held { E.holds symbols.now eight.now }
+        requires writes { Writes self.now symbols.now G.WIDTH O.ORDER }
+        requires held { S.holds symbols.now look_up.now }
         requires long { HasLongLines self.now G.BYTES }
         ensures { output.new ≡ text_of self.now input.now }
     {
@@ -111,10 +107,9 @@ impl EncodingRef<'_> {
         for index in 0..count {
             let read = index * line_bytes;
             let written = index * line_len;
-            self.encode_long_line::<E, G>(
+            self.encode_long_line::<S, O, G>(
                 symbols,
-                eight,
-                order,
+                look_up,
                 &input[read..],
                 &mut output[written..written + line_len],
             );
@@ -141,16 +136,15 @@ impl EncodingRef<'_> {
 
     // The text of the first line of the input, and the separator.
     #[inline(always)]
-    fn encode_long_line<E: EncodeEight, G: GroupSize>(
+    fn encode_long_line<S: SymbolLookUp, O: ConstantOrder, G: GroupSize>(
         &self,
         symbols: &[u8; 256],
-        eight: &E,
-        order: BitOrder,
+        look_up: &S,
         input: &[u8],
         output: &mut [u8],
     )
-        requires writes { Writes self.now symbols.now G.WIDTH order }
-        requires held { E.holds symbols.now eight.now }
+        requires writes { Writes self.now symbols.now G.WIDTH O.ORDER }
+        requires held { S.holds symbols.now look_up.now }
         requires long { HasLongLines self.now G.BYTES }
         requires loaded { alignment self.now + 2 * (G.BYTES - 1) ≤ length input.now }
         requires exact { length output.old
@@ -158,10 +152,9 @@ impl EncodingRef<'_> {
         ensures { output.new ≡ text_of self.now (take (alignment self.now) input.now) }
     {
         let column = self.fields.column as usize;
-        encode_groups::<E, G>(
+        encode_groups::<S, O, G>(
             symbols,
-            eight,
-            order,
+            look_up,
             column / G::SYMBOLS,
             input,
             &mut output[..column],
@@ -173,86 +166,71 @@ impl EncodingRef<'_> {
 // Writes the text of the first groups, of which there are at least eight, all in lanes. Up to eight
 // bytes after them are loaded too.
 #[inline(always)]
-fn encode_groups<E: EncodeEight, G: GroupSize>(
+fn encode_groups<S: SymbolLookUp, O: ConstantOrder, G: GroupSize>(
     symbols: &[u8; 256],
-    turn: &E,
-    order: BitOrder,
+    look_up: &S,
     groups: usize,
     input: &[u8],
     output: &mut [u8],
 )
-    requires held { E.holds symbols.now turn.now }
+    requires held { S.holds symbols.now look_up.now }
     requires fits { FitsTurns G.BYTES G.SYMBOLS groups input.now output.old }
-    ensures { IsTextBy symbols.now G.WIDTH order (take (groups * G.BYTES) input.now) output.new }
+    ensures { IsTextBy symbols.now G.WIDTH O.ORDER (take (groups * G.BYTES) input.now) output.new }
 {
     let read_len = 8 * G::BYTES;
     let written_len = 8 * G::SYMBOLS;
     for index in 0..groups / 8 {
         let read = index * read_len;
         let written = index * written_len;
-        turn.encode_eight::<G>(
+        encode_eight::<S, G>(
+            look_up,
             symbols,
-            order,
+            O::ORDER,
             &input[read..],
             &mut output[written..written + written_len],
         );
     }
-    encode_last_groups::<E, G>(symbols, turn, order, groups, input, output);
+    encode_last_groups::<S, O, G>(symbols, look_up, groups, input, output);
 }
 
 // Writes the text of the groups after the last eight: by a turn that ends with them, and writes
 // again the text of some groups before them.
 #[inline(always)]
-fn encode_last_groups<E: EncodeEight, G: GroupSize>(
+fn encode_last_groups<S: SymbolLookUp, O: ConstantOrder, G: GroupSize>(
     symbols: &[u8; 256],
-    turn: &E,
-    order: BitOrder,
+    look_up: &S,
     groups: usize,
     input: &[u8],
     output: &mut [u8],
 )
-    requires held { E.holds symbols.now turn.now }
+    requires held { S.holds symbols.now look_up.now }
     requires fits { FitsTurns G.BYTES G.SYMBOLS groups input.now output.old }
-    requires written { IsTextBy symbols.now G.WIDTH order
+    requires written { IsTextBy symbols.now G.WIDTH O.ORDER
         (take (groups / 8 * (8 * G.BYTES)) input.now)
         (take (groups / 8 * (8 * G.SYMBOLS)) output.old) }
-    ensures { IsTextBy symbols.now G.WIDTH order (take (groups * G.BYTES) input.now) output.new }
+    ensures { IsTextBy symbols.now G.WIDTH O.ORDER (take (groups * G.BYTES) input.now) output.new }
 {
     let left = groups % 8;
     if left == 0 {
         return;
     }
-    let four = groups - 4;
-    match G::WIDTH {
-        3 if left <= 4 => encode_four_octal::<G>(
+    let few = few_groups::<G>();
+    if few > 1 && left <= few {
+        let last = groups - few;
+        encode_few::<G>(
             symbols,
-            order,
-            &input[four * G::BYTES..],
-            &mut output[four * G::SYMBOLS..],
-        ),
-        5 if left <= 2 => {
-            let two = groups - 2;
-            encode_two::<G>(
-                symbols,
-                order,
-                &input[two * G::BYTES..],
-                &mut output[two * G::SYMBOLS..],
-            );
-        }
-        6 if left <= 4 => encode_four::<G>(
+            O::ORDER,
+            &input[last * G::BYTES..],
+            &mut output[last * G::SYMBOLS..],
+        );
+    } else {
+        let eight = groups - 8;
+        encode_eight::<S, G>(
+            look_up,
             symbols,
-            order,
-            &input[four * G::BYTES..],
-            &mut output[four * G::SYMBOLS..],
-        ),
-        _ => {
-            let eight = groups - 8;
-            turn.encode_eight::<G>(
-                symbols,
-                order,
-                &input[eight * G::BYTES..],
-                &mut output[eight * G::SYMBOLS..],
-            );
-        }
+            O::ORDER,
+            &input[eight * G::BYTES..],
+            &mut output[eight * G::SYMBOLS..],
+        );
     }
 }

@@ -1,8 +1,9 @@
 //! The symbols of eight groups of bytes at a time, or sixteen symbols, with a lane for each digit.
 
-ghost use Rattle.std.specs.Prelude.{◌≡◌, ◌⊎◌, ℕ, ◌+◌, ◌*◌, ◌%◌, ◌^◌, ◌<◌, ◌≤◌, List, length, map, take, slice_index};
+ghost use Rattle.std.specs.Prelude.{◌≡◌, ◌⊎◌, ℕ, ◌+◌, ◌*◌, ◌%◌, ◌^◌, ◌<◌, ◌≤◌, List, length, flat_map, map, take, slice_index};
 ghost use Rattle.std.specs.List.{AllByRecursion, range_with_len};
 ghost use Rattle.data_encoding_meaning.specs.text.Base.{IsWidth};
+ghost use Rattle.data_encoding_kernel.specs.Lanes.{digits_of, few_groups, group_words};
 ghost use Rattle.data_encoding_kernel.specs.OffsetAlphabet.{HoldsOffsetAlphabet};
 ghost use Rattle.data_encoding_kernel.specs.Tables.{IsTextBy};
 
@@ -77,23 +78,6 @@ fn look_up<G: GroupSize>(symbols: &[u8; 256], values: u8x64) -> u8x64
     look_in_sixteen(symbols, values)
 }
 
-// The symbols of values; those of six bits as sums.
-#[inline(always)]
-fn look_up_by_offsets<G: GroupSize>(
-    alphabet: &OffsetAlphabet,
-    symbols: &[u8; 256],
-    values: u8x64,
-) -> u8x64
-    requires held { HoldsOffsetAlphabet symbols.now alphabet.now }
-    requires below { AllByRecursion (λ value. value < 2 ^ G.WIDTH) values }
-    ensures { result ≡ map (slice_index symbols.now) values }
-{
-    if G::WIDTH == 6 {
-        return offset_symbols_64(alphabet, values);
-    }
-    look_up::<G>(symbols, values)
-}
-
 // Writes the first lanes.
 #[inline(always)]
 fn store<G: GroupSize>(lanes: u8x64, output: &mut [u8])
@@ -128,144 +112,118 @@ fn store_sixteen(lanes: u8x64, output: &mut [u8])
     lanes.extract::<0, 16>().copy_to_slice(output);
 }
 
+/// A way to look up the symbols of values.
+pub trait SymbolLookUp: Copy {
+    // Whether what is looked up is that of a table of symbols.
+    ghost holds: { List ℕ → Self → Type 0 };
+
+    // Returns the symbols of values.
+    fn symbols_of<G: GroupSize>(&self, symbols: &[u8; 256], values: u8x64) -> u8x64
+        requires held { holds symbols.now self.now }
+        requires below { AllByRecursion (λ value. value < 2 ^ G.WIDTH) values }
+        ensures { result ≡ map (slice_index symbols.now) values };
+}
+
+/// By the rows of the table.
+#[derive(Clone, Copy, Drop)]
+pub struct SymbolRows;
+
+impl SymbolLookUp for SymbolRows {
+    ghost holds = { λ symbols rows. Unit {0} };
+
+    #[inline(always)]
+    fn symbols_of<G: GroupSize>(&self, symbols: &[u8; 256], values: u8x64) -> u8x64 {
+        look_up::<G>(symbols, values)
+    }
+}
+
+impl SymbolLookUp for OffsetAlphabet {
+    ghost holds = { λ symbols alphabet. HoldsOffsetAlphabet symbols alphabet };
+
+    // Those of six bits as sums.
+    #[inline(always)]
+    fn symbols_of<G: GroupSize>(&self, symbols: &[u8; 256], values: u8x64) -> u8x64 {
+        if G::WIDTH == 6 {
+            return offset_symbols_64(self, values);
+        }
+        look_up::<G>(symbols, values)
+    }
+}
+
 /// Writes the text of the first eight groups. Up to eight bytes after them are loaded too.
 #[inline(always)]
-pub fn encode_eight<G: GroupSize>(
+pub fn encode_eight<S: SymbolLookUp, G: GroupSize>(
+    look_up: &S,
     symbols: &[u8; 256],
     order: BitOrder,
     input: &[u8],
     output: &mut [u8],
 )
+    requires held { S.holds symbols.now look_up.now }
     requires bytes { 10 * G.BYTES ≤ length input.now + 2 }
     requires exact { length output.old ≡ 8 * G.SYMBOLS }
     ensures { IsTextBy symbols.now G.WIDTH order (take (8 * G.BYTES) input.now) output.new }
 {
     let values = digits::<G>(order, input);
-    store::<G>(look_up::<G>(symbols, values), output);
+    store::<G>(look_up.symbols_of::<G>(symbols, values), output);
 }
 
-/// Writes the text of the first eight groups; symbols of six bits are found as sums. Up to eight
-/// bytes after these groups are loaded too.
+/// Returns how many groups [`encode_few`] encodes: four of three bytes, or two of five. Groups of
+/// one byte are encoded one by one.
 #[inline(always)]
-pub fn encode_eight_by_offsets<G: GroupSize>(
-    alphabet: &OffsetAlphabet,
-    symbols: &[u8; 256],
-    order: BitOrder,
-    input: &[u8],
-    output: &mut [u8],
-)
-    requires held { HoldsOffsetAlphabet symbols.now alphabet.now }
-    requires bytes { 10 * G.BYTES ≤ length input.now + 2 }
-    requires exact { length output.old ≡ 8 * G.SYMBOLS }
-    ensures { IsTextBy symbols.now G.WIDTH order (take (8 * G.BYTES) input.now) output.new }
+pub fn few_groups<G: GroupSize>() -> usize
+    ensures value { result ≡ few_groups G.WIDTH }
+    ensures some { 0 < result }
+    ensures most { result ≤ 4 }
 {
-    let lanes = look_up_by_offsets::<G>(alphabet, symbols, digits::<G>(order, input));
-    store::<G>(lanes, output);
-}
-
-/// Writes the text of the first four groups of four symbols of six bits. Four bytes after them are
-/// loaded too.
-#[inline(always)]
-pub fn encode_four<G: GroupSize>(
-    symbols: &[u8; 256],
-    order: BitOrder,
-    input: &[u8],
-    output: &mut [u8],
-)
-    requires six_bits { G.WIDTH ≡ 6 }
-    requires bytes { 16 ≤ length input.now }
-    requires exact { length output.old ≡ 4 * G.SYMBOLS }
-    ensures { IsTextBy symbols.now G.WIDTH order (take (4 * G.BYTES) input.now) output.new }
-{
-    let values = digits_of_four(order, input);
-    store_sixteen(look_up::<G>(symbols, values), output);
-}
-
-/// Writes the text of the first two groups of eight symbols of five bits. Six bytes after them are
-/// loaded too.
-#[inline(always)]
-pub fn encode_two<G: GroupSize>(
-    symbols: &[u8; 256],
-    order: BitOrder,
-    input: &[u8],
-    output: &mut [u8],
-)
-    requires five_bits { G.WIDTH ≡ 5 }
-    requires bytes { 16 ≤ length input.now }
-    requires exact { length output.old ≡ 2 * G.SYMBOLS }
-    ensures { IsTextBy symbols.now G.WIDTH order (take (2 * G.BYTES) input.now) output.new }
-{
-    let values = digits_of_two(order, input);
-    store_sixteen(look_up::<G>(symbols, values), output);
-}
-
-/// Writes the text of the first four groups of eight symbols of three bits. Four bytes after them
-/// are loaded too.
-#[inline(always)]
-pub fn encode_four_octal<G: GroupSize>(
-    symbols: &[u8; 256],
-    order: BitOrder,
-    input: &[u8],
-    output: &mut [u8],
-)
-    requires three_bits { G.WIDTH ≡ 3 }
-    requires bytes { 16 ≤ length input.now }
-    requires exact { length output.old ≡ 4 * G.SYMBOLS }
-    ensures { IsTextBy symbols.now G.WIDTH order (take (4 * G.BYTES) input.now) output.new }
-{
-    let values = octal_digits_of_four(order, input);
-    store_thirty_two(look_up::<G>(symbols, values), output);
-}
-
-/// A way to find the symbols of eight groups.
-pub trait EncodeEight: Copy {
-    // Whether what is looked up is that of a table of symbols.
-    ghost holds: { List ℕ → Self → Type 0 };
-
-    // Writes the text of the first eight groups. Up to eight bytes after them are loaded too.
-    fn encode_eight<G: GroupSize>(
-        &self,
-        symbols: &[u8; 256],
-        order: BitOrder,
-        input: &[u8],
-        output: &mut [u8],
-    )
-        requires held { holds symbols.now self.now }
-        requires bytes { 10 * G.BYTES ≤ length input.now + 2 }
-        requires exact { length output.old ≡ 8 * G.SYMBOLS }
-        ensures { IsTextBy symbols.now G.WIDTH order (take (8 * G.BYTES) input.now) output.new };
-}
-
-/// By the rows of the table.
-#[derive(Clone, Copy, Drop)]
-pub struct EightByRows;
-
-impl EncodeEight for EightByRows {
-    ghost holds = { λ symbols rows. Unit {0} };
-
-    #[inline(always)]
-    fn encode_eight<G: GroupSize>(
-        &self,
-        symbols: &[u8; 256],
-        order: BitOrder,
-        input: &[u8],
-        output: &mut [u8],
-    ) {
-        encode_eight::<G>(symbols, order, input, output);
+    match G::WIDTH {
+        5 => 2,
+        3 => 4,
+        6 => 4,
+        _ => 1,
     }
 }
 
-impl EncodeEight for OffsetAlphabet {
-    ghost holds = { λ symbols alphabet. HoldsOffsetAlphabet symbols alphabet };
-
-    #[inline(always)]
-    fn encode_eight<G: GroupSize>(
-        &self,
-        symbols: &[u8; 256],
-        order: BitOrder,
-        input: &[u8],
-        output: &mut [u8],
-    ) {
-        encode_eight_by_offsets::<G>(self, symbols, order, input, output);
+/// Writes the text of the first few groups of several bytes. Up to six bytes after them are loaded
+/// too.
+#[inline(always)]
+pub fn encode_few<G: GroupSize>(
+    symbols: &[u8; 256],
+    order: BitOrder,
+    input: &[u8],
+    output: &mut [u8],
+)
+    requires several { 1 < few_groups G.WIDTH }
+    requires bytes { 16 ≤ length input.now }
+    requires exact { length output.old ≡ few_groups G.WIDTH * G.SYMBOLS }
+    ensures { IsTextBy symbols.now G.WIDTH order (take (few_groups G.WIDTH * G.BYTES) input.now)
+        output.new }
+{
+    let values = few_digits::<G>(order, input);
+    let lanes = look_up::<G>(symbols, values);
+    if G::WIDTH == 3 {
+        store_thirty_two(lanes, output);
+    } else {
+        store_sixteen(lanes, output);
     }
+}
+
+// The digits of these groups, one after another, repeatedly.
+#[inline(always)]
+fn few_digits<G: GroupSize>(order: BitOrder, input: &[u8]) -> u8x64
+    requires several { 1 < few_groups G.WIDTH }
+    requires bytes { 16 ≤ length input.now }
+    ensures digits { take (few_groups G.WIDTH * G.SYMBOLS) result
+        ≡ flat_map (digits_of order G.WIDTH G.SYMBOLS)
+        (group_words order G.BYTES (few_groups G.WIDTH) input.now) }
+    ensures below { AllByRecursion (λ digit. digit < 2 ^ G.WIDTH) result }
+{
+    let width = G::WIDTH;
+    if width == 3 {
+        return octal_digits_of_four(order, input);
+    }
+    if width == 5 {
+        return digits_of_two(order, input);
+    }
+    digits_of_four(order, input)
 }

@@ -4,12 +4,13 @@ ghost use Rattle.std.specs.Prelude.{◌≡◌, ◌-◌, ◌<◌, map, slice_inde
 ghost use Rattle.std.specs.List.{AllByRecursion, range_with_len};
 ghost use Rattle.data_encoding_kernel.specs.OffsetAlphabet.{HoldsOffsetAlphabet, offset_symbol, first_of};
 
+use crate::group_size::GroupSize;
 use crate::lanes::decode::are_below;
 use std::simd::prelude::*;
 
-/// From this many bytes of data on, symbols of six bits are looked for as sums: the search takes as
-/// long as it saves in half as many.
-pub const LONG_DATA_LEN: usize = 192;
+// From this many bytes of data on, symbols of six bits are looked for as sums: the search takes as
+// long as it saves in half as many.
+const LONG_DATA_LEN: usize = 192;
 
 /// Symbols of which each is its value plus a number: the last sixteen have a number each, the
 /// values before them have that of the first of these, and those below a bound another one besides.
@@ -37,11 +38,14 @@ fn each_value() -> u8x64
     ])
 }
 
-/// Returns `false` only if the search would find no form. Three symbols tell most tables that have
-/// none, so that data does not pay for a search in vain.
+/// Returns whether the symbols are to be looked for as sums, for so many bytes of data. Three of
+/// them tell most tables that have no such form, so that data does not pay for a search in vain.
 // No clause: what asks is proved for both answers.
 #[inline(always)]
-pub fn may_have_offsets(symbols: &[u8; 256]) -> bool {
+pub fn seeks_offsets<G: GroupSize>(symbols: &[u8; 256], len: usize) -> bool {
+    if G::WIDTH != 6 || len < LONG_DATA_LEN {
+        return false;
+    }
     let number = symbols[32].wrapping_sub(32);
     number == symbols[0] || number == symbols[48].wrapping_sub(48)
 }

@@ -81,7 +81,7 @@ loop-index-preserved g c =
           (omega arith) g.G.GroupSize.is_group)
           base writes.width_is input c.loop-index.output c.encode_eight.new.output i
           (c.loop-index.invariant.written base writes) within room c.encode_eight.auto.output
-          (c.encode_eight.ensures base writes
+          (c.encode_eight.ensures base (rw c.ORDER.ensures writes)
           ∙ (λ k. plain_text base (take (8 * sym c.BYTES-read_len.ensures k)
           (take_rest input (i * read_len) k))));
     }

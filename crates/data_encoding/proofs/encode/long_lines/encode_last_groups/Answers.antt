@@ -1,9 +1,10 @@
-use Rattle.std.proofs.Common.{◌≡◌, ℕ, ◌+◌, ◌-◌, ◌*◌, ◌/◌, ◌≤◌, List, length, take, sym, ap, ◌∙◌, arith, drop, add-mul}
+use Rattle.std.proofs.Common.{◌≡◌, ℕ, ◌+◌, ◌-◌, ◌*◌, ◌/◌, ◌<◌, ◌≤◌, List, length, take, sym, ap, ◌∙◌, arith, drop, add-mul, subst}
 use Rattle.std.proofs.lemmas.List.{take_all}
 use Rattle.std.proofs.lemmas.Nat.{div-add-mod', mul-le}
 use Rattle.data_encoding.specs.LongLines.{FitsTurns}
 use Rattle.data_encoding_meaning.specs.text.Text.{plain_text}
 use Rattle.data_encoding_meaning.proofs.lists.PartLemmas.{length-rest}
+use Rattle.data_encoding_kernel.proofs.text.FewGroupLemmas.{few-loaded}
 use Rattle.data_encoding.proofs.text.LastTurnLemmas.{last-turn}
 use Rattle.data_encoding.proofs.encode.long_lines.encode_last_groups.Goals as goal
 
@@ -32,6 +33,20 @@ module _ {bytes symbols groups : ℕ} {input output : List ℕ}
         fits.exact,
       )
 
+  read-loaded : size ≡ bytes → n ≤ groups
+      → n * bytes + 2 * (bytes - 1)
+      ≤ length (take (length input - (groups - n) * size) (drop ((groups - n) * size) input))
+  read-loaded same few =
+      let all : groups - n + n ≡ groups = omega (arith, few) in
+      omega (
+        arith,
+        length-rest ((groups - n) * size) input,
+        ap (λ k. (groups - n) * k) same,
+        ap (λ k. k * bytes) all,
+        add-mul (groups - n) n bytes,
+        fits.loaded,
+      )
+
 pub returns-then-left-eq0 : goal.returns-then-left-eq0
 returns-then-left-eq0 g c base writes =
     let symbols = g.G.GroupSize.SYMBOLS in
@@ -47,138 +62,71 @@ returns-then-left-eq0 g c base writes =
     ∙ c.requires.written base writes
     ∙ ap (λ n. plain_text base (take n c.args.input.now)) read_all
 
-pub encode_four_octal-requires-clause-exact : goal.encode_four_octal-requires-clause-exact
-encode_four_octal-requires-clause-exact g c =
-    written-room c.requires.fits 4 c.SYMBOLS.ensures (omega (arith, c.requires.fits.eight))
+pub encode_few-requires-clause-several : goal.encode_few-requires-clause-several
+encode_few-requires-clause-several g c =
+    subst (λ n. 1 < n) c.few_groups-few.ensures.value c.if-few-gt1.true
 
-pub encode_two-requires-clause-exact : goal.encode_two-requires-clause-exact
-encode_two-requires-clause-exact g c =
-    written-room c.requires.fits 2 c.SYMBOLS-in-5.ensures (omega (arith, c.requires.fits.eight))
+pub encode_few-requires-clause-bytes : goal.encode_few-requires-clause-bytes
+encode_few-requires-clause-bytes g c =
+    let value = c.few_groups-few.ensures.value in
+    let loaded = few-loaded g.G.GroupSize.is_group (subst (λ n. 1 < n) value c.if-few-gt1.true) in
+    omega (
+      arith,
+      subst (λ n. 16 ≤ n * g.G.GroupSize.BYTES + 2 * (g.G.GroupSize.BYTES - 1)) (sym value) loaded,
+      read-loaded c.requires.fits c.few_groups-few.result c.BYTES.ensures
+          (omega (arith, c.requires.fits.eight, c.few_groups-few.ensures.most)),
+    )
 
-pub encode_four-requires-clause-exact : goal.encode_four-requires-clause-exact
-encode_four-requires-clause-exact g c =
-    written-room c.requires.fits 4 c.SYMBOLS-in-6.ensures (omega (arith, c.requires.fits.eight))
+pub encode_few-requires-clause-exact : goal.encode_few-requires-clause-exact
+encode_few-requires-clause-exact g c =
+    written-room c.requires.fits c.few_groups-few.result c.SYMBOLS.ensures
+    (omega (arith, c.requires.fits.eight, c.few_groups-few.ensures.most))
+    ∙ ap (λ n. n * g.G.GroupSize.SYMBOLS) c.few_groups-few.ensures.value
+
+pub encode_eight-requires-clause-bytes : goal.encode_eight-requires-clause-bytes
+encode_eight-requires-clause-bytes g c =
+    omega (
+      arith,
+      read-loaded c.requires.fits 8 c.BYTES-else-few-gt1.ensures c.requires.fits.eight,
+    )
 
 pub encode_eight-requires-clause-exact : goal.encode_eight-requires-clause-exact
 encode_eight-requires-clause-exact g c =
-    written-room c.requires.fits 8 c.SYMBOLS-in_default.ensures c.requires.fits.eight
+    written-room c.requires.fits 8 c.SYMBOLS-else-few-gt1.ensures c.requires.fits.eight
 
-pub returns-in-3 : goal.returns-in-3
-returns-in-3 g c base writes =
+pub returns-then-left-few : goal.returns-then-left-few
+returns-then-left-few g c base writes =
+    let n = c.few_groups-few.result in
+    let input = c.args.input.now in
+    let last = (c.args.groups - n) * c.BYTES.result in
     last-turn g.G.GroupSize.is_group c.BYTES.ensures c.SYMBOLS.ensures base writes.width_is
-    c.args.input.now c.args.output.now c.encode_four_octal.new.output c.args.groups 4
-    (omega (arith, c.requires.fits.eight)) c.if-left-le4.true
+    input c.args.output.now c.encode_few.new.output c.args.groups n
+    (omega (arith, c.requires.fits.eight, c.few_groups-few.ensures.most)) c.if-left-few.true
     (omega (arith, c.requires.fits.loaded)) (c.requires.written base writes)
-    (c.encode_four_octal.ensures base writes)
+    (c.encode_few.ensures base (rw c.ORDER.ensures writes)
+    ∙ (λ i. plain_text base (take (sym c.few_groups-few.ensures.value i * g.G.GroupSize.BYTES)
+    (take (length input - last) (drop last input)))))
 
-pub returns-in-5 : goal.returns-in-5
-returns-in-5 g c base writes =
-    last-turn g.G.GroupSize.is_group c.BYTES-in-5.ensures c.SYMBOLS-in-5.ensures base
-    writes.width_is c.args.input.now c.args.output.now c.encode_two.new.output c.args.groups 2
-    (omega (arith, c.requires.fits.eight)) c.if-left-le2.true
+pub returns-else-few-gt1 : goal.returns-else-few-gt1
+returns-else-few-gt1 g c base writes =
+    last-turn g.G.GroupSize.is_group c.BYTES-else-few-gt1.ensures c.SYMBOLS-else-few-gt1.ensures
+    base writes.width_is c.args.input.now c.args.output.now c.encode_eight.new.output
+    c.args.groups 8 c.requires.fits.eight (omega arith)
     (omega (arith, c.requires.fits.loaded)) (c.requires.written base writes)
-    (c.encode_two.ensures base writes)
+    (c.encode_eight.ensures base (rw c.ORDER-else-few-gt1.ensures writes))
 
-pub returns-in-6 : goal.returns-in-6
-returns-in-6 g c base writes =
-    last-turn g.G.GroupSize.is_group c.BYTES-in-6.ensures c.SYMBOLS-in-6.ensures base
-    writes.width_is c.args.input.now c.args.output.now c.encode_four.new.output c.args.groups 4
-    (omega (arith, c.requires.fits.eight)) c.if-left-le4-2.true
-    (omega (arith, c.requires.fits.loaded)) (c.requires.written base writes)
-    (c.encode_four.ensures base writes)
+pub overflow_mul-last : goal.overflow_mul-last
+overflow_mul-last g c =
+    omega (arith, read-begins c.requires.fits c.few_groups-few.result c.BYTES.ensures)
 
-pub returns-in_default : goal.returns-in_default
-returns-in_default g c base writes =
-    last-turn g.G.GroupSize.is_group c.BYTES-in_default.ensures c.SYMBOLS-in_default.ensures base
-    writes.width_is c.args.input.now c.args.output.now c.encode_eight.new.output c.args.groups 8
-    c.requires.fits.eight (omega arith)
-    (omega (arith, c.requires.fits.loaded)) (c.requires.written base writes)
-    (c.encode_eight.ensures base writes)
-
-pub overflow_mul-four : goal.overflow_mul-four
-overflow_mul-four g c =
-    omega (arith, read-begins c.requires.fits 4 c.BYTES.ensures)
-
-pub slice_bounds-encode_four_octal-count : goal.slice_bounds-encode_four_octal-count
-slice_bounds-encode_four_octal-count g c =
-    read-begins c.requires.fits 4 c.BYTES.ensures
-
-pub slice_bounds-encode_four_octal-start : goal.slice_bounds-encode_four_octal-start
-slice_bounds-encode_four_octal-start g c = slice_bounds-encode_four_octal-count g c
-
-pub overflow_mul-four-in-3 : goal.overflow_mul-four-in-3
-overflow_mul-four-in-3 g c =
-    omega (arith, written-begins c.requires.fits 4 c.SYMBOLS.ensures)
-
-pub slice_bounds-encode_four_octal-count-in-3 : goal.slice_bounds-encode_four_octal-count-in-3
-slice_bounds-encode_four_octal-count-in-3 g c =
-    written-begins c.requires.fits 4 c.SYMBOLS.ensures
-
-pub slice_bounds-encode_four_octal-start-in-3 : goal.slice_bounds-encode_four_octal-start-in-3
-slice_bounds-encode_four_octal-start-in-3 g c = slice_bounds-encode_four_octal-count-in-3 g c
-
-pub overflow_mul-two : goal.overflow_mul-two
-overflow_mul-two g c =
-    omega (arith, read-begins c.requires.fits 2 c.BYTES-in-5.ensures)
-
-pub slice_bounds-encode_two-count : goal.slice_bounds-encode_two-count
-slice_bounds-encode_two-count g c =
-    read-begins c.requires.fits 2 c.BYTES-in-5.ensures
-
-pub slice_bounds-encode_two-start : goal.slice_bounds-encode_two-start
-slice_bounds-encode_two-start g c = slice_bounds-encode_two-count g c
-
-pub overflow_mul-two-in-5 : goal.overflow_mul-two-in-5
-overflow_mul-two-in-5 g c =
-    omega (arith, written-begins c.requires.fits 2 c.SYMBOLS-in-5.ensures)
-
-pub slice_bounds-encode_two-count-in-5 : goal.slice_bounds-encode_two-count-in-5
-slice_bounds-encode_two-count-in-5 g c =
-    written-begins c.requires.fits 2 c.SYMBOLS-in-5.ensures
-
-pub slice_bounds-encode_two-start-in-5 : goal.slice_bounds-encode_two-start-in-5
-slice_bounds-encode_two-start-in-5 g c = slice_bounds-encode_two-count-in-5 g c
-
-pub overflow_mul-four-in-6 : goal.overflow_mul-four-in-6
-overflow_mul-four-in-6 g c =
-    omega (arith, read-begins c.requires.fits 4 c.BYTES-in-6.ensures)
-
-pub slice_bounds-encode_four-count : goal.slice_bounds-encode_four-count
-slice_bounds-encode_four-count g c =
-    read-begins c.requires.fits 4 c.BYTES-in-6.ensures
-
-pub slice_bounds-encode_four-start : goal.slice_bounds-encode_four-start
-slice_bounds-encode_four-start g c = slice_bounds-encode_four-count g c
-
-pub overflow_mul-four-in-6-2 : goal.overflow_mul-four-in-6-2
-overflow_mul-four-in-6-2 g c =
-    omega (arith, written-begins c.requires.fits 4 c.SYMBOLS-in-6.ensures)
-
-pub slice_bounds-encode_four-count-in-6 : goal.slice_bounds-encode_four-count-in-6
-slice_bounds-encode_four-count-in-6 g c =
-    written-begins c.requires.fits 4 c.SYMBOLS-in-6.ensures
-
-pub slice_bounds-encode_four-start-in-6 : goal.slice_bounds-encode_four-start-in-6
-slice_bounds-encode_four-start-in-6 g c = slice_bounds-encode_four-count-in-6 g c
+pub slice_bounds-encode_few-count : goal.slice_bounds-encode_few-count
+slice_bounds-encode_few-count g c =
+    read-begins c.requires.fits c.few_groups-few.result c.BYTES.ensures
 
 pub overflow_mul-eight : goal.overflow_mul-eight
 overflow_mul-eight g c =
-    omega (arith, read-begins c.requires.fits 8 c.BYTES-in_default.ensures)
+    omega (arith, read-begins c.requires.fits 8 c.BYTES-else-few-gt1.ensures)
 
 pub slice_bounds-encode_eight-count : goal.slice_bounds-encode_eight-count
 slice_bounds-encode_eight-count g c =
-    read-begins c.requires.fits 8 c.BYTES-in_default.ensures
-
-pub slice_bounds-encode_eight-start : goal.slice_bounds-encode_eight-start
-slice_bounds-encode_eight-start g c = slice_bounds-encode_eight-count g c
-
-pub overflow_mul-eight-in_default : goal.overflow_mul-eight-in_default
-overflow_mul-eight-in_default g c =
-    omega (arith, written-begins c.requires.fits 8 c.SYMBOLS-in_default.ensures)
-
-pub slice_bounds-encode_eight-count-in_default : goal.slice_bounds-encode_eight-count-in_default
-slice_bounds-encode_eight-count-in_default g c =
-    written-begins c.requires.fits 8 c.SYMBOLS-in_default.ensures
-
-pub slice_bounds-encode_eight-start-in_default : goal.slice_bounds-encode_eight-start-in_default
-slice_bounds-encode_eight-start-in_default g c = slice_bounds-encode_eight-count-in_default g c
+    read-begins c.requires.fits 8 c.BYTES-else-few-gt1.ensures

@@ -12,7 +12,7 @@ returns g c base writes =
     let width = g.G.GroupSize.WIDTH in
     let show = map (slice_index symbols) in
     c.store.ensures
-    ∙ ap (take (8 * g.G.GroupSize.SYMBOLS)) c.look_up.ensures
+    ∙ (λ i. take (8 * g.G.GroupSize.SYMBOLS) (c.symbols_of.ensures i))
     ∙ take-map (slice_index symbols) (8 * g.G.GroupSize.SYMBOLS) c.digits-values.result
     ∙ ap show c.digits-values.ensures.digits
     ∙ plain_text-groups base order width g.G.GroupSize.BYTES g.G.GroupSize.SYMBOLS symbols group

@@ -2,7 +2,7 @@ use Rattle.std.proofs.Common.{◌^◌, ◌<◌, slice_index, sym, ◌∙◌, sub
 use Rattle.std.specs.List.{AllByRecursion}
 use Rattle.data_encoding_kernel.specs.OffsetAlphabet.{offset_symbol}
 use Rattle.data_encoding_kernel.proofs.digits.LaneLemmas.{map-same}
-use Rattle.data_encoding_kernel.proofs.lanes.encode.look_up_by_offsets.Goals as goal
+use Rattle.data_encoding_kernel.proofs.lanes.encode.OffsetAlphabetSymbolLookUp.symbols_of.Goals as goal
 
 pub offset_symbols_64-requires : goal.offset_symbols_64-requires
 offset_symbols_64-requires g c =
@@ -12,7 +12,7 @@ offset_symbols_64-requires g c =
 pub returns-then-WIDTH-eq6 : goal.returns-then-WIDTH-eq6
 returns-then-WIDTH-eq6 g c =
     c.offset_symbols_64.ensures
-    ∙ map-same (λ value. value < 64) (offset_symbol c.args.alphabet.now)
+    ∙ map-same (λ value. value < 64) (offset_symbol c.args.self.now)
     (slice_index c.args.symbols.now) c.requires.held.agrees c.args.values
     (subst (λ w. AllByRecursion (λ value. value < 2 ^ w) c.args.values)
     (sym c.WIDTH.ensures ∙ c.if-WIDTH-eq6.true) c.requires.below)
