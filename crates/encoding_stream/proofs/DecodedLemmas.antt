@@ -6,7 +6,7 @@ use Rattle.data_encoding.specs.Base.{Base}
 use Rattle.data_encoding.specs.Fault.{first_fault, sound_bytes}
 use Rattle.data_encoding.specs.Fields.{IsSpecified}
 use Rattle.data_encoding.specs.Grammar.{is_final}
-use Rattle.data_encoding.specs.Pieces.{whole_bytes, whole_groups, unfinished, KeepsBytes, ReadsNothing, TellsBytes}
+use Rattle.data_encoding.specs.Pieces.{whole_bytes, whole_groups, unfinished, KeepsBytes, TellsBytes}
 use Rattle.std.specs.List.{list_any}
 use Rattle.std.proofs.lemmas.List.{take-append-le}
 use Rattle.data_encoding.specs.declared.error.DecodeError.{DecodeError}
@@ -29,13 +29,13 @@ pub record Decoded (base : Base) (kept : Kept)
   pub written : Appends written_old written_new (whole_bytes base text)
 
 module _ (base : Base) (specified : IsSpecified base) where
-  pub decoded-nothing : ReadsNothing → (kept : Kept) → Keeps base kept []
+  pub decoded-nothing : whole_bytes base [] ≡ [] → (kept : Kept) → Keeps base kept []
       → (r v : Option (List ℕ)) → Decoded base kept r r v v
-  decoded-nothing law kept keeps r v = record {
+  decoded-nothing none kept keeps r v = record {
     text = [];
     read = Consumes-nil r;
     keeps = keeps;
-    written = subst (Appends v v) (sym (law base specified).1) (Appends-nil v);
+    written = subst (Appends v v) (sym none) (Appends-nil v);
   }
 
   -- the bytes of its whole groups are a prefix of what any text decodes to, and of what any longer

@@ -1,7 +1,8 @@
 -- The bytes held of a text, and how one more is read.
-use Rattle.std.proofs.Common.{◌≡◌, ℕ, zero, suc, ◌+◌, ◌<◌, ◌≤◌, Bool, true, false, not, cond, ◌&&◌, ◌||◌, List, [], ◌∷◌, ◌++◌, length, map, take, Option, None, Some, IfSome, is_some, slice_index, set, refl, sym, ap, ◌∙◌, subst, arith, length-append, length-take-le, replicate}
+use Rattle.std.proofs.Common.{◌≡◌, ℕ, zero, suc, ◌+◌, ◌<◌, ◌≤◌, Bool, true, false, not, cond, ◌&&◌, ◌||◌, List, [], ◌∷◌, ◌++◌, length, map, take, Option, None, Some, IfSome, is_some, slice_index, set, refl, sym, ap, ◌∙◌, subst, arith, drop, length-append, length-take-le, replicate}
 use Rattle.std.specs.List.{list_any}
-use Rattle.std.proofs.lemmas.List.{append-nil, take_more_set}
+use Rattle.std.proofs.Math.Seq.{take-append_seam}
+use Rattle.std.proofs.lemmas.List.{append-nil, take-append-drop, take_more_set}
 use Rattle.std.proofs.lemmas.List.Elements.{All-append, All-cons, All-drop, All-nil, All-weaker, filter_passes}
 use Rattle.data_encoding.specs.declared.error.DecodeError.{DecodeError}
 use Rattle.data_encoding.specs.Base.{Base, IsWidth, group_bytes, group_symbols, is_ignored, is_padding, meaning}
@@ -9,12 +10,13 @@ use Rattle.data_encoding.specs.Fault.{position_of}
 use Rattle.data_encoding.specs.Fields.{IsSpecified}
 use Rattle.data_encoding.specs.Layout.{fields_of}
 use Rattle.data_encoding.specs.Grammar.{Positioned, is_final, kept, positioned, meanings_in}
-use Rattle.data_encoding.specs.Pieces.{bytes_unless, held_with, unfinished, whole_bytes, HasRead, HoldsPiece, ReadsGroup}
+use Rattle.data_encoding.specs.Pieces.{bytes_unless, held_with, unfinished, whole_bytes, HasRead, HoldsPiece, KeepsBytes, ReadsGroup}
 use Rattle.encoding_stream.specs.declared.pieces.BufferDecoder.{BufferDecoder}
 use Rattle.encoding_stream.specs.declared.pieces.Kept.{Kept}
 use Rattle.encoding_stream.specs.Judged.{next_group, JudgesFaulty, JudgesSound}
 use Rattle.encoding_stream.specs.Pieces.{at_positions, base_of_pieces, held, paired, FillsGroups, Keeps, NoneIgnored}
 use Rattle.encoding_stream.specs.Reading.{ReadsOn}
+use Rattle.encoding_stream.specs.Specified.{KeepsFront}
 use Rattle.encoding_stream.proofs.ReadPieceLemmas.{fills-few, fills-none}
 use Rattle.encoding_stream.proofs.SizeLemmas.{symbols-few}
 
@@ -24,6 +26,21 @@ is-specified pieces = record {
   fields = fields_of (base_of_pieces pieces);
   is_built = pieces.specified.is_built;
 }
+
+-- that what was decoded stays is kept in a form of which there is one proof
+pub keeps-front : KeepsBytes → KeepsFront
+keeps-front law base is text piece =
+    let more = law base is text piece in
+    ap (take (length (whole_bytes base text))) more.1
+    ∙ take-append_seam (whole_bytes base text) more.0
+
+pub keeps-bytes : KeepsFront → KeepsBytes
+keeps-bytes law base is text piece =
+    let count = length (whole_bytes base text) in
+    let all = whole_bytes base (text ++ piece) in (
+      drop count all,
+      sym (take-append-drop count all) ∙ ap (λ l. l ++ drop count all) (law base is text piece),
+    )
 
 -- Bytes at their positions.
 

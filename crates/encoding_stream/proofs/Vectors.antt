@@ -1,16 +1,16 @@
 -- Worked rows for what streams and decoders have done.
-use Rattle.std.proofs.Common.{◌∙◌, ◌≡◌, ℕ, ◌+◌, ◌≤◌, zero-add, true, false, List, [], ◌∷◌, ◌++◌, drop, map, codes, replicate, Option, Some, None, Result, Ok, Err, refl, zero, suc, sym, ap, subst, lit<, lit≤, arith, length}
+use Rattle.std.proofs.Common.{◌∙◌, ◌≡◌, ℕ, ◌+◌, ◌≤◌, zero-add, true, false, List, [], ◌∷◌, ◌++◌, drop, take, map, codes, replicate, Option, Some, None, Result, Ok, Err, refl, zero, suc, sym, ap, subst, lit<, lit≤, arith, length}
 use Rattle.std.proofs.lemmas.Fmt.{decimal_digit}
 use Rattle.data_encoding.specs.declared.error.DecodeError.{DecodeError}
 use Rattle.data_encoding.specs.declared.error.DecodeKind.TheVariants.{Length, Symbol, Trailing, Padding}
 use Rattle.data_encoding.specs.declared.specification.meanings.Refusal.{Refusal}
 use Rattle.data_encoding.specs.Base.{Base}
 use Rattle.data_encoding.specs.Fault.{fault_of, sound_bytes}
-use Rattle.data_encoding.specs.Fields.{Fields, base_of}
+use Rattle.data_encoding.specs.Fields.{Fields, base_of, IsSpecified}
 use Rattle.data_encoding.specs.Lent.{base_of_lent}
 use Rattle.data_encoding.specs.Grammar.{positioned_from}
 use Rattle.data_encoding.specs.Predefined.{base64_fields, base64_mime_fields, base64_mime_permissive_fields, base64_nopad_fields}
-use Rattle.data_encoding.specs.Pieces.{whole_bytes}
+use Rattle.data_encoding.specs.Pieces.{whole_bytes, AreWhole, CountsGroups, EndsNowhere, HoldsPiece, JoinsUnpadded, JudgesGroup, KeepsFault, MeansWhole, ReadsFaulty, ReadsGroup, ReadsSound, TellsBytes, TellsEnd, TellsFault}
 use Rattle.std.proofs.lemmas.List.{append-nil}
 use Rattle.encoding_stream.specs.Decoded.{JudgesText, DecodesAll, DecodesFront, DecodesJudged, result_of}
 use Rattle.encoding_stream.specs.Reading.{CompletesNothing, HasNoLastBytes, HasVerdict, ReadsOn, HasLastBytes}
@@ -28,7 +28,7 @@ use Rattle.encoding_stream.specs.Encoded.{EncodesAll, EncodesFront, ReadsMore, S
 use Rattle.encoding_stream.specs.Printed.{printed_stream_fault}
 use Rattle.encoding_stream.specs.Blocks.{base_of_blocks, data_kept, EncodesOn, EndsBlocks, HasWritten}
 use Rattle.encoding_stream.specs.Resume.{held_bytes, held_positions, is_of_group, Ascend, HasPossibleFault, HoldsNoIgnored, IsKept, MayBeKept}
-use Rattle.encoding_stream.specs.Specified.{IsBuiltAgain}
+use Rattle.encoding_stream.specs.Specified.{HasLaws, IsBuiltAgain, KeepsFront}
 use Rattle.encoding_stream.specs.Watch.{from_to, has_failed, inner_of, is_refused, seen, AppendsFront, Change}
 use Rattle.data_encoding.specs.Layout.{fields_of}
 use Rattle.data_encoding.specs.Text.{text_of}
@@ -531,6 +531,35 @@ gone_on_told base pieces goes = (goes.base_is, goes.kept_is)
 built_told : (base : Base) → IsBuiltAgain base → fields_of base ≡ base64_fields
     → base_of base64_fields ≡ Ok base
 built_told base built is = sym (ap base_of is) ∙ built.is_built
+
+-- whatever follows `SGVs`, the text begins with the bytes of `Hel`
+front_kept :
+    Has base64_fields (λ base. IsSpecified base → KeepsFront → (piece : List ℕ)
+    → take 3 (whole_bytes base (codes "SGVs" ++ piece)) ≡ codes "Hel")
+front_kept is law piece = law _ is (codes "SGVs") piece
+
+-- where the laws hold, so does each of them
+laws_told : HasLaws
+    → HoldsPiece × ReadsGroup × KeepsFault × KeepsFront × TellsFault × TellsBytes × JudgesGroup
+    × ReadsSound × ReadsFaulty × AreWhole × CountsGroups × JoinsUnpadded × EndsNowhere × TellsEnd
+    × MeansWhole
+laws_told laws = (
+  laws.held,
+  laws.group,
+  laws.faulty,
+  laws.front,
+  laws.verdict,
+  laws.bytes,
+  laws.alone,
+  laws.sound,
+  laws.stops,
+  laws.whole,
+  laws.due,
+  laws.joins,
+  laws.ends_nowhere,
+  laws.ends,
+  laws.by_bytes,
+)
 
 -- `SGVsbG8` is kept but for its first group
 abbrev kept_last : Kept

@@ -9,7 +9,6 @@ ghost use Rattle.encoding_stream.specs.Reading.{AppendsPiece, CompletesNothing};
 
 use crate::pieces::BufferDecoder;
 use data_encoding::DECODE_LIMIT;
-use data_encoding::laws::steps;
 use std::alloc::{AllocError, Allocator};
 
 // The number of bytes of a piece that are read at a time, so that the zeros that the output is
@@ -47,7 +46,6 @@ pub(crate) fn append_piece<A: Allocator + Copy>(
     if piece.len() <= SHORT {
         return append_copied::<A, SHORT_ROOM>(pieces, piece, 0, output);
     }
-    steps::pieces();
     let mut read = 0;
     while read < piece.len() {
         let end = piece.len().min(read + CHUNK);

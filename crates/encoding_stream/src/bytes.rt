@@ -7,7 +7,6 @@ ghost use Rattle.encoding_stream.specs.Reading.{ReadsOn};
 
 use crate::pieces::BufferDecoder;
 use data_encoding::DECODE_LIMIT;
-use data_encoding::laws::steps::pieces;
 
 impl BufferDecoder<'_> {
     /// Reads byte by byte, up to a fault, while a byte is held, if the piece is long enough to
@@ -87,7 +86,6 @@ impl BufferDecoder<'_> {
         ensures within { result ≤ length output.new }
         ensures len { length output.new ≡ length output.old }
     {
-        pieces();
         let position = self.kept.len;
         self.kept.len += 1;
         if self.kept.fault.is_some() || self.encoding.by_ref().interpret_byte(byte).is_ignored() {
@@ -155,7 +153,6 @@ impl BufferDecoder<'_> {
         ensures count { self.new.kept.count ≤ self.old.kept.count + 1 }
         ensures len { self.new.kept.len ≡ self.old.kept.len + 1 }
     {
-        pieces();
         let count = self.kept.count;
         let end = self.kept.len;
         self.kept.len = end + 1;
@@ -175,7 +172,6 @@ impl BufferDecoder<'_> {
         ensures reads { ReadsOn (base_of_pieces self.old) self.old.kept self.new.kept piece.now
             [] }
     {
-        pieces();
         self.kept.len += piece.len();
     }
 }

@@ -12,7 +12,6 @@ use crate::error::StreamFault;
 use crate::fill::fill;
 use crate::pieces::BufferDecoder;
 use crate::watch::Watch;
-use data_encoding::laws::steps;
 use data_encoding::{DECODE_LIMIT, DecodeError, Encoding};
 use std::io::{Read, Write};
 
@@ -57,7 +56,6 @@ pub fn decode_stream<R: Read, W: Write>(
     ensures too_long { result ≡ Err StreamFault.TooLong
         → ReadsMore DECODE_LIMIT (seen R.remaining reader.old reader.new) }
 {
-    steps::pieces();
     let mut pieces = BufferDecoder::new(encoding);
     let mut buffer = [0; CHUNK];
     let mut output = [0; ROOM];

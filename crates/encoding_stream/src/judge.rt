@@ -9,7 +9,6 @@ ghost use Rattle.encoding_stream.specs.Pieces.{at_positions, base_of_pieces, kep
 ghost use Rattle.encoding_stream.specs.Reading.{HasLastBytes, HasVerdict};
 
 use crate::pieces::BufferDecoder;
-use data_encoding::laws::steps::pieces;
 use data_encoding::{DecodeError, DecodeKind};
 
 impl BufferDecoder<'_> {
@@ -43,7 +42,6 @@ impl BufferDecoder<'_> {
             written ≤ group_bytes (base_of_pieces self.now).width) }
         ensures len { length output.new ≡ length output.old }
     {
-        pieces();
         if self.kept.ended {
             return Err(self.at(DecodeError {
                 position: 0,
@@ -86,7 +84,6 @@ impl BufferDecoder<'_> {
         ensures few { result.0 ≤ 5 }
         ensures len { length output.new ≡ length output.old }
     {
-        pieces();
         let judged = self.judge_last(output);
         let written = judged.unwrap_or(0);
         if let Err(error) = self.encoding.by_ref().decode_len(self.kept.len) {

@@ -5,7 +5,7 @@ ghost use Rattle.std.specs.Prelude.{◌≡◌, ℕ, ◌+◌, ◌<◌, ◌≤◌,
 ghost use Rattle.data_encoding.specs.declared.decode.TheConstants.{DECODE_LIMIT};
 ghost use Rattle.data_encoding.specs.Base.{IsWidth, group_symbols};
 ghost use Rattle.data_encoding.specs.Lent.{base_of_lent};
-ghost use Rattle.encoding_stream.specs.Specified.{IsBuiltAgain};
+ghost use Rattle.encoding_stream.specs.Specified.{HasLaws, IsBuiltAgain};
 
 use data_encoding::laws::specification_again;
 use data_encoding::laws::steps::{pieces, whole_groups};
@@ -45,6 +45,7 @@ pub struct BufferDecoder<'a> {
     // `group_len` divides.
     pub(crate) size: usize,
     pub(crate) kept: Kept,
+    ghost laws: { HasLaws } by { Prim.hlevel props },
     ghost specified: { IsBuiltAgain (base_of_lent encoding) },
     ghost width: { IsWidth (base_of_lent encoding).width },
     ghost group: { size ≡ group_symbols (base_of_lent encoding).width },
@@ -81,6 +82,7 @@ impl<'a> BufferDecoder<'a> {
         ensures specified { IsSpecified encoding.now }
     {
         pieces();
+        whole_groups();
         specification_again();
         BufferDecoder {
             encoding: encoding.lend(),
@@ -121,7 +123,6 @@ impl<'a> BufferDecoder<'a> {
         ensures tested { IsSome result → MayBeKept encoding.now kept }
         ensures resumes { IsKept encoding.now kept → IsSome result }
     {
-        whole_groups();
         let mut decoder = BufferDecoder::new_by_ref(encoding);
         if kept.len > DECODE_LIMIT || kept.count >= decoder.size || kept.count > kept.len {
             return None;

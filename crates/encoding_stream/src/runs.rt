@@ -10,7 +10,6 @@ ghost use Rattle.encoding_stream.specs.Pieces.{base_of_pieces, bytes_due, most_c
 ghost use Rattle.encoding_stream.specs.Reading.{has_final, whole_len, AreWholeGroups, HasOnlyWholeGroups, ReadsAllGroups, ReadsOn, ReadsRun};
 
 use crate::pieces::BufferDecoder;
-use data_encoding::laws::steps::{pieces, whole_groups};
 use data_encoding::{DECODE_LIMIT, DecodeError, DecodeKind, DecodePartial};
 
 impl BufferDecoder<'_> {
@@ -24,7 +23,6 @@ impl BufferDecoder<'_> {
         ensures due { decoded_len (base_of_pieces self.now) result.0 ≡ Ok result.1 }
         ensures bytes { result.1 ≡ bytes_due (base_of_pieces self.now) len }
     {
-        whole_groups();
         let groups = self.count_groups(len);
         (
             groups * self.size,
@@ -83,7 +81,6 @@ impl BufferDecoder<'_> {
         if !self.are_whole(read, written) {
             return (0, 0);
         }
-        pieces();
         self.kept.len += read;
         self.kept.ended = self.has_final(written);
         (read, written)
@@ -110,7 +107,6 @@ impl BufferDecoder<'_> {
         ensures within { IfErr result (λ partial. partial.written ≤ length output.new) }
         ensures len { length output.new ≡ length output.old }
     {
-        pieces();
         let len = text.len();
         match self.encoding.by_ref().decode_mut(text, output) {
             Ok(written) => Ok((len, written)),
@@ -146,8 +142,6 @@ impl BufferDecoder<'_> {
         ensures by_length { ignores_some (base_of_pieces self.now) ≡ false
             → read % group_symbols (base_of_pieces self.now).width ≡ 0 → result ≡ true }
     {
-        pieces();
-        whole_groups();
         let encoding = self.encoding.by_ref();
         if !encoding.ignores_bytes() && self.has_whole_len(read) {
             return true;
@@ -180,7 +174,6 @@ impl BufferDecoder<'_> {
             → HasOnlyWholeGroups (base_of_pieces self.now) text
             → AreWholeGroups (base_of_pieces self.now) text }
     {
-        whole_groups();
         let encoding = self.encoding.by_ref();
         !encoding.concatenates() && written % encoding.group_bytes() != 0
     }

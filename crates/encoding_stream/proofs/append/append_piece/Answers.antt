@@ -5,7 +5,7 @@ use Rattle.std.specs.Prelude.{OnErr}
 use Rattle.encoding_stream.specs.Pieces.{base_of_pieces, most_completed}
 use Rattle.encoding_stream.specs.Reading.{AppendsPiece}
 use Rattle.encoding_stream.proofs.DecoderLemmas.{appends-next, appends-nothing, part-adds-none, room-both}
-use Rattle.encoding_stream.proofs.PieceLemmas.{is-specified}
+use Rattle.encoding_stream.proofs.PieceLemmas.{is-specified, keeps-bytes}
 use Rattle.encoding_stream.proofs.append.append_piece.Goals as goal
 
 pub loop-read-init : goal.loop-read-init
@@ -30,7 +30,7 @@ returns-in_err-append_chunk-clause-no_group g c = λ text is none.
     absurd (false≢true
     (law (text ++ take c.loop-read.read piece) (now.appends.reads.keeps text is)
     (part-adds-none (base_of_pieces c.args.pieces.now) (is-specified c.args.pieces.now)
-    c.pieces.ensures.grows text piece c.loop-read.read c.min-end.result
+    (keeps-bytes c.args.pieces.now.laws.front) text piece c.loop-read.read c.min-end.result
     (omega (arith, c.min-end.ensures, now.within)) none)))
 
 -- what holds, holds also if an error is returned

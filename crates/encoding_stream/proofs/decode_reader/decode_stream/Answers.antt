@@ -8,6 +8,7 @@ use Rattle.encoding_stream.specs.Decoded.{result_of, EndsText}
 use Rattle.encoding_stream.specs.Pieces.{base_of_pieces, Keeps}
 use Rattle.encoding_stream.specs.Watch.{has_failed, inner_of}
 use Rattle.encoding_stream.proofs.DecodedLemmas.{decoded-front, decoded-more, decoded-nothing, decoded-only, decoded-past, each_some, end-error, end-ok, end-other, end-write, ended-all, ended-front, front-all, not-both, on-works, past-few, reads-buffer}
+use Rattle.encoding_stream.proofs.PieceLemmas.{keeps-bytes}
 use Rattle.encoding_stream.proofs.ReadPieceLemmas.{most-short}
 use Rattle.encoding_stream.proofs.SizeLemmas.{symbols-few}
 use Rattle.encoding_stream.proofs.decode_reader.decode_stream.Goals as goal
@@ -16,7 +17,8 @@ pub loop-count-init : goal.loop-count-init
 loop-count-init g c = record {
   base = c.new-pieces.ensures.base;
   decoded =
-      decoded-nothing c.args.encoding.now c.new-pieces.ensures.specified c.pieces.ensures.nothing
+      decoded-nothing c.args.encoding.now c.new-pieces.ensures.specified
+      c.new-pieces.ensures.no_bytes
       c.new-pieces.result.kept c.new-pieces.ensures.nothing _ _;
   reader_works = c.requires.reader_works;
   writer_works = c.requires.writer_works;
@@ -60,14 +62,16 @@ loop-count-preserved g c =
 pub returns-in-Err-clause-begun : goal.returns-in-Err-clause-begun
 returns-in-Err-clause-begun g c =
     let more = c.in-Err.ensures.begun in
-    decoded-only c.args.encoding.now c.new-pieces.ensures.specified c.pieces.ensures.grows
-    c.pieces.ensures.bytes c.loop-count.invariant.decoded
+    let laws = c.new-pieces.result.laws in
+    decoded-only c.args.encoding.now c.new-pieces.ensures.specified (keeps-bytes laws.front)
+    laws.bytes c.loop-count.invariant.decoded
     more.0 more.1
 
 pub returns-then-count-left-clause-begun : goal.returns-then-count-left-clause-begun
 returns-then-count-left-clause-begun g c =
-    decoded-only c.args.encoding.now c.new-pieces.ensures.specified c.pieces.ensures.grows
-    c.pieces.ensures.bytes c.loop-count.invariant.decoded
+    let laws = c.new-pieces.result.laws in
+    decoded-only c.args.encoding.now c.new-pieces.ensures.specified (keeps-bytes laws.front)
+    laws.bytes c.loop-count.invariant.decoded
     (take c.in-Ok.count c.fill.new.buffer) c.in-Ok.ensures.bytes
 
 pub returns-then-count-left-clause-too_long : goal.returns-then-count-left-clause-too_long
@@ -84,6 +88,7 @@ returns-then-count-left-clause-judges g c =
 
 pub returns-then-is_err-clause-begun : goal.returns-then-is_err-clause-begun
 returns-then-is_err-clause-begun g c =
+    let laws = c.new-pieces.result.laws in
     let base = c.args.encoding.now in
     let now = c.loop-count.invariant in
     let count = c.in-Ok.count in
@@ -93,7 +98,7 @@ returns-then-is_err-clause-begun g c =
     c.read-written.new.self.kept c.fill.new.buffer (drop c.min-asked.result c.loop-count.buffer)
     count bytes c.in-Ok.ensures.bound c.read-written.ensures.reads in
     decoded-front base c.new-pieces.ensures.specified now.decoded c.in-Ok.ensures.bytes reads
-    c.pieces.ensures.grows c.pieces.ensures.bytes c.write_all.ensures.begun
+    (keeps-bytes laws.front) laws.bytes c.write_all.ensures.begun
 
 pub returns-then-count-asked : goal.returns-then-count-asked
 returns-then-count-asked g c =

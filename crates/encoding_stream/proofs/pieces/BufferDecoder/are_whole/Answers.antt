@@ -8,7 +8,7 @@ use Rattle.encoding_stream.proofs.pieces.BufferDecoder.are_whole.Goals as goal
 pub returns-then-is_padded-clause-whole : goal.returns-then-is_padded-clause-whole
 returns-then-is_padded-clause-whole c = λ _ text bytes _ _ means.
     let s = c.args.self.now in
-    c.pieces.ensures.whole (base_of_pieces s) (is-specified s) text bytes means
+    s.laws.whole (base_of_pieces s) (is-specified s) text bytes means
     (inl (sym (rw c.by_ref-encoding.ensures at c.is_padded.ensures) ∙ c.if-is_padded.true))
 
 pub returns-then-is_padded-clause-few : goal.returns-then-is_padded-clause-few
@@ -20,7 +20,7 @@ returns-then-is_padded-clause-few c = λ _ most.
 pub returns-then-has_whole_len-clause-whole : goal.returns-then-has_whole_len-clause-whole
 returns-then-has_whole_len-clause-whole c = λ _ text bytes same _ means.
     let s = c.args.self.now in
-    c.pieces.ensures.whole (base_of_pieces s) (is-specified s) text bytes means
+    s.laws.whole (base_of_pieces s) (is-specified s) text bytes means
     (inr (inr (
       sym (rw c.by_ref-encoding.ensures at c.ignores_bytes.ensures)
           ∙ c.if-not-ignores_bytes.true,
@@ -31,7 +31,7 @@ returns-then-has_whole_len-clause-whole c = λ _ text bytes same _ means.
 pub returns-then-has_whole_len-clause-few : goal.returns-then-has_whole_len-clause-few
 returns-then-has_whole_len-clause-few c = λ _ most.
     let s = c.args.self.now in
-    fills-by_length (base_of_pieces s) (is-specified s) c.whole_groups.ensures.bytes c.args.read
+    fills-by_length (base_of_pieces s) (is-specified s) s.laws.due c.args.read
     c.args.written
     (rw (← s.group) (eqb-true _ _ (sym c.has_whole_len.ensures ∙ c.if-has_whole_len.true)))
     (symbols-some (base_of_pieces s).width s.width) most
@@ -40,7 +40,7 @@ pub returns-else-is_padded-clause-whole : goal.returns-else-is_padded-clause-who
 returns-else-is_padded-clause-whole c = λ test text bytes _ same means.
     let s = c.args.self.now in
     let value = rw c.by_ref-encoding.ensures at c.group_bytes.ensures.value in
-    c.whole_groups.ensures.whole (base_of_pieces s) (is-specified s) text bytes means
+    s.laws.by_bytes (base_of_pieces s) (is-specified s) text bytes means
     (rw (same, ← value) (eqb-true _ _ test))
 
 pub returns-else-is_padded-clause-few : goal.returns-else-is_padded-clause-few

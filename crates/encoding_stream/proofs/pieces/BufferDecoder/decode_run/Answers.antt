@@ -18,7 +18,8 @@ returns-in-Ok-clause-most c =
 
 pub returns-in-Err-clause-fault : goal.returns-in-Err-clause-fault
 returns-in-Err-clause-fault c = λ before len read.
-    c.pieces.ensures.stops (base_of_pieces c.args.self.now) (is-specified c.args.self.now) before
+    let s = c.args.self.now in
+    s.laws.stops (base_of_pieces s) (is-specified s) before
     c.args.text.now _ len c.in-Err.partial read
     (rw c.by_ref.ensures at c.in-Err.ensures.fault)
     (c.is_of_whole_group.ensures c.if-is_of_whole_group.true)

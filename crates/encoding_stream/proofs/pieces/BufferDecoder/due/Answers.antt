@@ -12,7 +12,7 @@ returns-clause-due c =
     let base = base_of_pieces s in
     let count = c.count_groups-groups.result in
     subst (λ n. decoded_len base (count * n) ≡ Ok (count * group_bytes base.width)) (sym s.group)
-    (c.whole_groups.ensures.bytes base (is-specified s) count)
+    (s.laws.due base (is-specified s) count)
     ∙ ap (λ n. Ok (count * n))
     (sym (rw c.by_ref.ensures at c.group_bytes.ensures.value))
 

@@ -7,7 +7,7 @@ use Rattle.encoding_stream.proofs.pieces.BufferDecoder.finish.Goals as goal
 pub returns-in-Err-clause-bytes : goal.returns-in-Err-clause-bytes
 returns-in-Err-clause-bytes c =
     bytes-judged (base_of_pieces c.args.self.now) (is-specified c.args.self.now)
-    c.pieces.ensures.bytes c.args.self.now.kept c.judge_last-judged.result
+    c.args.self.now.laws.bytes c.args.self.now.kept c.judge_last-judged.result
     c.judge_last-judged.new.output
     c.unwrap_or-written.result c.judge_last-judged.ensures.sound
     c.judge_last-judged.ensures.fault c.unwrap_or-written.ensures
@@ -17,14 +17,14 @@ returns-in-Ok-clause-verdict c = λ text keeps.
     let s = c.args.self.now in
     let k = s.kept in
     verdict-groups (base_of_pieces s) (is-specified s) text k.len k.fault (held k) k.ended
-    keeps c.pieces.ensures.verdict c.in_default.field-0
+    keeps s.laws.verdict c.in_default.field-0
     (sym (rw c.by_ref.ensures at c.decode_len.ensures.value) ∙ c.in_default.is) None
     (c.in-Ok.ensures.sound text keeps).0
 
 pub returns-in-Ok-clause-bytes : goal.returns-in-Ok-clause-bytes
 returns-in-Ok-clause-bytes c =
     bytes-judged (base_of_pieces c.args.self.now) (is-specified c.args.self.now)
-    c.pieces.ensures.bytes c.args.self.now.kept c.judge_last-judged.result
+    c.args.self.now.laws.bytes c.args.self.now.kept c.judge_last-judged.result
     c.judge_last-judged.new.output
     c.unwrap_or-written.result c.judge_last-judged.ensures.sound
     c.judge_last-judged.ensures.fault c.unwrap_or-written.ensures
@@ -34,14 +34,14 @@ returns-in-Err-judged-clause-verdict c = λ text keeps.
     let s = c.args.self.now in
     let k = s.kept in
     verdict-groups (base_of_pieces s) (is-specified s) text k.len k.fault (held k) k.ended
-    keeps c.pieces.ensures.verdict c.in_default.field-0
+    keeps s.laws.verdict c.in_default.field-0
     (sym (rw c.by_ref.ensures at c.decode_len.ensures.value) ∙ c.in_default.is)
     (Some c.in-Err-judged.error) (c.in-Err-judged.ensures.fault text keeps)
 
 pub returns-in-Err-judged-clause-bytes : goal.returns-in-Err-judged-clause-bytes
 returns-in-Err-judged-clause-bytes c =
     bytes-judged (base_of_pieces c.args.self.now) (is-specified c.args.self.now)
-    c.pieces.ensures.bytes c.args.self.now.kept c.judge_last-judged.result
+    c.args.self.now.laws.bytes c.args.self.now.kept c.judge_last-judged.result
     c.judge_last-judged.new.output
     c.unwrap_or-written.result c.judge_last-judged.ensures.sound
     c.judge_last-judged.ensures.fault c.unwrap_or-written.ensures
@@ -51,7 +51,7 @@ returns-in-Err-clause-verdict c = λ text keeps.
     let s = c.args.self.now in
     let k = s.kept in
     verdict-length (base_of_pieces s) (is-specified s) text k.len k.fault (held k) k.ended
-    keeps c.pieces.ensures.verdict c.in-Err.error
+    keeps s.laws.verdict c.in-Err.error
     (sym (rw c.by_ref.ensures at c.decode_len.ensures.value) ∙ c.in-Err.is)
 
 pub returns-in-Err-judged-clause-position : goal.returns-in-Err-judged-clause-position

@@ -9,7 +9,7 @@ pub returns-then-not-concatenates-clause-ends : goal.returns-then-not-concatenat
 returns-then-not-concatenates-clause-ends c = λ text bytes same means.
     let s = c.args.self.now in
     let base = base_of_pieces s in
-    c.whole_groups.ensures.ends base (is-specified s) text bytes means
+    s.laws.ends base (is-specified s) text bytes means
     ∙ ap (λ joins. not joins && not (length bytes % group_bytes base.width == 0))
     (sym (rw c.by_ref-encoding.ensures at c.concatenates.ensures) ∙ c.if-not-concatenates.true)
     ∙ ap (λ n. not (n % group_bytes base.width == 0)) same
@@ -19,7 +19,7 @@ returns-then-not-concatenates-clause-ends c = λ text bytes same means.
 pub returns-else-not-concatenates-clause-ends : goal.returns-else-not-concatenates-clause-ends
 returns-else-not-concatenates-clause-ends c = λ text _ _ _.
     let base = base_of_pieces c.args.self.now in
-    c.whole_groups.ensures.ends_nowhere base
+    c.args.self.now.laws.ends_nowhere base
     (sym (rw c.by_ref-encoding.ensures at c.concatenates.ensures) ∙ c.if-not-concatenates.false)
     (groups base text)
     ∙ ap not (sym c.if-not-concatenates.false)

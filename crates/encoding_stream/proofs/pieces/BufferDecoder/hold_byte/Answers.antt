@@ -31,7 +31,7 @@ pub returns-then-is_ignored-clause-reads : goal.returns-then-is_ignored-clause-r
 returns-then-is_ignored-clause-reads c =
     let s = c.args.self.now in
     take-ignored (base_of_pieces s) s.kept (is-kept s (omega arith) (omega arith)) c.args.byte
-    c.requires.sound c.pieces.ensures.held
+    c.requires.sound s.laws.held
     (ap is_ignored (sym (rw c.by_ref.ensures at c.interpret_byte.ensures))
     ∙ sym c.is_ignored.ensures ∙ c.if-is_ignored.true)
 
@@ -52,4 +52,4 @@ returns-clause-reads c =
     c.requires.sound
     (ap is_ignored (sym (rw c.by_ref.ensures at c.interpret_byte.ensures))
     ∙ sym c.is_ignored.ensures ∙ c.if-is_ignored.false)
-    (s.kept.count + 1) refl c.pieces.ensures.held (omega (arith, s.group, c.requires.few))
+    (s.kept.count + 1) refl s.laws.held (omega (arith, s.group, c.requires.few))

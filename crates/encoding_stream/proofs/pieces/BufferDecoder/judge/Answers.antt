@@ -68,7 +68,7 @@ returns-in-Ok-decode_mut-clause-sound c = λ none.
     let judged =
     judged-sound (base_of_pieces s) c.args.count k.positions k.bytes c.requires.some
     (omega (arith, few, c.requires.few)) (omega (arith, few, c.requires.few))
-    (is-specified s) c.pieces.ensures.alone c.requires.few none _ sound.0
+    (is-specified s) s.laws.alone c.requires.few none _ sound.0
     (sound.1 ∙ sym part) in (
       subst
           (λ e. fault_after e (base_of_pieces s)
@@ -162,6 +162,6 @@ returns-clause-fault c = λ none.
     (sym c.if-self.false)
     (judged-fault (base_of_pieces s) c.args.count k.positions k.bytes c.requires.some
     (omega (arith, few, c.requires.few)) (omega (arith, few, c.requires.few))
-    (is-specified s) c.pieces.ensures.alone c.requires.few none
+    (is-specified s) s.laws.alone c.requires.few none
     c.match-decode_len.fault c.at-2.result found.0 found.1 c.at-2.ensures.position
     c.at-2.ensures.kind)

@@ -1,7 +1,30 @@
 use Rattle.std.proofs.Common.{◌<◌, sym, subst}
 use Rattle.encoding_stream.specs.Specified.{IsBuiltAgain}
+use Rattle.encoding_stream.proofs.PieceLemmas.{keeps-front}
 use Rattle.encoding_stream.proofs.SizeLemmas.{symbols-some}
 use Rattle.encoding_stream.proofs.pieces.BufferDecoder.new_by_ref.Goals as goal
+
+pub invariant_of-result-clause-laws : goal.invariant_of-result-clause-laws
+invariant_of-result-clause-laws c =
+    let pieces = c.pieces.ensures in
+    let groups = c.whole_groups.ensures in
+    record {
+      held = pieces.held;
+      group = pieces.group;
+      faulty = pieces.faulty;
+      front = keeps-front pieces.grows;
+      verdict = pieces.verdict;
+      bytes = pieces.bytes;
+      alone = pieces.alone;
+      sound = pieces.sound;
+      stops = pieces.stops;
+      whole = pieces.whole;
+      due = groups.bytes;
+      joins = groups.joins;
+      ends_nowhere = groups.ends_nowhere;
+      ends = groups.ends;
+      by_bytes = groups.whole;
+    }
 
 pub invariant_of-result-clause-specified : goal.invariant_of-result-clause-specified
 invariant_of-result-clause-specified c =

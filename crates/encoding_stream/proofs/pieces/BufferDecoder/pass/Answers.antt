@@ -7,5 +7,5 @@ use Rattle.encoding_stream.proofs.pieces.BufferDecoder.pass.Goals as goal
 pub returns-clause-reads : goal.returns-clause-reads
 returns-clause-reads c =
     reads-fault (base_of_pieces c.args.self.now) c.args.self.now.width
-    (is-specified c.args.self.now) c.pieces.ensures.faulty
+    (is-specified c.args.self.now) c.args.self.now.laws.faulty
     c.args.self.now.kept (search rules) c.args.piece.now

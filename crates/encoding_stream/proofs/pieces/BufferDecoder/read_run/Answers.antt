@@ -96,7 +96,7 @@ returns-clause-reads c =
     front-is
     (reads-run base s.width old fresh old.positions old.bytes front bytes None
     c.has_final-self.result
-    (run-sound base (is-specified s) c.pieces.ensures.sound front bytes c.has_final-self.result
+    (run-sound base (is-specified s) s.laws.sound front bytes c.has_final-self.result
     means
     whole ends)
     few)))
@@ -131,6 +131,7 @@ pub invariant_of-self-2 : goal.invariant_of-self-2
 invariant_of-self-2 c =
     let s = c.args.self.now in
     record {
+      laws = s.laws;
       specified = s.specified;
       width = s.width;
       group = s.group;
@@ -240,6 +241,7 @@ invariant_of-self c =
     let read =
     length-take-le c.due-len.result.0 c.args.piece.now c.due-len.ensures.few in
     record {
+      laws = s.laws;
       specified = s.specified;
       width = s.width;
       group = s.group;

@@ -30,8 +30,8 @@ returns-then-not-is_in_order-clause-resumes c = λ is.
     let decoder = c.new_by_ref-decoder.result in
     let may =
     may-be-kept c.args.encoding.now c.new_by_ref-decoder.ensures.specified
-    (rw c.new_by_ref-decoder.ensures.base at decoder.width) c.whole_groups.ensures.joins
-    c.whole_groups.ensures.ends_nowhere is.text c.args.kept (omega arith) (omega arith) is.keeps
+    (rw c.new_by_ref-decoder.ensures.base at decoder.width) decoder.laws.joins
+    decoder.laws.ends_nowhere is.text c.args.kept (omega arith) (omega arith) is.keeps
     is.limit is.clear in
     elim c.then-not-is_in_order.branch [
       | then-not-is_in_order-via-then-not-is_in_order w ↦
@@ -46,8 +46,8 @@ returns-then-not-has_possible_fault-clause-resumes c = λ is.
     let decoder = c.new_by_ref-decoder.result in
     let may =
     may-be-kept c.args.encoding.now c.new_by_ref-decoder.ensures.specified
-    (rw c.new_by_ref-decoder.ensures.base at decoder.width) c.whole_groups.ensures.joins
-    c.whole_groups.ensures.ends_nowhere is.text c.args.kept (omega arith) (omega arith) is.keeps
+    (rw c.new_by_ref-decoder.ensures.base at decoder.width) decoder.laws.joins
+    decoder.laws.ends_nowhere is.text c.args.kept (omega arith) (omega arith) is.keeps
     is.limit is.clear in
     sym c.if-not-has_possible_fault.true ∙ c.has_possible_fault.ensures.complete may.fault
 

@@ -31,12 +31,12 @@ returns-then-is_some-clause-reads c =
     elim c.then-is_some.branch [
       | then-is_some-via-then-is_some w ↦
           subst (λ (p : BufferDecoder). ReadsOn base k p.kept (byte ∷ []) []) (sym w.self-is)
-          (reads-fault base s.width is.specified c.pieces.ensures.faulty k
+          (reads-fault base s.width is.specified s.laws.faulty k
           (sym c.is_some.ensures ∙ w.if-is_some.true) (byte ∷ []))
       | then-is_some-via-else-is_some+then-is_ignored w ↦
           subst (λ (p : BufferDecoder). ReadsOn base k p.kept (byte ∷ []) []) (sym w.self-is)
           (take-ignored base k is byte (sym c.is_some.ensures ∙ w.if-is_some.false)
-          c.pieces.ensures.held
+          s.laws.held
           (ap is_ignored (sym (rw w.by_ref.ensures at w.interpret_byte.ensures))
           ∙ sym w.is_ignored.ensures ∙ w.if-is_ignored.true))
     ]
@@ -51,7 +51,7 @@ returns-then-index-self-clause-reads c =
     (sym c.is_some.ensures ∙ c.if-is_some.false)
     (ap is_ignored (sym (rw c.by_ref.ensures at c.interpret_byte.ensures))
     ∙ sym c.is_ignored.ensures ∙ c.if-is_ignored.false)
-    (k.count + 1) refl c.pieces.ensures.held (omega (arith, s.group, few))
+    (k.count + 1) refl s.laws.held (omega (arith, s.group, few))
 
 pub judge-judged-requires-clause-room : goal.judge-judged-requires-clause-room
 judge-judged-requires-clause-room c =
@@ -80,7 +80,7 @@ returns-in-Ok-clause-reads c =
     (sym c.is_some.ensures ∙ c.if-is_some.false)
     (ap is_ignored (sym (rw c.by_ref.ensures at c.interpret_byte.ensures))
     ∙ sym c.is_ignored.ensures ∙ c.if-is_ignored.false)
-    s.size (omega (arith, s.short, c.if-index-self.false)) c.pieces.ensures.group s.group bytes
+    s.size (omega (arith, s.short, c.if-index-self.false)) s.laws.group s.group bytes
     c.in-Ok.ensures.sound (omega (arith, size, c.in-Ok.ensures.few)) c.is_final-is_final.result
     c.is_final-is_final.ensures
 
@@ -92,7 +92,7 @@ returns-in-Err-clause-reads c =
     (sym c.is_some.ensures ∙ c.if-is_some.false)
     (ap is_ignored (sym (rw c.by_ref.ensures at c.interpret_byte.ensures))
     ∙ sym c.is_ignored.ensures ∙ c.if-is_ignored.false)
-    s.size (omega (arith, s.short, c.if-index-self.false)) c.pieces.ensures.group s.group
+    s.size (omega (arith, s.short, c.if-index-self.false)) s.laws.group s.group
     c.in-Err.error c.in-Err.ensures.fault
 
 pub invariant_of-self-then-is_ignored-clause-inside :
