@@ -1,8 +1,8 @@
 //! Whole groups of a text that is decoded piece by piece, which are decoded in place.
 
-ghost use Rattle.std.specs.Prelude.{◌≡◌, ℕ, ◌+◌, ◌≤◌, ◌<◌, ◌/◌, ◌%◌, ◌==◌, true, false, List, length, take, IfOk, IfErr, None, Ok, Some};
+ghost use Rattle.std.specs.Prelude.{◌≡◌, ℕ, ◌+◌, ◌≤◌, ◌<◌, ◌/◌, ◌%◌, true, false, List, length, take, IfOk, IfErr, None, Ok, Some};
 ghost use Rattle.data_encoding.specs.declared.decode.TheConstants.{DECODE_LIMIT};
-ghost use Rattle.data_encoding.specs.Base.{group_bytes, group_symbols, ignores_some, is_padded};
+ghost use Rattle.data_encoding.specs.Base.{group_bytes, ignores_some, is_padded};
 ghost use Rattle.data_encoding.specs.Grammar.{Means};
 ghost use Rattle.data_encoding.specs.Lengths.{decoded_len, most_bytes};
 ghost use Rattle.data_encoding.specs.Pieces.{IsOfWholeGroup};
@@ -78,7 +78,7 @@ impl BufferDecoder<'_> {
                 return (len, partial.written);
             }
         };
-        if !self.are_whole(read, written) {
+        if !self.are_whole(len, read, written) {
             return (0, 0);
         }
         self.kept.len += read;
@@ -128,9 +128,11 @@ impl BufferDecoder<'_> {
         !encoding.ignores_bytes() || encoding.completes_groups()
     }
 
-    // Whether a text of this length that means this many bytes is whole groups. Padded texts are.
-    // Otherwise it follows from the length if nothing is ignored, or from the number of bytes.
-    fn are_whole(&self, read: usize, written: usize) -> bool
+    // Whether a text of `read` bytes that means this many bytes is whole groups, where `len` is the
+    // length of such. Padded texts are. Otherwise it is if that is its length and nothing is
+    // ignored, or it follows from the number of bytes.
+    fn are_whole(&self, len: usize, read: usize, written: usize) -> bool
+        requires len { len % self.now.size ≡ 0 }
         ensures whole { result ≡ true → (text bytes : List ℕ) → length text ≡ read
             → length bytes ≡ written → Means (base_of_pieces self.now) text bytes
             → HasOnlyWholeGroups (base_of_pieces self.now) text }
@@ -140,27 +142,13 @@ impl BufferDecoder<'_> {
         ensures by_bytes { written % group_bytes (base_of_pieces self.now).width ≡ 0
             → result ≡ true }
         ensures by_length { ignores_some (base_of_pieces self.now) ≡ false
-            → read % group_symbols (base_of_pieces self.now).width ≡ 0 → result ≡ true }
+            → read ≡ len → result ≡ true }
     {
         let encoding = self.encoding.by_ref();
-        if !encoding.ignores_bytes() && self.has_whole_len(read) {
+        if !encoding.ignores_bytes() && read == len {
             return true;
         }
         encoding.is_padded() || written % encoding.group_bytes() == 0
-    }
-
-    // Whether this many bytes are as long as whole groups. It divides by constants, as
-    // `count_groups`.
-    fn has_whole_len(&self, len: usize) -> bool
-        ensures { result ≡ (len % self.now.size == 0) }
-    {
-        if self.size == 8 {
-            return len % 8 == 0;
-        }
-        if self.size == 4 {
-            return len % 4 == 0;
-        }
-        len % 2 == 0
     }
 
     // Whether one of the groups of a text that means this many bytes is final. If texts may not be

@@ -17,23 +17,21 @@ returns-then-is_padded-clause-few c = λ _ most.
     (sym (rw c.by_ref-encoding.ensures at c.is_padded.ensures) ∙ c.if-is_padded.true)
     c.args.read c.args.written most
 
-pub returns-then-has_whole_len-clause-whole : goal.returns-then-has_whole_len-clause-whole
-returns-then-has_whole_len-clause-whole c = λ _ text bytes same _ means.
+pub returns-then-read-len-clause-whole : goal.returns-then-read-len-clause-whole
+returns-then-read-len-clause-whole c = λ _ text bytes same _ means.
     let s = c.args.self.now in
     s.laws.whole (base_of_pieces s) (is-specified s) text bytes means
     (inr (inr (
       sym (rw c.by_ref-encoding.ensures at c.ignores_bytes.ensures)
           ∙ c.if-not-ignores_bytes.true,
-      rw (same, ← s.group)
-          (eqb-true _ _ (sym c.has_whole_len.ensures ∙ c.if-has_whole_len.true)),
+      rw (same, c.if-read-len.true, ← s.group) c.requires.len,
     )))
 
-pub returns-then-has_whole_len-clause-few : goal.returns-then-has_whole_len-clause-few
-returns-then-has_whole_len-clause-few c = λ _ most.
+pub returns-then-read-len-clause-few : goal.returns-then-read-len-clause-few
+returns-then-read-len-clause-few c = λ _ most.
     let s = c.args.self.now in
-    fills-by_length (base_of_pieces s) (is-specified s) s.laws.due c.args.read
-    c.args.written
-    (rw (← s.group) (eqb-true _ _ (sym c.has_whole_len.ensures ∙ c.if-has_whole_len.true)))
+    fills-by_length (base_of_pieces s) (is-specified s) s.laws.due c.args.read c.args.written
+    (rw (c.if-read-len.true, ← s.group) c.requires.len)
     (symbols-some (base_of_pieces s).width s.width) most
 
 pub returns-else-is_padded-clause-whole : goal.returns-else-is_padded-clause-whole
@@ -50,12 +48,11 @@ returns-else-is_padded-clause-few c = λ test most.
     fills-by_bytes (base_of_pieces s) s.width c.args.read c.args.written
     (rw (← value) (eqb-true _ _ test)) most
 
-pub returns-then-has_whole_len-clause-by_padding :
-    goal.returns-then-has_whole_len-clause-by_padding
-returns-then-has_whole_len-clause-by_padding c = λ _. refl
+pub returns-then-read-len-clause-by_padding : goal.returns-then-read-len-clause-by_padding
+returns-then-read-len-clause-by_padding c = λ _. refl
 
-pub returns-then-has_whole_len-clause-by_bytes : goal.returns-then-has_whole_len-clause-by_bytes
-returns-then-has_whole_len-clause-by_bytes c = λ _. refl
+pub returns-then-read-len-clause-by_bytes : goal.returns-then-read-len-clause-by_bytes
+returns-then-read-len-clause-by_bytes c = λ _. refl
 
-pub returns-then-has_whole_len-clause-by_length : goal.returns-then-has_whole_len-clause-by_length
-returns-then-has_whole_len-clause-by_length c = λ _ _. refl
+pub returns-then-read-len-clause-by_length : goal.returns-then-read-len-clause-by_length
+returns-then-read-len-clause-by_length c = λ _ _. refl

@@ -1,4 +1,4 @@
-use Rattle.std.proofs.Common.{◌≡◌, ◌+◌, ◌/◌, ◌%◌, ◌∙◌, false, None, Some, take, drop, length, sym, subst, arith, length-append, length-take, length-take-le}
+use Rattle.std.proofs.Common.{◌≡◌, ◌+◌, ◌/◌, ◌∙◌, false, None, Some, take, drop, length, sym, subst, arith, length-append, length-take, length-take-le}
 use Rattle.std.proofs.Math.Nat.{div-eq_of_lt}
 use Rattle.std.proofs.lemmas.Bool.{false≢true}
 use Rattle.std.proofs.lemmas.List.{take-append-le, take-take}
@@ -111,15 +111,10 @@ returns-then-piece-self-clause-all c = λ _ _ _ _ _ _.
 
 pub returns-then-not-are_whole-clause-all : goal.returns-then-not-are_whole-clause-all
 returns-then-not-are_whole-clause-all c = λ _ _ _ none bytes means.
-    let s = c.args.self.now in
-    let len-is = c.due-len.ensures.len in
     let read-is =
-    c.in-Ok.ensures.all bytes (rw (sym len-is) at means)
+    c.in-Ok.ensures.all bytes (rw (sym c.due-len.ensures.len) at means)
     ∙ length-take-le c.due-len.result.0 c.args.piece.now c.due-len.ensures.few in
-    absurd (false≢true (sym c.if-not-are_whole.true
-    ∙ c.are_whole.ensures.by_length none
-    (subst (λ n. n % group_symbols (base_of_pieces s).width ≡ 0) (sym read-is)
-    (subst (λ n. c.due-len.result.0 % n ≡ 0) s.group c.due-len.ensures.whole))))
+    absurd (false≢true (sym c.if-not-are_whole.true ∙ c.are_whole.ensures.by_length none read-is))
 
 pub returns-clause-all : goal.returns-clause-all
 returns-clause-all c = λ _ _ _ none bytes means.
