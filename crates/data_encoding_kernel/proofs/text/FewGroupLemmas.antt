@@ -16,7 +16,7 @@ module _ {width bytes symbols : ℕ} (group : IsGroup width bytes symbols)
   several_bytes : 1 < group_bytes width
   several_bytes = rw group.has_bytes at several
 
-  -- no turn of eight has fewer groups
+  -- they are at most eight
   pub few-most : 12 / bytes ≤ 8
   few-most =
       rw group.has_bytes

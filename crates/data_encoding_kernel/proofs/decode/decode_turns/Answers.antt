@@ -72,11 +72,9 @@ returns-then-found-groups-clause-run g c = λ values held base reads.
     g.G.GroupSize.is_group in
     let few : count ≤ groups =
     subst (λ n. count ≤ n) (sym c.GROUPS-groups.ensures)
-    (few-groups found g.T.DecodeTurn.GROUPS whole.some_symbols
-    c.decode-found.ensures.few) in
+    (few-groups found g.T.DecodeTurn.GROUPS whole.some_symbols c.decode-found.ensures.few) in
     let within = turn-fits (length input) c.args.count c.loop-index.index
-    c.GROUPS-groups.ensures c.SYMBOLS-symbols.ensures c.requires.few
-    c.loop-index-test.true in
+    c.GROUPS-groups.ensures c.SYMBOLS-symbols.ensures c.requires.few c.loop-index-test.true in
     let room : first * bytes + groups * bytes ≤ length output =
     rw c.loop-index.auto.output (turn-fits (length c.args.output.now) c.args.count
     c.loop-index.index c.GROUPS-groups.ensures c.BYTES-bytes.ensures c.requires.room
@@ -105,8 +103,7 @@ loop-index-preserved g c =
     let whole = IsWhole-group g.G.GroupSize.WIDTH g.G.GroupSize.BYTES g.G.GroupSize.SYMBOLS
     g.G.GroupSize.is_group in
     let within = turn-fits (length input) c.args.count c.loop-index.index
-    c.GROUPS-groups.ensures c.SYMBOLS-symbols.ensures c.requires.few
-    c.loop-index-test.true in
+    c.GROUPS-groups.ensures c.SYMBOLS-symbols.ensures c.requires.few c.loop-index-test.true in
     let room : first * bytes + groups * bytes ≤ length output =
     rw c.loop-index.auto.output (turn-fits (length c.args.output.now) c.args.count
     c.loop-index.index c.GROUPS-groups.ensures c.BYTES-bytes.ensures c.requires.room
@@ -160,8 +157,7 @@ overflow_mul-groups-in-loop-index g c = record {
 pub overflow_mul-groups-in-loop-index-2 : goal.overflow_mul-groups-in-loop-index-2
 overflow_mul-groups-in-loop-index-2 g c =
     let within = turn-fits (length c.args.input.now) c.args.count c.loop-index.index
-    c.GROUPS-groups.ensures c.SYMBOLS-symbols.ensures c.requires.few
-    c.loop-index-test.true in
+    c.GROUPS-groups.ensures c.SYMBOLS-symbols.ensures c.requires.few c.loop-index-test.true in
     record { fits = omega arith }
 
 pub overflow_add-result : goal.overflow_add-result
@@ -169,8 +165,7 @@ overflow_add-result g c =
     let few : c.decode-found.result ≤ c.GROUPS-groups.result * c.SYMBOLS-symbols.result =
     rw (c.GROUPS-groups.ensures, c.SYMBOLS-symbols.ensures) c.decode-found.ensures.few in
     let within = turn-fits (length c.args.input.now) c.args.count c.loop-index.index
-    c.GROUPS-groups.ensures c.SYMBOLS-symbols.ensures c.requires.few
-    c.loop-index-test.true in
+    c.GROUPS-groups.ensures c.SYMBOLS-symbols.ensures c.requires.few c.loop-index-test.true in
     record { fits = omega (arith, few) }
 
 pub returns-then-found-groups-clause-within : goal.returns-then-found-groups-clause-within

@@ -9,20 +9,20 @@ use Rattle.data_encoding_kernel.proofs.encode.encode_turns.Goals as goal
 
 pub overflow_mul-read_len : goal.overflow_mul-read_len
 overflow_mul-read_len g c =
-    let small = IsSmall-group g.G.GroupSize.is_group in
     omega (
       arith,
-      mul-le c.GROUPS-groups.result c.BYTES-bytes.result 12 5 (omega (arith, c.GROUPS-groups.ensures, c.requires.few))
-          (omega (arith, small.few_bytes, c.BYTES-bytes.ensures)),
+      mul-le c.GROUPS-groups.result c.BYTES-bytes.result 12 5
+          (rw c.GROUPS-groups.ensures c.requires.few)
+          (omega (arith, (IsSmall-group g.G.GroupSize.is_group).few_bytes, c.BYTES-bytes.ensures)),
     )
 
 pub overflow_mul-written_len : goal.overflow_mul-written_len
 overflow_mul-written_len g c =
-    let small = IsSmall-group g.G.GroupSize.is_group in
     omega (
       arith,
-      mul-le c.GROUPS-groups.result c.SYMBOLS.result 12 8 (omega (arith, c.GROUPS-groups.ensures, c.requires.few))
-          (omega (arith, small.few_symbols, c.SYMBOLS.ensures)),
+      mul-le c.GROUPS-groups.result c.SYMBOLS.result 12 8
+          (rw c.GROUPS-groups.ensures c.requires.few)
+          (omega (arith, (IsSmall-group g.G.GroupSize.is_group).few_symbols, c.SYMBOLS.ensures)),
     )
 
 pub nonzero_div-count : goal.nonzero_div-count
@@ -168,8 +168,7 @@ encode-requires-clause-loaded g c =
       whole.some_bytes,
       c.saturating_sub.ensures,
     ))
-    ∙ (λ k. c.GROUPS-groups.ensures k * c.BYTES-bytes.ensures k
-    + c.AHEAD-ahead_len.ensures k)
+    ∙ (λ k. c.GROUPS-groups.ensures k * c.BYTES-bytes.ensures k + c.AHEAD-ahead_len.ensures k)
 
 pub encode-requires-clause-exact : goal.encode-requires-clause-exact
 encode-requires-clause-exact g c =
@@ -199,8 +198,7 @@ encode_rest-requires-clause-few g c =
     c.requires.some g.G.GroupSize.is_group in
     let bytes = c.GROUPS-groups.result * c.BYTES-bytes.result in
     let count = c.saturating_sub.result / bytes in
-    let rest : length c.args.input.now - count * bytes
-    < bytes + c.AHEAD-ahead_len.result =
+    let rest : length c.args.input.now - count * bytes < bytes + c.AHEAD-ahead_len.result =
     omega (
       arith,
       div-add-mod' c.saturating_sub.result bytes,
@@ -209,8 +207,7 @@ encode_rest-requires-clause-few g c =
     ) in
     subst (λ n. length (take (length c.args.input.now - count * bytes)
     (drop (count * bytes) c.args.input.now)) < n)
-    (λ k. c.GROUPS-groups.ensures k * c.BYTES-bytes.ensures k
-    + c.AHEAD-ahead_len.ensures k)
+    (λ k. c.GROUPS-groups.ensures k * c.BYTES-bytes.ensures k + c.AHEAD-ahead_len.ensures k)
     (omega (arith, rest, length-rest (count * bytes) c.args.input.now))
 
 pub encode_rest-requires-clause-limit : goal.encode_rest-requires-clause-limit

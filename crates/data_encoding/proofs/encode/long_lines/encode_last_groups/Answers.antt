@@ -87,16 +87,12 @@ encode_few-requires-clause-bytes g c =
 pub encode_few-requires-clause-exact : goal.encode_few-requires-clause-exact
 encode_few-requires-clause-exact g c =
     written-room c.requires.fits (12 / c.BYTES-bytes.result) c.SYMBOLS.ensures
-    (few-within g.G.GroupSize.is_group c.requires.fits c.BYTES-bytes.ensures
-    c.if-bytes-gt1.true)
+    (few-within g.G.GroupSize.is_group c.requires.fits c.BYTES-bytes.ensures c.if-bytes-gt1.true)
     ∙ ap (λ n. 12 / n * g.G.GroupSize.SYMBOLS) c.BYTES-bytes.ensures
 
 pub encode_eight-requires-clause-bytes : goal.encode_eight-requires-clause-bytes
 encode_eight-requires-clause-bytes g c =
-    omega (
-      arith,
-      read-loaded c.requires.fits 8 c.BYTES-bytes.ensures c.requires.fits.eight,
-    )
+    omega (arith, read-loaded c.requires.fits 8 c.BYTES-bytes.ensures c.requires.fits.eight)
 
 pub encode_eight-requires-clause-exact : goal.encode_eight-requires-clause-exact
 encode_eight-requires-clause-exact g c =

@@ -12,8 +12,7 @@ use Rattle.data_encoding_kernel.proofs.lanes.encode.encode_few.Goals as goal
 
 -- as many symbols of the digits as the groups have are their text
 symbols-are_text : {width bytes count : ℕ} (order : BitOrder) (symbols input values : List ℕ)
-    → IsGroup width bytes count → 16 ≤ length input
-    → take (12 / bytes * count) values
+    → IsGroup width bytes count → 16 ≤ length input → take (12 / bytes * count) values
     ≡ flat_map (digits_of order width count) (group_words order bytes (12 / bytes) input)
     → IsTextBy symbols width order (take (12 / bytes * bytes) input)
     (take (12 / bytes * count) (map (slice_index symbols) values))
@@ -44,8 +43,7 @@ returns-then-WIDTH-eq3 g c base writes =
     c.store_thirty_two.ensures
     ∙ (λ i. take (sym count i) (c.look_up-lanes.ensures i))
     ∙ symbols-are_text c.args.order c.args.symbols.now c.args.input.now c.few_digits-values.result
-    g.G.GroupSize.is_group c.requires.bytes c.few_digits-values.ensures.digits
-    base writes
+    g.G.GroupSize.is_group c.requires.bytes c.few_digits-values.ensures.digits base writes
 
 pub returns-else-WIDTH-eq3 : goal.returns-else-WIDTH-eq3
 returns-else-WIDTH-eq3 g c base writes =
@@ -54,5 +52,4 @@ returns-else-WIDTH-eq3 g c base writes =
     c.store_sixteen.ensures
     ∙ (λ i. take (sym count i) (c.look_up-lanes.ensures i))
     ∙ symbols-are_text c.args.order c.args.symbols.now c.args.input.now c.few_digits-values.result
-    g.G.GroupSize.is_group c.requires.bytes c.few_digits-values.ensures.digits
-    base writes
+    g.G.GroupSize.is_group c.requires.bytes c.few_digits-values.ensures.digits base writes

@@ -14,8 +14,7 @@ module _ (order : BitOrder) (input found : List ℕ) (w : ℕ) {width bytes symb
       ≡ flat_map (digits_of order w (group_symbols w))
       (group_words order (group_bytes w) (12 / group_bytes w) input)
       → take (12 / bytes * symbols) found
-      ≡ flat_map (digits_of order width symbols)
-      (group_words order bytes (12 / bytes) input)
+      ≡ flat_map (digits_of order width symbols) (group_words order bytes (12 / bytes) input)
   digits-found digits =
       let Found : ℕ → Type 0 = λ v. take (12 / group_bytes v * group_symbols v) found
       ≡ flat_map (digits_of order v (group_symbols v))
