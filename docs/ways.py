@@ -38,7 +38,6 @@ ENCODE = """
     encode_by_order: encode_turns encode_short                  # There are lanes, and much data.
     few_digits: octal_digits_of_four digits_of_two              # Symbols have six bits,
     encode_few: store_thirty_two
-    FewGroups::encode: encode_group
     one_bit_digits two_bit_digits three_bit_digits four_bit_digits five_bit_digits
     look_up: look_in_thirty_two look_in_sixteen
     store: store_sixteen

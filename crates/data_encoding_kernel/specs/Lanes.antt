@@ -1,5 +1,5 @@
 -- Groups of bytes as words, their digits, and what lanes compute from them.
-use Rattle.std.specs.Prelude.{ℕ, ◌*◌, ◌%◌, ◌^◌, ◌==◌, if◌then◌else◌, List, map, take, drop, bit_and, bit_or}
+use Rattle.std.specs.Prelude.{ℕ, ◌*◌, ◌%◌, ◌^◌, List, map, take, drop, bit_and, bit_or}
 use Rattle.std.specs.List.{range_with_len}
 use Rattle.std.specs.Simd.Lanes.{number_l}
 use Rattle.data_encoding_meaning.specs.declared.encoding.BitOrder.{BitOrder}
@@ -13,12 +13,6 @@ group_word order size input group = word_of order 8 size (take size (drop (size 
 -- the words of the first groups
 abbrev pub group_words : BitOrder → ℕ → ℕ → List ℕ → List ℕ
 group_words order size count input = map (group_word order size input) (range_with_len 0 count)
-
--- how many groups are encoded at once where eight are not, by their width: two of five bytes, or
--- four of three
-abbrev pub few_groups : ℕ → ℕ
-few_groups width =
-    if width == 5 then 2 else if width == 3 then 4 else if width == 6 then 4 else 1
 
 -- the digits of a word, by their number and the bits of each
 abbrev pub digits_of : BitOrder → ℕ → ℕ → ℕ → List ℕ

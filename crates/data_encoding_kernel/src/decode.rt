@@ -1,6 +1,6 @@
 //! Runs of whole groups of symbols only, which are decoded without a judgement.
 
-ghost use Rattle.std.specs.Prelude.{◌≡◌, ℕ, ◌*◌, ◌/◌, ◌≤◌, List, length, take, IsTrue};
+ghost use Rattle.std.specs.Prelude.{◌≡◌, ℕ, ◌*◌, ◌/◌, ◌<◌, ◌≤◌, List, length, take, IsTrue};
 ghost use Rattle.data_encoding_kernel.specs.Runs.{IsLongestBy, IsRunBy};
 
 use crate::group_size::GroupSize;
@@ -265,45 +265,46 @@ fn count_turns<G: GroupSize>(input_len: usize, len: usize, output_len: usize) ->
 
 // Decodes as many turns as the input has, and returns the number of groups that are decoded.
 #[inline(always)]
-fn decode_whole_turns<T: DecodeTurn, G: GroupSize>(
+fn decode_whole_turns<T: DecodeTurn<G>, G: GroupSize>(
     turn: &T,
     order: BitOrder,
     input: &[u8],
     output: &mut [u8],
 ) -> usize
+    requires some { 0 < T.GROUPS }
     requires room { length input.now / G.SYMBOLS * G.BYTES ≤ length output.old }
     ensures run { (values : List ℕ) → T.holds values turn.now
         → IsRunBy values G.WIDTH order input.now result output.old output.new }
     ensures within { result ≤ length input.now / G.SYMBOLS }
 {
-    let count = input.len() / G::SYMBOLS / T::groups::<G>();
+    let count = input.len() / G::SYMBOLS / T::GROUPS;
     decode_turns::<T, G>(turn, order, count, input, output) / G::SYMBOLS
 }
 
 // Decodes one turn after another, up to the first with a byte that is refused. Returns how many
 // bytes were read; the whole groups among them are decoded.
 #[inline(always)]
-fn decode_turns<T: DecodeTurn, G: GroupSize>(
+fn decode_turns<T: DecodeTurn<G>, G: GroupSize>(
     turn: &T,
     order: BitOrder,
     count: usize,
     input: &[u8],
     output: &mut [u8],
 ) -> usize
-    requires few { count * T.number G.WIDTH * G.SYMBOLS ≤ length input.now }
-    requires room { count * T.number G.WIDTH * G.BYTES ≤ length output.old }
+    requires few { count * T.GROUPS * G.SYMBOLS ≤ length input.now }
+    requires room { count * T.GROUPS * G.BYTES ≤ length output.old }
     ensures run { (values : List ℕ) → T.holds values turn.now
         → IsRunBy values G.WIDTH order input.now (result / G.SYMBOLS) output.old output.new }
-    ensures within { result ≤ count * T.number G.WIDTH * G.SYMBOLS }
+    ensures within { result ≤ count * T.GROUPS * G.SYMBOLS }
 {
-    let groups = T::groups::<G>();
+    let groups = T::GROUPS;
     let symbols = G::SYMBOLS;
     let bytes = G::BYTES;
     for index in 0..count {
         let first = index * groups;
         let read = first * symbols;
         let written = first * bytes;
-        let found = turn.decode::<G>(
+        let found = turn.decode(
             order,
             &input[read..read + groups * symbols],
             &mut output[written..written + groups * bytes],

@@ -1,12 +1,10 @@
 //! The symbols of data, group after group.
 
-ghost use Rattle.std.specs.Prelude.{◌≡◌, ℕ, ◌+◌, ◌-◌, ◌*◌, ◌/◌, ◌<◌, ◌≤◌, ◌==◌, if◌then◌else◌, List, length, take};
-ghost use Rattle.data_encoding_meaning.specs.text.Base.{group_bytes};
-ghost use Rattle.data_encoding_kernel.specs.Lanes.{few_groups};
+ghost use Rattle.std.specs.Prelude.{◌≡◌, ℕ, ◌+◌, ◌-◌, ◌*◌, ◌/◌, ◌<◌, ◌≤◌, List, length, take};
 ghost use Rattle.data_encoding_kernel.specs.Tables.{IsTextBy};
 
 use crate::group_size::GroupSize;
-use crate::lanes::encode::{SymbolLookUp, SymbolRows, encode_eight, encode_few, few_groups};
+use crate::lanes::encode::{SymbolLookUp, SymbolRows, encode_eight, encode_few};
 use crate::lanes::offset_alphabet::{OffsetAlphabet, offset_alphabet_of, seeks_offsets};
 use crate::order::{ConstantOrder, LeastSignificantFirst, MostSignificantFirst};
 use crate::platform::has_lanes;
@@ -98,33 +96,35 @@ fn encode_short<O: ConstantOrder, G: GroupSize>(
 
 // Encodes turn by turn, while the input has as many bytes as a turn loads, and then the rest.
 #[inline(always)]
-fn encode_turns<T: EncodeTurn, O: ConstantOrder, G: GroupSize>(
+fn encode_turns<T: EncodeTurn<G>, O: ConstantOrder, G: GroupSize>(
     turn: &T,
     symbols: &[u8; 256],
     input: &[u8],
     output: &mut [u8],
 )
+    requires some { 0 < T.GROUPS }
+    requires few { T.GROUPS ≤ 12 }
     requires held { T.holds symbols.now turn.now }
     requires limit { length input.now ≤ ENCODE_LIMIT }
     requires exact { length output.old ≡ (8 * length input.now + (G.WIDTH - 1)) / G.WIDTH }
     ensures { IsTextBy symbols.now G.WIDTH O.ORDER input.now output.new }
 {
     let bytes = G::BYTES;
-    let groups = T::groups::<G>();
+    let groups = T::GROUPS;
     let read_len = groups * bytes;
     let written_len = groups * G::SYMBOLS;
-    let ahead_len = T::ahead::<G>();
+    let ahead_len = T::AHEAD;
     let count = input.len().saturating_sub(ahead_len) / read_len;
     for index in 0..count {
         let read = index * read_len;
         let written = index * written_len;
-        turn.encode::<O, G>(
+        turn.encode::<O>(
             symbols,
             &input[read..read + (read_len + ahead_len)],
             &mut output[written..written + written_len],
         );
     }
-    T::encode_rest::<O, G>(
+    T::encode_rest::<O>(
         symbols,
         &input[count * read_len..],
         &mut output[count * written_len..],
@@ -132,43 +132,29 @@ fn encode_turns<T: EncodeTurn, O: ConstantOrder, G: GroupSize>(
 }
 
 /// A way to encode a fixed number of whole groups in each turn of a loop, and then the rest.
-trait EncodeTurn {
-    // By the width of a symbol: how many groups, and how many bytes a turn also loads after them.
-    ghost number: { ℕ → ℕ };
+trait EncodeTurn<G: GroupSize> {
+    ghost GROUPS: { ℕ };
 
-    ghost further: { ℕ → ℕ };
+    ghost AHEAD: { ℕ };
 
-    // Whether what the turn looks up is that of a table of symbols.
+    // Whether a turn encodes by a table of symbols.
     ghost holds: { List ℕ → Self → Type 0 };
 
-    fn groups<G: GroupSize>() -> usize
-        ensures number { result ≡ number G.WIDTH }
-        ensures some { 0 < result }
-        ensures few { result ≤ 8 };
+    const GROUPS: usize;
 
-    fn ahead<G: GroupSize>() -> usize
-        ensures number { result ≡ further G.WIDTH }
-        ensures few { result ≤ 8 };
+    // How many bytes a turn also loads after its groups.
+    const AHEAD: usize;
 
-    fn encode<O: ConstantOrder, G: GroupSize>(
-        &self,
-        symbols: &[u8; 256],
-        input: &[u8],
-        output: &mut [u8],
-    )
+    fn encode<O: ConstantOrder>(&self, symbols: &[u8; 256], input: &[u8], output: &mut [u8])
         requires held { holds symbols.now self.now }
-        requires loaded { length input.now ≡ number G.WIDTH * G.BYTES + further G.WIDTH }
-        requires exact { length output.old ≡ number G.WIDTH * G.SYMBOLS }
-        ensures { IsTextBy symbols.now G.WIDTH O.ORDER (take (number G.WIDTH * G.BYTES) input.now)
+        requires loaded { length input.now ≡ GROUPS * G.BYTES + AHEAD }
+        requires exact { length output.old ≡ GROUPS * G.SYMBOLS }
+        ensures { IsTextBy symbols.now G.WIDTH O.ORDER (take (GROUPS * G.BYTES) input.now)
             output.new };
 
     // Encodes the rest after the last turn: fewer bytes than a turn loads.
-    fn encode_rest<O: ConstantOrder, G: GroupSize>(
-        symbols: &[u8; 256],
-        input: &[u8],
-        output: &mut [u8],
-    )
-        requires few { length input.now < number G.WIDTH * G.BYTES + further G.WIDTH }
+    fn encode_rest<O: ConstantOrder>(symbols: &[u8; 256], input: &[u8], output: &mut [u8])
+        requires few { length input.now < GROUPS * G.BYTES + AHEAD }
         requires limit { length input.now ≤ ENCODE_LIMIT }
         requires exact { length output.old ≡ (8 * length input.now + (G.WIDTH - 1)) / G.WIDTH }
         ensures { IsTextBy symbols.now G.WIDTH O.ORDER input.now output.new };
@@ -184,89 +170,49 @@ const BY_ROWS: EightGroups<SymbolRows> = EightGroups {
     look_up: SymbolRows,
 };
 
-impl<S: SymbolLookUp> EncodeTurn for EightGroups<S> {
-    ghost number = { λ width. 8 };
+impl<S: SymbolLookUp, G: GroupSize> EncodeTurn<G> for EightGroups<S> {
+    ghost GROUPS = { 8 };
 
-    ghost further = { λ width. 2 * (group_bytes width - 1) };
+    ghost AHEAD = { 2 * (G.BYTES - 1) };
 
     ghost holds = { λ symbols turn. S.holds symbols turn.look_up };
 
-    #[inline(always)]
-    fn groups<G: GroupSize>() -> usize {
-        8
-    }
+    const GROUPS: usize = 8;
+
+    const AHEAD: usize = 2 * (G::BYTES - 1);
 
     #[inline(always)]
-    fn ahead<G: GroupSize>() -> usize {
-        2 * (G::BYTES - 1)
-    }
-
-    #[inline(always)]
-    fn encode<O: ConstantOrder, G: GroupSize>(
-        &self,
-        symbols: &[u8; 256],
-        input: &[u8],
-        output: &mut [u8],
-    ) {
+    fn encode<O: ConstantOrder>(&self, symbols: &[u8; 256], input: &[u8], output: &mut [u8]) {
         encode_eight::<S, G>(&self.look_up, symbols, O::ORDER, input, output);
     }
 
     #[inline(always)]
-    fn encode_rest<O: ConstantOrder, G: GroupSize>(
-        symbols: &[u8; 256],
-        input: &[u8],
-        output: &mut [u8],
-    ) {
+    fn encode_rest<O: ConstantOrder>(symbols: &[u8; 256], input: &[u8], output: &mut [u8]) {
         encode_short::<O, G>(symbols, input, output);
     }
 }
 
-/// Four groups of three bytes, or two of five, in lanes; groups of one byte one by one.
+/// Four groups of three bytes, or two of five, in lanes. Sixteen bytes are loaded.
 struct FewGroups;
 
-impl EncodeTurn for FewGroups {
-    ghost number = { λ width. few_groups width };
+impl<G: GroupSize> EncodeTurn<G> for FewGroups {
+    ghost GROUPS = { 12 / G.BYTES };
 
-    ghost further = { λ width. if width == 5 then 6 else if width == 3 then 4
-        else if width == 6 then 4 else 0 };
+    ghost AHEAD = { 16 - 12 / G.BYTES * G.BYTES };
 
-    ghost holds = { λ symbols turn. Unit {0} };
+    ghost holds = { λ symbols turn. 1 < G.BYTES };
+
+    const GROUPS: usize = 12 / G::BYTES;
+
+    const AHEAD: usize = 16 - 12 / G::BYTES * G::BYTES;
 
     #[inline(always)]
-    fn groups<G: GroupSize>() -> usize {
-        few_groups::<G>()
+    fn encode<O: ConstantOrder>(&self, symbols: &[u8; 256], input: &[u8], output: &mut [u8]) {
+        encode_few::<G>(symbols, O::ORDER, input, output);
     }
 
     #[inline(always)]
-    fn ahead<G: GroupSize>() -> usize {
-        match G::WIDTH {
-            5 => 6,
-            3 => 4,
-            6 => 4,
-            _ => 0,
-        }
-    }
-
-    #[inline(always)]
-    fn encode<O: ConstantOrder, G: GroupSize>(
-        &self,
-        symbols: &[u8; 256],
-        input: &[u8],
-        output: &mut [u8],
-    ) {
-        if few_groups::<G>() > 1 {
-            encode_few::<G>(symbols, O::ORDER, input, output);
-        } else {
-            encode_group::<G>(symbols, O::ORDER, input, output);
-        }
-    }
-
-    #[inline(always)]
-    fn encode_rest<O: ConstantOrder, G: GroupSize>(
-        symbols: &[u8; 256],
-        input: &[u8],
-        output: &mut [u8],
-    ) {
+    fn encode_rest<O: ConstantOrder>(symbols: &[u8; 256], input: &[u8], output: &mut [u8]) {
         encode_turns::<OneGroup, O, G>(&OneGroup, symbols, input, output);
     }
 }
@@ -274,40 +220,25 @@ impl EncodeTurn for FewGroups {
 /// One group as a word.
 struct OneGroup;
 
-impl EncodeTurn for OneGroup {
-    ghost number = { λ width. 1 };
+impl<G: GroupSize> EncodeTurn<G> for OneGroup {
+    ghost GROUPS = { 1 };
 
-    ghost further = { λ width. 0 };
+    ghost AHEAD = { 0 };
 
     ghost holds = { λ symbols turn. Unit {0} };
 
-    #[inline(always)]
-    fn groups<G: GroupSize>() -> usize {
-        1
-    }
+    const GROUPS: usize = 1;
+
+    const AHEAD: usize = 0;
 
     #[inline(always)]
-    fn ahead<G: GroupSize>() -> usize {
-        0
-    }
-
-    #[inline(always)]
-    fn encode<O: ConstantOrder, G: GroupSize>(
-        &self,
-        symbols: &[u8; 256],
-        input: &[u8],
-        output: &mut [u8],
-    ) {
+    fn encode<O: ConstantOrder>(&self, symbols: &[u8; 256], input: &[u8], output: &mut [u8]) {
         encode_group::<G>(symbols, O::ORDER, input, output);
     }
 
     // The last group, which may be shorter or empty.
     #[inline(always)]
-    fn encode_rest<O: ConstantOrder, G: GroupSize>(
-        symbols: &[u8; 256],
-        input: &[u8],
-        output: &mut [u8],
-    ) {
+    fn encode_rest<O: ConstantOrder>(symbols: &[u8; 256], input: &[u8], output: &mut [u8]) {
         encode_group::<G>(symbols, O::ORDER, input, output);
     }
 }

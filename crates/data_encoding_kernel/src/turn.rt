@@ -1,8 +1,7 @@
 //! Several whole groups of symbols at a time.
 
-ghost use Rattle.std.specs.Prelude.{◌≡◌, ℕ, ◌*◌, ◌/◌, ◌<◌, ◌≤◌, List, length, IsTrue};
+ghost use Rattle.std.specs.Prelude.{◌≡◌, ℕ, ◌*◌, ◌/◌, ◌≤◌, List, length, IsTrue};
 ghost use Rattle.data_encoding_kernel.specs.Runs.{IsRunBy};
-ghost use Rattle.data_encoding_meaning.specs.text.Base.{group_symbols};
 
 use crate::group_size::GroupSize;
 use crate::lanes::decode::decode_eight;
@@ -12,22 +11,19 @@ use crate::words::decode_entries;
 use data_encoding_meaning::encoding::BitOrder;
 
 /// A way to decode a fixed number of whole groups in each turn of a loop.
-pub trait DecodeTurn {
-    // The number of groups, by the width of a symbol.
-    ghost number: { ℕ → ℕ };
+pub trait DecodeTurn<G: GroupSize> {
+    ghost GROUPS: { ℕ };
 
     ghost holds: { List ℕ → Self → Type 0 };
 
-    fn groups<G: GroupSize>() -> usize
-        ensures number { result ≡ number G.WIDTH }
-        ensures some { 0 < result };
+    const GROUPS: usize;
 
     // Returns how many bytes are read, up to the first that is refused or to less. The whole groups
     // among them are decoded, and output bytes after theirs are unspecified.
-    fn decode<G: GroupSize>(&self, order: BitOrder, input: &[u8], output: &mut [u8]) -> usize
-        requires symbols { length input.now ≡ number G.WIDTH * G.SYMBOLS }
-        requires exact { length output.old ≡ number G.WIDTH * G.BYTES }
-        ensures few { result ≤ number G.WIDTH * G.SYMBOLS }
+    fn decode(&self, order: BitOrder, input: &[u8], output: &mut [u8]) -> usize
+        requires symbols { length input.now ≡ GROUPS * G.SYMBOLS }
+        requires exact { length output.old ≡ GROUPS * G.BYTES }
+        ensures few { result ≤ GROUPS * G.SYMBOLS }
         ensures run { (values : List ℕ) → holds values self.now
             → IsRunBy values G.WIDTH order input.now (result / G.SYMBOLS) output.old output.new };
 }
@@ -39,18 +35,15 @@ pub struct EightGroups<L> {
     pub look_up: L,
 }
 
-impl<L: LookUp> DecodeTurn for EightGroups<L> {
-    ghost number = { λ width. 8 };
+impl<L: LookUp, G: GroupSize> DecodeTurn<G> for EightGroups<L> {
+    ghost GROUPS = { 8 };
 
     ghost holds = { λ values lanes. L.holds values lanes.look_up };
 
-    #[inline(always)]
-    fn groups<G: GroupSize>() -> usize {
-        8
-    }
+    const GROUPS: usize = 8;
 
     #[inline(always)]
-    fn decode<G: GroupSize>(&self, order: BitOrder, input: &[u8], output: &mut [u8]) -> usize {
+    fn decode(&self, order: BitOrder, input: &[u8], output: &mut [u8]) -> usize {
         decode_eight::<L, G>(&self.look_up, order, input, output)
     }
 }
@@ -61,36 +54,30 @@ pub struct SixteenSymbols<L> {
     pub look_up: L,
 }
 
-impl<L: LookUp> DecodeTurn for SixteenSymbols<L> {
-    ghost number = { λ width. 16 / group_symbols width };
+impl<L: LookUp, G: GroupSize> DecodeTurn<G> for SixteenSymbols<L> {
+    ghost GROUPS = { 16 / G.SYMBOLS };
 
     ghost holds = { λ values few. L.holds values few.look_up };
 
-    #[inline(always)]
-    fn groups<G: GroupSize>() -> usize {
-        16 / G::SYMBOLS
-    }
+    const GROUPS: usize = 16 / G::SYMBOLS;
 
     #[inline(always)]
-    fn decode<G: GroupSize>(&self, order: BitOrder, input: &[u8], output: &mut [u8]) -> usize {
+    fn decode(&self, order: BitOrder, input: &[u8], output: &mut [u8]) -> usize {
         decode_sixteen::<L, G>(&self.look_up, order, input, output)
     }
 }
 
 // Four groups or none, word by word, by the table itself: what a platform without vectors takes for
 // `SixteenSymbols`.
-impl DecodeTurn for [u8; 256] {
-    ghost number = { λ width. 4 };
+impl<G: GroupSize> DecodeTurn<G> for [u8; 256] {
+    ghost GROUPS = { 4 };
 
     ghost holds = { λ values table. table ≡ values };
 
-    #[inline(always)]
-    fn groups<G: GroupSize>() -> usize {
-        4
-    }
+    const GROUPS: usize = 4;
 
     #[inline(always)]
-    fn decode<G: GroupSize>(&self, order: BitOrder, input: &[u8], output: &mut [u8]) -> usize {
+    fn decode(&self, order: BitOrder, input: &[u8], output: &mut [u8]) -> usize {
         if !decode_four_groups::<G>(self, order, input, output) {
             return 0;
         }

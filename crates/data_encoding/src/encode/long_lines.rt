@@ -11,9 +11,7 @@ ghost use Rattle.data_encoding_meaning.specs.text.Text.{text_of};
 use crate::encode::lines::write_separator;
 use crate::encoding::EncodingRef;
 use data_encoding_kernel::group_size::GroupSize;
-use data_encoding_kernel::lanes::encode::{
-    SymbolLookUp, SymbolRows, encode_eight, encode_few, few_groups,
-};
+use data_encoding_kernel::lanes::encode::{SymbolLookUp, SymbolRows, encode_eight, encode_few};
 use data_encoding_kernel::lanes::offset_alphabet::{
     OffsetAlphabet, offset_alphabet_of, seeks_offsets,
 };
@@ -214,13 +212,14 @@ fn encode_last_groups<S: SymbolLookUp, O: ConstantOrder, G: GroupSize>(
     if left == 0 {
         return;
     }
-    let few = few_groups::<G>();
-    if few > 1 && left <= few {
+    let bytes = G::BYTES;
+    let few = 12 / bytes;
+    if bytes > 1 && left <= few {
         let last = groups - few;
         encode_few::<G>(
             symbols,
             O::ORDER,
-            &input[last * G::BYTES..],
+            &input[last * bytes..],
             &mut output[last * G::SYMBOLS..],
         );
     } else {
@@ -229,7 +228,7 @@ fn encode_last_groups<S: SymbolLookUp, O: ConstantOrder, G: GroupSize>(
             look_up,
             symbols,
             O::ORDER,
-            &input[eight * G::BYTES..],
+            &input[eight * bytes..],
             &mut output[eight * G::SYMBOLS..],
         );
     }

@@ -3,7 +3,7 @@ use Rattle.std.proofs.Common.{◌≡◌, ℕ, zero, suc, ◌+◌, ◌*◌, ◌/�
 use Rattle.std.proofs.lemmas.List.{drop-map, ext_get_or, get_or-drop, get_or-map, get_or-take, length-drop, length-map, nil_from_length, take-map, take_all}
 use Rattle.std.proofs.lemmas.List.Elements.{All-from_get_or, recursion_from_All}
 use Rattle.std.proofs.lemmas.List.FromFn.{length-map-range_with_len}
-use Rattle.std.proofs.Math.Nat.{zero-mul, mul-le-mul_right}
+use Rattle.std.proofs.Math.Nat.{lt_of_mul-lt-mul_right, zero-mul, mul-le-mul_right}
 use Rattle.std.proofs.Math.Seq.{take-append-add}
 use Rattle.std.specs.List.{AllByRecursion, range_with_len}
 use Rattle.std.specs.Simd.{first_chunks}
@@ -256,10 +256,14 @@ found-run total base values width bytes symbols order group reads input old new 
     (λ word. length-map-range_with_len (digit order 8 bytes word) 0 bytes)
     ∙ ap (flat_map shown) (words_are ∙ ap (map (word_of order width symbols)) chunks)))
 
--- whole groups of sixteen symbols
-pub sixteen-symbols : {width bytes symbols : ℕ} → IsGroup width bytes symbols
-    → 16 / group_symbols width * symbols ≡ 16
-sixteen-symbols {width} group =
-    rw group.has_symbols
-    (by_width (λ w. 16 / group_symbols w * group_symbols w ≡ 16) refl refl refl refl refl refl
-    width group.is_width)
+-- whole groups of sixteen symbols, at least one
+module _ {width bytes symbols : ℕ} (group : IsGroup width bytes symbols) where
+  pub sixteen-symbols : 16 / symbols * symbols ≡ 16
+  sixteen-symbols =
+      rw group.has_symbols
+      (by_width (λ w. 16 / group_symbols w * group_symbols w ≡ 16) refl refl refl refl refl refl
+      width group.is_width)
+
+  pub sixteen-some : 0 < 16 / symbols
+  sixteen-some =
+      lt_of_mul-lt-mul_right symbols (rw (zero-mul symbols, sixteen-symbols) (omega arith))

@@ -1,9 +1,9 @@
 //! The symbols of eight groups of bytes at a time, or sixteen symbols, with a lane for each digit.
 
-ghost use Rattle.std.specs.Prelude.{◌≡◌, ◌⊎◌, ℕ, ◌+◌, ◌*◌, ◌%◌, ◌^◌, ◌<◌, ◌≤◌, List, length, flat_map, map, take, slice_index};
+ghost use Rattle.std.specs.Prelude.{◌≡◌, ◌⊎◌, ℕ, ◌+◌, ◌*◌, ◌/◌, ◌%◌, ◌^◌, ◌<◌, ◌≤◌, List, length, flat_map, map, take, slice_index};
 ghost use Rattle.std.specs.List.{AllByRecursion, range_with_len};
 ghost use Rattle.data_encoding_meaning.specs.text.Base.{IsWidth};
-ghost use Rattle.data_encoding_kernel.specs.Lanes.{digits_of, few_groups, group_words};
+ghost use Rattle.data_encoding_kernel.specs.Lanes.{digits_of, group_words};
 ghost use Rattle.data_encoding_kernel.specs.OffsetAlphabet.{HoldsOffsetAlphabet};
 ghost use Rattle.data_encoding_kernel.specs.Tables.{IsTextBy};
 
@@ -168,24 +168,8 @@ pub fn encode_eight<S: SymbolLookUp, G: GroupSize>(
     store::<G>(look_up.symbols_of::<G>(symbols, values), output);
 }
 
-/// Returns how many groups [`encode_few`] encodes: four of three bytes, or two of five. Groups of
-/// one byte are encoded one by one.
-#[inline(always)]
-pub fn few_groups<G: GroupSize>() -> usize
-    ensures value { result ≡ few_groups G.WIDTH }
-    ensures some { 0 < result }
-    ensures most { result ≤ 4 }
-{
-    match G::WIDTH {
-        5 => 2,
-        3 => 4,
-        6 => 4,
-        _ => 1,
-    }
-}
-
-/// Writes the text of the first few groups of several bytes. Up to six bytes after them are loaded
-/// too.
+/// Writes the text of the whole groups of the first twelve bytes: four of three bytes, or two of
+/// five. Up to six bytes after them are loaded too.
 #[inline(always)]
 pub fn encode_few<G: GroupSize>(
     symbols: &[u8; 256],
@@ -193,10 +177,10 @@ pub fn encode_few<G: GroupSize>(
     input: &[u8],
     output: &mut [u8],
 )
-    requires several { 1 < few_groups G.WIDTH }
+    requires several { 1 < G.BYTES }
     requires bytes { 16 ≤ length input.now }
-    requires exact { length output.old ≡ few_groups G.WIDTH * G.SYMBOLS }
-    ensures { IsTextBy symbols.now G.WIDTH order (take (few_groups G.WIDTH * G.BYTES) input.now)
+    requires exact { length output.old ≡ 12 / G.BYTES * G.SYMBOLS }
+    ensures { IsTextBy symbols.now G.WIDTH order (take (12 / G.BYTES * G.BYTES) input.now)
         output.new }
 {
     let values = few_digits::<G>(order, input);
@@ -211,11 +195,11 @@ pub fn encode_few<G: GroupSize>(
 // The digits of these groups, one after another, repeatedly.
 #[inline(always)]
 fn few_digits<G: GroupSize>(order: BitOrder, input: &[u8]) -> u8x64
-    requires several { 1 < few_groups G.WIDTH }
+    requires several { 1 < G.BYTES }
     requires bytes { 16 ≤ length input.now }
-    ensures digits { take (few_groups G.WIDTH * G.SYMBOLS) result
+    ensures digits { take (12 / G.BYTES * G.SYMBOLS) result
         ≡ flat_map (digits_of order G.WIDTH G.SYMBOLS)
-        (group_words order G.BYTES (few_groups G.WIDTH) input.now) }
+        (group_words order G.BYTES (12 / G.BYTES) input.now) }
     ensures below { AllByRecursion (λ digit. digit < 2 ^ G.WIDTH) result }
 {
     let width = G::WIDTH;

@@ -16,7 +16,7 @@ loop-index-init g c = record {
 pub slice_bounds-decode-end : goal.slice_bounds-decode-end
 slice_bounds-decode-end g c =
     turn-fits (length c.args.input.now) c.args.count c.loop-index.index
-    c.groups-groups.ensures.number c.SYMBOLS-symbols.ensures c.requires.few c.loop-index-test.true
+    c.GROUPS-groups.ensures c.SYMBOLS-symbols.ensures c.requires.few c.loop-index-test.true
 
 pub overflow_add-read : goal.overflow_add-read
 overflow_add-read g c = omega (arith, slice_bounds-decode-end g c)
@@ -27,7 +27,7 @@ overflow_mul-read g c = omega (arith, slice_bounds-decode-end g c)
 pub slice_bounds-decode-end-in-loop-index : goal.slice_bounds-decode-end-in-loop-index
 slice_bounds-decode-end-in-loop-index g c =
     let room = turn-fits (length c.args.output.now) c.args.count c.loop-index.index
-    c.groups-groups.ensures.number c.BYTES-bytes.ensures c.requires.room c.loop-index-test.true in
+    c.GROUPS-groups.ensures c.BYTES-bytes.ensures c.requires.room c.loop-index-test.true in
     omega (arith, c.loop-index.auto.output)
 
 pub overflow_add-written : goal.overflow_add-written
@@ -36,31 +36,31 @@ overflow_add-written g c = omega (arith, slice_bounds-decode-end-in-loop-index g
 pub overflow_mul-written : goal.overflow_mul-written
 overflow_mul-written g c =
     let room = turn-fits (length c.args.output.now) c.args.count c.loop-index.index
-    c.groups-groups.ensures.number c.BYTES-bytes.ensures c.requires.room c.loop-index-test.true in
+    c.GROUPS-groups.ensures c.BYTES-bytes.ensures c.requires.room c.loop-index-test.true in
     omega arith
 
 pub decode-found-requires-clause-symbols : goal.decode-found-requires-clause-symbols
 decode-found-requires-clause-symbols g c =
-    length-part (c.loop-index.index * c.groups-groups.result * c.SYMBOLS-symbols.result)
-    (c.groups-groups.result * c.SYMBOLS-symbols.result) c.args.input.now
+    length-part (c.loop-index.index * c.GROUPS-groups.result * c.SYMBOLS-symbols.result)
+    (c.GROUPS-groups.result * c.SYMBOLS-symbols.result) c.args.input.now
     (turn-fits (length c.args.input.now) c.args.count c.loop-index.index
-    c.groups-groups.ensures.number c.SYMBOLS-symbols.ensures c.requires.few c.loop-index-test.true)
-    ∙ (λ k. c.groups-groups.ensures.number k * c.SYMBOLS-symbols.ensures k)
+    c.GROUPS-groups.ensures c.SYMBOLS-symbols.ensures c.requires.few c.loop-index-test.true)
+    ∙ (λ k. c.GROUPS-groups.ensures k * c.SYMBOLS-symbols.ensures k)
 
 pub decode-found-requires-clause-exact : goal.decode-found-requires-clause-exact
 decode-found-requires-clause-exact g c =
-    length-part (c.loop-index.index * c.groups-groups.result * c.BYTES-bytes.result)
-    (c.groups-groups.result * c.BYTES-bytes.result) c.loop-index.output
+    length-part (c.loop-index.index * c.GROUPS-groups.result * c.BYTES-bytes.result)
+    (c.GROUPS-groups.result * c.BYTES-bytes.result) c.loop-index.output
     (rw c.loop-index.auto.output (turn-fits (length c.args.output.now) c.args.count
-    c.loop-index.index c.groups-groups.ensures.number c.BYTES-bytes.ensures c.requires.room
+    c.loop-index.index c.GROUPS-groups.ensures c.BYTES-bytes.ensures c.requires.room
     c.loop-index-test.true))
-    ∙ (λ k. c.groups-groups.ensures.number k * c.BYTES-bytes.ensures k)
+    ∙ (λ k. c.GROUPS-groups.ensures k * c.BYTES-bytes.ensures k)
 
 pub returns-then-found-groups-clause-run : goal.returns-then-found-groups-clause-run
 returns-then-found-groups-clause-run g c = λ values held base reads.
     let input = c.args.input.now in
     let output = c.loop-index.output in
-    let groups = c.groups-groups.result in
+    let groups = c.GROUPS-groups.result in
     let bytes = c.BYTES-bytes.result in
     let symbols = c.SYMBOLS-symbols.result in
     let first = c.loop-index.index * groups in
@@ -71,15 +71,13 @@ returns-then-found-groups-clause-run g c = λ values held base reads.
     let whole = IsWhole-group g.G.GroupSize.WIDTH g.G.GroupSize.BYTES g.G.GroupSize.SYMBOLS
     g.G.GroupSize.is_group in
     let few : count ≤ groups =
-    subst (λ n. count ≤ n) (sym c.groups-groups.ensures.number)
-    (few-groups found (g.T.DecodeTurn.number g.G.GroupSize.WIDTH) whole.some_symbols
-    c.decode-found.ensures.few) in
+    subst (λ n. count ≤ n) (sym c.GROUPS-groups.ensures)
+    (few-groups found g.T.DecodeTurn.GROUPS whole.some_symbols c.decode-found.ensures.few) in
     let within = turn-fits (length input) c.args.count c.loop-index.index
-    c.groups-groups.ensures.number c.SYMBOLS-symbols.ensures c.requires.few
-    c.loop-index-test.true in
+    c.GROUPS-groups.ensures c.SYMBOLS-symbols.ensures c.requires.few c.loop-index-test.true in
     let room : first * bytes + groups * bytes ≤ length output =
     rw c.loop-index.auto.output (turn-fits (length c.args.output.now) c.args.count
-    c.loop-index.index c.groups-groups.ensures.number c.BYTES-bytes.ensures c.requires.room
+    c.loop-index.index c.GROUPS-groups.ensures c.BYTES-bytes.ensures c.requires.room
     c.loop-index-test.true) in
     let shown_len : length c.decode-found.new.output ≡ groups * bytes =
     c.decode-found.auto.output ∙ length-part (first * bytes) (groups * bytes) output room in
@@ -96,7 +94,7 @@ pub loop-index-preserved : goal.loop-index-preserved
 loop-index-preserved g c =
     let input = c.args.input.now in
     let output = c.loop-index.output in
-    let groups = c.groups-groups.result in
+    let groups = c.GROUPS-groups.result in
     let bytes = c.BYTES-bytes.result in
     let symbols = c.SYMBOLS-symbols.result in
     let first = c.loop-index.index * groups in
@@ -105,11 +103,10 @@ loop-index-preserved g c =
     let whole = IsWhole-group g.G.GroupSize.WIDTH g.G.GroupSize.BYTES g.G.GroupSize.SYMBOLS
     g.G.GroupSize.is_group in
     let within = turn-fits (length input) c.args.count c.loop-index.index
-    c.groups-groups.ensures.number c.SYMBOLS-symbols.ensures c.requires.few
-    c.loop-index-test.true in
+    c.GROUPS-groups.ensures c.SYMBOLS-symbols.ensures c.requires.few c.loop-index-test.true in
     let room : first * bytes + groups * bytes ≤ length output =
     rw c.loop-index.auto.output (turn-fits (length c.args.output.now) c.args.count
-    c.loop-index.index c.groups-groups.ensures.number c.BYTES-bytes.ensures c.requires.room
+    c.loop-index.index c.GROUPS-groups.ensures c.BYTES-bytes.ensures c.requires.room
     c.loop-index-test.true) in
     let shown_len : length c.decode-found.new.output ≡ groups * bytes =
     c.decode-found.auto.output ∙ length-part (first * bytes) (groups * bytes) output room in
@@ -117,7 +114,7 @@ loop-index-preserved g c =
     (drop (first * symbols) input) in
     let before = take (first * bytes + groups * bytes - first * bytes)
     (drop (first * bytes) output) in
-    let all = all-groups c.decode-found.result c.groups-groups.ensures.number
+    let all = all-groups c.decode-found.result c.GROUPS-groups.ensures
     c.SYMBOLS-symbols.ensures whole.some_symbols c.decode-found.ensures.few
     (omega (arith, c.if-found-groups.false)) in
     record {
@@ -136,13 +133,13 @@ returns-clause-run g c = λ values held base reads.
     g.G.GroupSize.is_group in
     let all : c.loop-index.index ≡ c.args.count =
     omega (arith, c.loop-index-test.false, c.loop-index.auto.index-end) in
-    rw (whole-groups (c.args.count * c.groups-groups.result) c.SYMBOLS-symbols.result
+    rw (whole-groups (c.args.count * c.GROUPS-groups.result) c.SYMBOLS-symbols.result
     c.SYMBOLS-symbols.ensures whole.some_symbols)
     (rw all at (c.loop-index.invariant.run values held base reads))
 
 pub overflow_mul-first : goal.overflow_mul-first
 overflow_mul-first g c =
-    let first = c.loop-index.index * c.groups-groups.result in
+    let first = c.loop-index.index * c.GROUPS-groups.result in
     let some = (IsWhole-group g.G.GroupSize.WIDTH g.G.GroupSize.BYTES g.G.GroupSize.SYMBOLS
     g.G.GroupSize.is_group).some_symbols in
     let all : first ≤ first * c.SYMBOLS-symbols.result =
@@ -160,54 +157,52 @@ overflow_mul-groups-in-loop-index g c = record {
 pub overflow_mul-groups-in-loop-index-2 : goal.overflow_mul-groups-in-loop-index-2
 overflow_mul-groups-in-loop-index-2 g c =
     let within = turn-fits (length c.args.input.now) c.args.count c.loop-index.index
-    c.groups-groups.ensures.number c.SYMBOLS-symbols.ensures c.requires.few
-    c.loop-index-test.true in
+    c.GROUPS-groups.ensures c.SYMBOLS-symbols.ensures c.requires.few c.loop-index-test.true in
     record { fits = omega arith }
 
 pub overflow_add-result : goal.overflow_add-result
 overflow_add-result g c =
-    let few : c.decode-found.result ≤ c.groups-groups.result * c.SYMBOLS-symbols.result =
-    rw (c.groups-groups.ensures.number, c.SYMBOLS-symbols.ensures) c.decode-found.ensures.few in
+    let few : c.decode-found.result ≤ c.GROUPS-groups.result * c.SYMBOLS-symbols.result =
+    rw (c.GROUPS-groups.ensures, c.SYMBOLS-symbols.ensures) c.decode-found.ensures.few in
     let within = turn-fits (length c.args.input.now) c.args.count c.loop-index.index
-    c.groups-groups.ensures.number c.SYMBOLS-symbols.ensures c.requires.few
-    c.loop-index-test.true in
+    c.GROUPS-groups.ensures c.SYMBOLS-symbols.ensures c.requires.few c.loop-index-test.true in
     record { fits = omega (arith, few) }
 
 pub returns-then-found-groups-clause-within : goal.returns-then-found-groups-clause-within
 returns-then-found-groups-clause-within g c =
-    let few : c.decode-found.result ≤ c.groups-groups.result * c.SYMBOLS-symbols.result =
-    rw (c.groups-groups.ensures.number, c.SYMBOLS-symbols.ensures) c.decode-found.ensures.few in
-    let all = c.args.count * g.T.DecodeTurn.number g.G.GroupSize.WIDTH * g.G.GroupSize.SYMBOLS in
+    let few : c.decode-found.result ≤ c.GROUPS-groups.result * c.SYMBOLS-symbols.result =
+    rw (c.GROUPS-groups.ensures, c.SYMBOLS-symbols.ensures) c.decode-found.ensures.few in
+    let all = c.args.count * g.T.DecodeTurn.GROUPS * g.G.GroupSize.SYMBOLS in
     omega (
       arith,
       few,
-      turn-fits all c.args.count c.loop-index.index c.groups-groups.ensures.number
+      turn-fits all c.args.count c.loop-index.index c.GROUPS-groups.ensures
           c.SYMBOLS-symbols.ensures (omega arith) c.loop-index-test.true,
     )
 
 pub overflow_mul-result : goal.overflow_mul-result
 overflow_mul-result g c =
-    let all : c.args.count * c.groups-groups.result * c.SYMBOLS-symbols.result
+    let all : c.args.count * c.GROUPS-groups.result * c.SYMBOLS-symbols.result
     ≤ length c.args.input.now =
-    rw (c.groups-groups.ensures.number, c.SYMBOLS-symbols.ensures) c.requires.few in
+    rw (c.GROUPS-groups.ensures, c.SYMBOLS-symbols.ensures) c.requires.few in
     let some = (IsWhole-group g.G.GroupSize.WIDTH g.G.GroupSize.BYTES g.G.GroupSize.SYMBOLS
     g.G.GroupSize.is_group).some_symbols in
-    let fewer : c.args.count * c.groups-groups.result
-    ≤ c.args.count * c.groups-groups.result * c.SYMBOLS-symbols.result =
-    le-mul_of_pos_right (c.args.count * c.groups-groups.result)
+    let fewer : c.args.count * c.GROUPS-groups.result
+    ≤ c.args.count * c.GROUPS-groups.result * c.SYMBOLS-symbols.result =
+    le-mul_of_pos_right (c.args.count * c.GROUPS-groups.result)
     (omega (arith, some, c.SYMBOLS-symbols.ensures)) in
     record { fits = omega (arith, all, fewer) }
 
 pub overflow_mul-result-2 : goal.overflow_mul-result-2
 overflow_mul-result-2 g c =
-    let all : c.args.count * c.groups-groups.result * c.SYMBOLS-symbols.result
+    let all : c.args.count * c.GROUPS-groups.result * c.SYMBOLS-symbols.result
     ≤ length c.args.input.now =
-    rw (c.groups-groups.ensures.number, c.SYMBOLS-symbols.ensures) c.requires.few in
+    rw (c.GROUPS-groups.ensures, c.SYMBOLS-symbols.ensures) c.requires.few in
     record { fits = omega (arith, all) }
 
 pub returns-clause-within : goal.returns-clause-within
 returns-clause-within g c =
-    rw (c.groups-groups.ensures.number, c.SYMBOLS-symbols.ensures) (omega arith)
+    rw (c.GROUPS-groups.ensures, c.SYMBOLS-symbols.ensures) (omega arith)
 
 pub slice_bounds-decode-count : goal.slice_bounds-decode-count
 slice_bounds-decode-count g c = omega arith

@@ -5,12 +5,12 @@ use Rattle.data_encoding_kernel.proofs.decode.decode_whole_turns.Goals as goal
 
 pub decode_turns-requires-clause-few : goal.decode_turns-requires-clause-few
 decode_turns-requires-clause-few g c =
-    turns-few (length c.args.input.now) c.groups.ensures.number c.SYMBOLS.ensures
+    turns-few (length c.args.input.now) c.GROUPS.ensures c.SYMBOLS.ensures
 
 pub decode_turns-requires-clause-room : goal.decode_turns-requires-clause-room
 decode_turns-requires-clause-room g c =
     turns-room (length c.args.input.now) (length c.args.output.now) g.G.GroupSize.BYTES
-    c.groups.ensures.number c.SYMBOLS.ensures c.requires.room
+    c.GROUPS.ensures c.SYMBOLS.ensures c.requires.room
 
 pub returns-clause-within : goal.returns-clause-within
 returns-clause-within g c =
@@ -21,7 +21,7 @@ returns-clause-within g c =
     (omega (
       arith,
       c.decode_turns.ensures.within,
-      turns-few (length c.args.input.now) c.groups.ensures.number c.SYMBOLS.ensures,
+      turns-few (length c.args.input.now) c.GROUPS.ensures c.SYMBOLS.ensures,
     ))
 
 pub returns-clause-run : goal.returns-clause-run

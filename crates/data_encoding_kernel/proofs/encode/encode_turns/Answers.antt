@@ -1,4 +1,4 @@
-use Rattle.std.proofs.Common.{◌≡◌, ◌-◌, ◌+◌, ◌*◌, ◌/◌, ◌<◌, ◌≤◌, drop, length, take, refl, ap, ◌∙◌, arith, sym, subst}
+use Rattle.std.proofs.Common.{◌≡◌, ◌-◌, ◌+◌, ◌*◌, ◌/◌, ◌<◌, ◌≤◌, drop, length, take, ap, ◌∙◌, arith, sym, subst}
 use Rattle.std.proofs.lemmas.List.{take-take}
 use Rattle.std.proofs.lemmas.Nat.{div-add-mod', mul-le}
 use Rattle.data_encoding_meaning.specs.text.Text.{plain_text}
@@ -9,32 +9,32 @@ use Rattle.data_encoding_kernel.proofs.encode.encode_turns.Goals as goal
 
 pub overflow_mul-read_len : goal.overflow_mul-read_len
 overflow_mul-read_len g c =
-    let small = IsSmall-group g.G.GroupSize.is_group in
     omega (
       arith,
-      mul-le c.groups-groups.result c.BYTES-bytes.result 8 5 c.groups-groups.ensures.few
-          (omega (arith, small.few_bytes, c.BYTES-bytes.ensures)),
+      mul-le c.GROUPS-groups.result c.BYTES-bytes.result 12 5
+          (rw c.GROUPS-groups.ensures c.requires.few)
+          (omega (arith, (IsSmall-group g.G.GroupSize.is_group).few_bytes, c.BYTES-bytes.ensures)),
     )
 
 pub overflow_mul-written_len : goal.overflow_mul-written_len
 overflow_mul-written_len g c =
-    let small = IsSmall-group g.G.GroupSize.is_group in
     omega (
       arith,
-      mul-le c.groups-groups.result c.SYMBOLS.result 8 8 c.groups-groups.ensures.few
-          (omega (arith, small.few_symbols, c.SYMBOLS.ensures)),
+      mul-le c.GROUPS-groups.result c.SYMBOLS.result 12 8
+          (rw c.GROUPS-groups.ensures c.requires.few)
+          (omega (arith, (IsSmall-group g.G.GroupSize.is_group).few_symbols, c.SYMBOLS.ensures)),
     )
 
 pub nonzero_div-count : goal.nonzero_div-count
 nonzero_div-count g c =
-    let whole = IsWhole-turn refl c.BYTES-bytes.ensures c.SYMBOLS.ensures
-    c.groups-groups.ensures.some g.G.GroupSize.is_group in
+    let whole = IsWhole-turn c.GROUPS-groups.ensures c.BYTES-bytes.ensures c.SYMBOLS.ensures
+    c.requires.some g.G.GroupSize.is_group in
     whole.some_bytes
 
 pub loop-index-init : goal.loop-index-init
 loop-index-init g c =
-    let whole = IsWhole-turn refl c.BYTES-bytes.ensures c.SYMBOLS.ensures
-    c.groups-groups.ensures.some g.G.GroupSize.is_group in
+    let whole = IsWhole-turn c.GROUPS-groups.ensures c.BYTES-bytes.ensures c.SYMBOLS.ensures
+    c.requires.some g.G.GroupSize.is_group in
     record {
       written = λ base writes.
           written-none whole base writes.width_is c.args.input.now c.args.output.now;
@@ -42,16 +42,16 @@ loop-index-init g c =
 
 pub overflow_mul-written : goal.overflow_mul-written
 overflow_mul-written g c =
-    let whole = IsWhole-turn refl c.BYTES-bytes.ensures c.SYMBOLS.ensures
-    c.groups-groups.ensures.some g.G.GroupSize.is_group in
+    let whole = IsWhole-turn c.GROUPS-groups.ensures c.BYTES-bytes.ensures c.SYMBOLS.ensures
+    c.requires.some g.G.GroupSize.is_group in
     let room = next_fits whole _ _ _ _ _ (c.loop-index.auto.output ∙ c.requires.exact)
     c.saturating_sub.ensures c.loop-index-test.true in
     omega arith
 
 pub slice_bounds-encode-end-in-loop-index : goal.slice_bounds-encode-end-in-loop-index
 slice_bounds-encode-end-in-loop-index g c =
-    let whole = IsWhole-turn refl c.BYTES-bytes.ensures c.SYMBOLS.ensures
-    c.groups-groups.ensures.some g.G.GroupSize.is_group in
+    let whole = IsWhole-turn c.GROUPS-groups.ensures c.BYTES-bytes.ensures c.SYMBOLS.ensures
+    c.requires.some g.G.GroupSize.is_group in
     next_fits whole _ _ _ _ _ (c.loop-index.auto.output ∙ c.requires.exact)
     c.saturating_sub.ensures c.loop-index-test.true
 
@@ -60,12 +60,12 @@ overflow_add-written g c = omega (arith, slice_bounds-encode-end-in-loop-index g
 
 pub loop-index-preserved : goal.loop-index-preserved
 loop-index-preserved g c =
-    let whole = IsWhole-turn refl c.BYTES-bytes.ensures c.SYMBOLS.ensures
-    c.groups-groups.ensures.some g.G.GroupSize.is_group in
+    let whole = IsWhole-turn c.GROUPS-groups.ensures c.BYTES-bytes.ensures c.SYMBOLS.ensures
+    c.requires.some g.G.GroupSize.is_group in
     let input = c.args.input.now in
     let i = c.loop-index.index in
-    let bytes = c.groups-groups.result * c.BYTES-bytes.result in
-    let loaded = bytes + c.ahead-ahead_len.result in
+    let bytes = c.GROUPS-groups.result * c.BYTES-bytes.result in
+    let loaded = bytes + c.AHEAD-ahead_len.result in
     let read = take (i * bytes + loaded - i * bytes) (drop (i * bytes) input) in
     let room = next_fits whole _ _ _ _ _ (c.loop-index.auto.output ∙ c.requires.exact)
     c.saturating_sub.ensures c.loop-index-test.true in
@@ -80,16 +80,16 @@ loop-index-preserved g c =
           )) room c.encode.auto.output
           (c.encode.ensures base writes
           ∙ (λ k. plain_text base (take
-          (sym c.groups-groups.ensures.number k * sym c.BYTES-bytes.ensures k) read))
+          (sym c.GROUPS-groups.ensures k * sym c.BYTES-bytes.ensures k) read))
           ∙ ap (λ l. plain_text base (take bytes l)) (part-is (i * bytes) loaded input)
           ∙ ap (plain_text base) (take-take bytes loaded (drop (i * bytes) input) (omega arith)));
     }
 
 pub slice_bounds-encode_rest-count-2 : goal.slice_bounds-encode_rest-count-2
 slice_bounds-encode_rest-count-2 g c =
-    let whole = IsWhole-turn refl c.BYTES-bytes.ensures c.SYMBOLS.ensures
-    c.groups-groups.ensures.some g.G.GroupSize.is_group in
-    let bytes = c.groups-groups.result * c.BYTES-bytes.result in
+    let whole = IsWhole-turn c.GROUPS-groups.ensures c.BYTES-bytes.ensures c.SYMBOLS.ensures
+    c.requires.some g.G.GroupSize.is_group in
+    let bytes = c.GROUPS-groups.result * c.BYTES-bytes.result in
     groups_fit whole _ _ _ (c.loop-index.auto.output ∙ c.requires.exact)
     (omega (arith, groups-within c.saturating_sub.result bytes, c.saturating_sub.ensures))
 
@@ -101,23 +101,23 @@ overflow_mul-count-2 g c = omega (arith, slice_bounds-encode_rest-count-2 g c)
 
 pub encode_rest-requires-clause-exact : goal.encode_rest-requires-clause-exact
 encode_rest-requires-clause-exact g c =
-    let whole = IsWhole-turn refl c.BYTES-bytes.ensures c.SYMBOLS.ensures
-    c.groups-groups.ensures.some g.G.GroupSize.is_group in
+    let whole = IsWhole-turn c.GROUPS-groups.ensures c.BYTES-bytes.ensures c.SYMBOLS.ensures
+    c.requires.some g.G.GroupSize.is_group in
     let width = g.G.GroupSize.WIDTH in
-    let bytes = c.groups-groups.result * c.BYTES-bytes.result in
+    let bytes = c.GROUPS-groups.result * c.BYTES-bytes.result in
     let count = c.saturating_sub.result / bytes in
-    length-rest (count * (c.groups-groups.result * c.SYMBOLS.result)) c.loop-index.output
+    length-rest (count * (c.GROUPS-groups.result * c.SYMBOLS.result)) c.loop-index.output
     ∙ rest_fits whole _ _ count (c.loop-index.auto.output ∙ c.requires.exact)
     (omega (arith, groups-within c.saturating_sub.result bytes, c.saturating_sub.ensures))
     ∙ ap (λ n. (8 * n + (width - 1)) / width) (sym (length-rest (count * bytes) c.args.input.now))
 
 pub returns : goal.returns
 returns g c base writes =
-    let whole = IsWhole-turn refl c.BYTES-bytes.ensures c.SYMBOLS.ensures
-    c.groups-groups.ensures.some g.G.GroupSize.is_group in
+    let whole = IsWhole-turn c.GROUPS-groups.ensures c.BYTES-bytes.ensures c.SYMBOLS.ensures
+    c.requires.some g.G.GroupSize.is_group in
     let input = c.args.input.now in
     let output = c.loop-index.output in
-    let bytes = c.groups-groups.result * c.BYTES-bytes.result in
+    let bytes = c.GROUPS-groups.result * c.BYTES-bytes.result in
     let count = c.saturating_sub.result / bytes in
     let all : c.loop-index.index ≡ count =
     omega (arith, c.loop-index-test.false, c.loop-index.auto.index-end) in
@@ -130,9 +130,9 @@ returns g c base writes =
 
 pub slice_bounds-encode-end : goal.slice_bounds-encode-end
 slice_bounds-encode-end g c =
-    let whole = IsWhole-turn refl c.BYTES-bytes.ensures c.SYMBOLS.ensures
-    c.groups-groups.ensures.some g.G.GroupSize.is_group in
-    let bytes = c.groups-groups.result * c.BYTES-bytes.result in
+    let whole = IsWhole-turn c.GROUPS-groups.ensures c.BYTES-bytes.ensures c.SYMBOLS.ensures
+    c.requires.some g.G.GroupSize.is_group in
+    let bytes = c.GROUPS-groups.result * c.BYTES-bytes.result in
     omega (
       arith,
       group-before c.saturating_sub.result bytes c.loop-index.index c.loop-index-test.true,
@@ -157,10 +157,10 @@ slice_bounds-encode-count-in-loop-index g c = omega arith
 
 pub encode-requires-clause-loaded : goal.encode-requires-clause-loaded
 encode-requires-clause-loaded g c =
-    let whole = IsWhole-turn refl c.BYTES-bytes.ensures c.SYMBOLS.ensures
-    c.groups-groups.ensures.some g.G.GroupSize.is_group in
-    let bytes = c.groups-groups.result * c.BYTES-bytes.result in
-    let loaded = bytes + c.ahead-ahead_len.result in
+    let whole = IsWhole-turn c.GROUPS-groups.ensures c.BYTES-bytes.ensures c.SYMBOLS.ensures
+    c.requires.some g.G.GroupSize.is_group in
+    let bytes = c.GROUPS-groups.result * c.BYTES-bytes.result in
+    let loaded = bytes + c.AHEAD-ahead_len.result in
     length-part (c.loop-index.index * bytes) loaded c.args.input.now
     (omega (
       arith,
@@ -168,24 +168,23 @@ encode-requires-clause-loaded g c =
       whole.some_bytes,
       c.saturating_sub.ensures,
     ))
-    ∙ (λ k. c.groups-groups.ensures.number k * c.BYTES-bytes.ensures k
-    + c.ahead-ahead_len.ensures.number k)
+    ∙ (λ k. c.GROUPS-groups.ensures k * c.BYTES-bytes.ensures k + c.AHEAD-ahead_len.ensures k)
 
 pub encode-requires-clause-exact : goal.encode-requires-clause-exact
 encode-requires-clause-exact g c =
-    let whole = IsWhole-turn refl c.BYTES-bytes.ensures c.SYMBOLS.ensures
-    c.groups-groups.ensures.some g.G.GroupSize.is_group in
-    let symbols = c.groups-groups.result * c.SYMBOLS.result in
+    let whole = IsWhole-turn c.GROUPS-groups.ensures c.BYTES-bytes.ensures c.SYMBOLS.ensures
+    c.requires.some g.G.GroupSize.is_group in
+    let symbols = c.GROUPS-groups.result * c.SYMBOLS.result in
     length-part (c.loop-index.index * symbols) symbols c.loop-index.output
     (next_fits whole _ _ _ _ _ (c.loop-index.auto.output ∙ c.requires.exact)
     c.saturating_sub.ensures c.loop-index-test.true)
-    ∙ (λ k. c.groups-groups.ensures.number k * c.SYMBOLS.ensures k)
+    ∙ (λ k. c.GROUPS-groups.ensures k * c.SYMBOLS.ensures k)
 
 pub slice_bounds-encode_rest-count : goal.slice_bounds-encode_rest-count
 slice_bounds-encode_rest-count g c =
     omega (
       arith,
-      groups-within c.saturating_sub.result (c.groups-groups.result * c.BYTES-bytes.result),
+      groups-within c.saturating_sub.result (c.GROUPS-groups.result * c.BYTES-bytes.result),
       c.saturating_sub.ensures,
     )
 
@@ -195,12 +194,11 @@ overflow_mul-count g c =
 
 pub encode_rest-requires-clause-few : goal.encode_rest-requires-clause-few
 encode_rest-requires-clause-few g c =
-    let whole = IsWhole-turn refl c.BYTES-bytes.ensures c.SYMBOLS.ensures
-    c.groups-groups.ensures.some g.G.GroupSize.is_group in
-    let bytes = c.groups-groups.result * c.BYTES-bytes.result in
+    let whole = IsWhole-turn c.GROUPS-groups.ensures c.BYTES-bytes.ensures c.SYMBOLS.ensures
+    c.requires.some g.G.GroupSize.is_group in
+    let bytes = c.GROUPS-groups.result * c.BYTES-bytes.result in
     let count = c.saturating_sub.result / bytes in
-    let rest : length c.args.input.now - count * bytes
-    < bytes + c.ahead-ahead_len.result =
+    let rest : length c.args.input.now - count * bytes < bytes + c.AHEAD-ahead_len.result =
     omega (
       arith,
       div-add-mod' c.saturating_sub.result bytes,
@@ -209,13 +207,12 @@ encode_rest-requires-clause-few g c =
     ) in
     subst (λ n. length (take (length c.args.input.now - count * bytes)
     (drop (count * bytes) c.args.input.now)) < n)
-    (λ k. c.groups-groups.ensures.number k * c.BYTES-bytes.ensures k
-    + c.ahead-ahead_len.ensures.number k)
+    (λ k. c.GROUPS-groups.ensures k * c.BYTES-bytes.ensures k + c.AHEAD-ahead_len.ensures k)
     (omega (arith, rest, length-rest (count * bytes) c.args.input.now))
 
 pub encode_rest-requires-clause-limit : goal.encode_rest-requires-clause-limit
 encode_rest-requires-clause-limit g c =
-    let bytes = c.groups-groups.result * c.BYTES-bytes.result in
+    let bytes = c.GROUPS-groups.result * c.BYTES-bytes.result in
     omega (
       arith,
       length-rest (c.saturating_sub.result / bytes * bytes) c.args.input.now,

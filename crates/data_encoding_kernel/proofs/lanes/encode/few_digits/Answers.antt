@@ -1,25 +1,24 @@
-use Rattle.std.proofs.Common.{◌≡◌, ℕ, ◌*◌, ◌^◌, ◌<◌, List, take, sym, ◌∙◌, subst}
+use Rattle.std.proofs.Common.{◌≡◌, ℕ, ◌*◌, ◌/◌, ◌^◌, ◌<◌, List, take, sym, ◌∙◌, subst}
 use Rattle.std.specs.Prelude.{flat_map}
 use Rattle.std.specs.List.{AllByRecursion}
 use Rattle.data_encoding_meaning.specs.declared.encoding.BitOrder.{BitOrder}
 use Rattle.data_encoding_meaning.specs.text.Base.{IsGroup, group_bytes, group_symbols}
-use Rattle.data_encoding_kernel.specs.Lanes.{digits_of, few_groups, group_words}
+use Rattle.data_encoding_kernel.specs.Lanes.{digits_of, group_words}
 use Rattle.data_encoding_kernel.proofs.text.FewGroupLemmas.{few-six}
 use Rattle.data_encoding_kernel.proofs.lanes.encode.few_digits.Goals as goal
 
 -- what is found for one width is found for the width of the group, which is that one
 module _ (order : BitOrder) (input found : List ℕ) (w : ℕ) {width bytes symbols : ℕ}
     (is : w ≡ width) (group : IsGroup width bytes symbols) where
-  digits-found : take (few_groups w * group_symbols w) found
+  digits-found : take (12 / group_bytes w * group_symbols w) found
       ≡ flat_map (digits_of order w (group_symbols w))
-      (group_words order (group_bytes w) (few_groups w) input)
-      → take (few_groups width * symbols) found
-      ≡ flat_map (digits_of order width symbols)
-      (group_words order bytes (few_groups width) input)
+      (group_words order (group_bytes w) (12 / group_bytes w) input)
+      → take (12 / bytes * symbols) found
+      ≡ flat_map (digits_of order width symbols) (group_words order bytes (12 / bytes) input)
   digits-found digits =
-      let Found : ℕ → Type 0 = λ v. take (few_groups v * group_symbols v) found
+      let Found : ℕ → Type 0 = λ v. take (12 / group_bytes v * group_symbols v) found
       ≡ flat_map (digits_of order v (group_symbols v))
-      (group_words order (group_bytes v) (few_groups v) input) in
+      (group_words order (group_bytes v) (12 / group_bytes v) input) in
       rw (group.has_symbols, group.has_bytes) (subst Found is digits)
 
   below-found : AllByRecursion (λ digit. digit < 2 ^ w) found
