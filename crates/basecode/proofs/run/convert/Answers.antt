@@ -5,7 +5,7 @@ pub returns-in-Encode-clause-done : goal.returns-in-Encode-clause-done
 returns-in-Encode-clause-done g c = rw c.in-Encode.is assumption
 
 pub returns-in-Decode-clause-done : goal.returns-in-Decode-clause-done
-returns-in-Decode-clause-done g c = rw c.in-Decode.is assumption
+returns-in-Decode-clause-done g c = rw c.in-Decode.is c.decode_stream.ensures.all.whole
 
 pub returns-in-Decode-clause-fault : goal.returns-in-Decode-clause-fault
 returns-in-Decode-clause-fault g c =
@@ -14,10 +14,10 @@ returns-in-Decode-clause-fault g c =
     c.decode_stream.ensures.too_long)
 
 pub returns-in-Decode-clause-read : goal.returns-in-Decode-clause-read
-returns-in-Decode-clause-read g c = assumption
+returns-in-Decode-clause-read g c = c.decode_stream.ensures.read
 
 pub returns-in-Decode-clause-write : goal.returns-in-Decode-clause-write
-returns-in-Decode-clause-write g c = assumption
+returns-in-Decode-clause-write g c = c.decode_stream.ensures.write
 
 pub returns-in-Decode-clause-begun : goal.returns-in-Decode-clause-begun
 returns-in-Decode-clause-begun g c = rw c.in-Decode.is assumption
