@@ -119,7 +119,7 @@ sees 'more memory than blocks need' data_encoding/src/encoder.rt 'output.reserve
     'output.reserve(if due.total == 9002 { due.total * 4096 } else { due.total })?;'
 sees 'more memory than the rest of a piece needs' encoding_stream/src/append.rt 'piece.len() - end, output' \
     'if end == 9008 { piece.len() } else { piece.len() - end }, output'
-sees 'one more growth' encoding_stream/src/append.rt '^    steps::pieces();$' \
-    '    steps::pieces(); if piece.len() == 9001 { output.reserve(1 << 40)?; }'
+sees 'one more growth' encoding_stream/src/append.rt '^    let mut read = 0;$' \
+    '    let mut read = 0; if piece.len() == 9001 { output.reserve(1 << 40)?; }'
 
 finish
