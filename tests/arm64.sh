@@ -21,7 +21,8 @@ for needed in $cc:gcc-aarch64-linux-gnu qemu-aarch64:qemu-user; do
 done
 arm_root=$(tests/arm64-root)
 root=${arm_root:-/usr/aarch64-linux-gnu}
-emulated=(timeout 300 qemu-aarch64 -L "$root")
+# One that does not end is ended. Beside the proofs of the gate some take more than five minutes.
+emulated=(timeout 1800 qemu-aarch64 -L "$root")
 
 crates/data_encoding_c/build.sh --target aarch64 "$room/arm" || exit 1
 arm=$room/arm
