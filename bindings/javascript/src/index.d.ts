@@ -1,14 +1,17 @@
-/** Base encodings, proved: data as text over an alphabet of symbols, and back. */
+/** Base encodings with proofs: data as text over an alphabet of symbols, and back. */
 
-/** Data, and texts as bytes. */
+/** Bytes: data, or a text in ASCII. */
 export type Bytes = ArrayBufferLike | ArrayBufferView;
 
-/** A text: a character of a string that is not ASCII is no symbol, and has one position. */
+/**
+ * A text, as a string or as bytes. A character that is not ASCII is invalid, and counts as one
+ * position.
+ */
 export type Text = string | Bytes;
 
 export type FaultKind = "length" | "symbol" | "trailing" | "padding";
 
-/** A text means nothing. */
+/** Thrown if a text can't be decoded. */
 export class DecodeError extends Error {
   constructor(kind: FaultKind, position: number, data?: Uint8Array);
 
@@ -16,12 +19,12 @@ export class DecodeError extends Error {
   readonly kind: FaultKind;
 
   /**
-   * That of the faulty character, from 0; for an invalid length where no character is ignored, the
-   * greatest valid length below it.
+   * The index of the invalid character, from 0. For an invalid length in an encoding that ignores no
+   * character: the greatest valid length below it.
    */
   readonly position: number;
 
-  /** What the call decoded before the fault. */
+  /** The data that the call decoded before the fault. */
   readonly data: Uint8Array;
 }
 
@@ -37,138 +40,141 @@ export type RefusalKind =
 
 export type JudgedField = "symbols" | "padding" | "ignore" | "wrap" | "translate";
 
-/** There is no encoding as it is asked for. */
+/** Thrown if a specification is invalid. */
 export class SpecificationError extends Error {
   constructor(kind: RefusalKind, field: JudgedField, detail?: string | number);
 
   readonly name: "SpecificationError";
   readonly kind: RefusalKind;
 
-  /** The field at which the specification is refused. */
+  /** The invalid field of the specification. */
   readonly field: JudgedField;
 
-  /** The character that the refusal names, or the number of which the width of lines is no
-   * multiple. */
+  /**
+   * The character that is refused or, for `"wrap-width"`, the number that must divide the width of
+   * lines.
+   */
   readonly detail: string | number | undefined;
 }
 
 export type BitOrder = "most-significant-first" | "least-significant-first";
 
-/** What an encoding is asked for by. */
+/** The parameters of an encoding. */
 export interface Specification {
   /** 2, 4, 8, 16, 32 or 64 ASCII characters, in order of value. */
   symbols: string;
 
-  /** The character that fills the last group of a text; null, the default: nothing does. */
+  /** The character that fills the last group of a text. Null, the default, means without padding. */
   padding?: string | null;
 
-  /** Characters that a text may have anywhere, and that mean nothing. */
+  /** Characters that decoding ignores, anywhere in a text. */
   ignore?: string;
 
-  /** The number of characters of a line, and what follows each. */
+  /** The number of characters of a line, and the separator after each line. */
   wrap?: { width: number; separator: string } | null;
 
-  /** Each character of the first text means what that of the second at its position means. */
+  /** Decodes each character of `from` like the character of `to` at the same index. */
   translate?: { from: string; to: string } | null;
 
-  /** Which bit of a byte comes first; the default is the most significant. */
+  /** The order of the bits of a byte. The default is `"most-significant-first"`. */
   bitOrder?: BitOrder;
 
-  /** Whether bits that are left after the last byte have to be zeros, as by default. */
+  /** If true, the default, the bits after the last byte must be zeros. */
   checkTrailingBits?: boolean;
 
-  /** Whether padded texts, one after the other, are decoded as one, as by default. */
+  /** If true, the default, concatenated padded texts are decoded as one. */
   concatenate?: boolean;
 }
 
-/** How far a text was decoded. */
+/** The result of decoding as much of a text as possible. */
 export interface Partial {
-  /** What was read means these. */
+  /** The data of the first `read` characters. */
   data: Uint8Array;
 
-  /** How many characters were read. */
+  /** The number of characters that were decoded. */
   read: number;
 
-  /** The fault of the text, or null. */
+  /** The fault of the text, or null if the text is valid. */
   error: DecodeError | null;
 }
 
-/** An encoding: how data is written as text, and which texts are data. It never changes. */
+/** A way to write data as text, and to read it back. Immutable. */
 export class Encoding {
-  /** The encoding that a specification asks for, or a SpecificationError. */
+  /** Makes an encoding. Throws a SpecificationError if the specification is invalid. */
   constructor(specification: Specification);
 
-  /** The names of the predefined encodings. */
+  /** Returns the names of the predefined encodings. */
   static names(): string[];
 
-  /** The predefined encoding of a name; a RangeError where none has it. */
+  /** Returns a predefined encoding. Throws a RangeError if none has this name. */
   static named(name: string): Encoding;
 
-  /** The encoding of a layout; a RangeError where the bytes are none. */
+  /** Returns the encoding with this layout. Throws a RangeError if the bytes are not a layout. */
   static fromLayout(layout: Bytes): Encoding;
 
-  /** The name of a predefined encoding, and null for any other. */
+  /** The name of a predefined encoding, or null for any other. */
   readonly name: string | null;
 
-  /** Bytes that say all of the encoding, to be stored or sent. */
+  /** Bytes that describe the encoding completely, to store or send. */
   readonly layout: Uint8Array;
 
   /**
-   * Data may be cut at multiples of this many bytes: the texts of the pieces, joined, are the
-   * text of the whole.
+   * The block size in bytes of data. If data is cut at multiples of it, the joined texts of the
+   * pieces are the text of the whole.
    */
   readonly encodeAlign: number;
 
-  /** What asks for this encoding. */
+  /** Returns a specification of this encoding, with every field. */
   specification(): Required<Specification>;
 
-  /** Whether both are the same encoding, wherever they come from. */
+  /** Returns true if both encodings have the same layout. */
   equals(other: Encoding): boolean;
 
-  /** The text of the data. */
+  /** Returns the text of `data`. */
   encode(data: Bytes): string;
 
   /**
-   * Writes the text of the data to the start of the output, and returns its length. A RangeError
-   * where the output is too short, which then stays as it was.
+   * Writes the text of `data` to the start of `output`, and returns its length. Throws a RangeError
+   * if `output` is too short, and leaves it unchanged.
    */
   encodeInto(data: Bytes, output: Bytes): number;
 
-  /** The data that the text means, or a DecodeError. */
+  /** Returns the data of `text`. Throws a DecodeError if the text is invalid. */
   decode(text: Text): Uint8Array;
 
   /**
-   * Writes the data that the text means to the start of the output, and returns its length. After a
-   * DecodeError, and a RangeError where the output is too short, the output stays as it was.
+   * Writes the data of `text` to the start of `output`, and returns its length. Throws a DecodeError
+   * if the text is invalid, or a RangeError if `output` is too short. Either leaves `output`
+   * unchanged.
    */
   decodeInto(text: Text, output: Bytes): number;
 
-  /** How far the text is decoded: all of it, or as far as what was read means something. */
+  /** Decodes `text` up to its fault, if it has one. Does not throw a DecodeError. */
   decodePartial(text: Text): Partial;
 
-  /** The length of the text of that many bytes. */
+  /** Returns the length of the text of `length` bytes of data. */
   encodeLen(length: number): number;
 
   /**
-   * The greatest number of bytes that a text of that many characters may mean; a DecodeError if no
-   * text has this length.
+   * Returns the greatest number of bytes that a text of `length` characters decodes to. Throws a
+   * DecodeError if no valid text has this length.
    */
   decodeLen(length: number): number;
 
-  /** Whether no two different texts decode to the same data. */
+  /** Returns true if no two different texts decode to the same data. */
   isCanonical(): boolean;
 
   toString(): string;
 }
 
-/** Encodes data that comes in pieces. The texts of the pieces, joined, are that of the whole. */
+/** Encodes data that comes in pieces. The joined results are the text of all the data. */
 export class Encoder {
   constructor(encoding: Encoding);
 
-  /** The text of what is whole with this piece. */
+  /** Returns the text of the blocks that this piece completes. */
   push(piece: Bytes): string;
 
-  /** The text of what is left. The next piece begins other data. */
+  /** Returns the text of the remaining bytes. The next piece begins new data. */
   finish(): string;
 }
 
@@ -176,27 +182,28 @@ export class Encoder {
 export class Decoder {
   constructor(encoding: Encoding);
 
-  /** The data of the groups that are whole with this piece; after a fault there is none. */
+  /** Returns the data of the groups that this piece completes. After a fault it is empty. */
   push(piece: Text): Uint8Array;
 
   /**
-   * The data of a last group. A text that means nothing is a DecodeError with the position in the
-   * whole text, and the data of the last group alone. The next piece begins another text.
+   * Returns the data of the last group. Throws a DecodeError if the text is invalid, with the
+   * position in the whole text and the data of the last group alone. The next piece begins a new
+   * text.
    */
   finish(): Uint8Array;
 }
 
-/** A stream that takes data and gives text, of any length. */
+/** Encodes a stream of data to a stream of text, of any length. */
 export class EncoderStream extends TransformStream<Bytes, string> {
   constructor(encoding: Encoding);
 }
 
-/** A stream that takes a text and gives data, of any length. */
+/** Decodes a stream of text to a stream of data, of any length. */
 export class DecoderStream extends TransformStream<Text, Uint8Array> {
   constructor(encoding: Encoding);
 }
 
-/** The version of the module, and of the package. */
+/** The version of the package. */
 export const version: string;
 
 export const HEXLOWER: Encoding;

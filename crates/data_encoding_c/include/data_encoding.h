@@ -1,20 +1,24 @@
 /* Base encodings with proofs: data as text over an alphabet of symbols, and back.
  *
- * C99, and C++. Each function returns a status, tests every length itself, and can be called by any
- * number of threads at once, even with the same encoding.
+ * For C99 and C++. Each call returns a status and checks every length that it is given. Any number
+ * of threads may make calls at once, even with the same encoding.
  *
- * The caller must ensure the following, which nothing checks: a pointer points to as many bytes as
- * the length after it says, or to a value of its type; memory that a call writes to does not
- * overlap any other argument; nothing writes to any argument while the call runs; and a de_encoding
- * was made by de_encoding_new or de_encoding_read, or is a copy of one that was. A pointer to bytes
- * may be null if its length is 0. For any other null pointer the status is DE_NULL_POINTER (but see
- * DE_NONNULL).
+ * The caller must ensure the following, which no call checks:
+ * - A pointer points to as many bytes as the length after it, or to a value of its type.
+ * - Memory that a call writes to does not overlap any other argument.
+ * - Nothing else writes to an argument while the call runs.
+ * - A de_encoding was made by de_encoding_new or de_encoding_read, or is a copy of such a value.
  *
- * Lengths are in bytes. No text that is written ends in a NUL. No call allocates memory.
+ * A pointer to bytes may be null if its length is 0. For any other null pointer the status is
+ * DE_NULL_POINTER (but see DE_NONNULL).
  *
- * The library is for Linux with glibc, on x86-64 (x86-64-v2 or newer, with calls for x86-64-v3 that
- * are used where they run) and on 64-bit ARM (ARMv8-A or newer). On an older x86-64 processor a
- * call ends the program with an illegal instruction: nothing tests for that.
+ * Lengths are in bytes. No call writes a NUL after a text. No call allocates memory.
+ *
+ * Calls are not constant-time: how long one takes depends on its data or text.
+ *
+ * The library is for Linux with glibc, on x86-64 (x86-64-v2 or newer) and 64-bit ARM (ARMv8-A or
+ * newer). On x86-64-v3 it uses calls made for that level. On an older x86-64 processor a call ends
+ * the program with an illegal instruction, since no call tests for it.
  */
 #ifndef DATA_ENCODING_H
 #define DATA_ENCODING_H
@@ -33,7 +37,7 @@ extern "C" {
 #define DE_VERSION_PATCH 0
 #define DE_VERSION "0.1.0"
 
-/* The number in the name of the shared library. It is increased if programs that were built with an
+/* The number in the name of the shared library. It increases when programs that were built with an
  * earlier library do not run with the new one. */
 #define DE_INTERFACE 0
 
@@ -71,17 +75,18 @@ extern "C" {
 #endif
 #endif
 
-/* The version of the library, as DE_VERSION is that of the header. It is never null, and always
- * valid. */
+/* Returns the version of the library, which may differ from DE_VERSION of the header. The result is
+ * never null, and valid until the program ends. */
 DE_EXPORT
 const char *de_version(void);
 
-/* The greatest length of data that is encoded in one call, and of a text that is decoded. */
+/* The greatest length of data that one call encodes, and of a text that one call decodes. */
 #define DE_ENCODE_LIMIT (SIZE_MAX / 512)
 #define DE_DECODE_LIMIT (SIZE_MAX / 8)
 
-/* The outcome of a call. After any status but DE_OK and the four of a faulty text, the call has
- * changed nothing (except *detail, if the status sets it). */
+/* The status of a call. After DE_OK and the four DE_INVALID_ statuses of an invalid text, the
+ * outputs are as the call describes. After any other status nothing has changed, except *detail
+ * where the status sets it. */
 typedef uint32_t de_status;
 enum {
     DE_OK = 0,
@@ -98,16 +103,22 @@ enum {
     /* The output is too short: de_encode_len and de_decode_len return how much is needed. */
     DE_SHORT_BUFFER = 4,
 
-    /* The text has a fault: no text has its length; a byte is no symbol; bits left after the last
-     * byte are not zeros; the number of padding characters is wrong, or a group follows a padded
-     * one though texts may not be concatenated. */
+    /* No valid text has this length. */
     DE_INVALID_LENGTH = 6,
+
+    /* A byte is not a symbol. */
     DE_INVALID_SYMBOL = 7,
+
+    /* The bits after the last byte are not zeros. */
     DE_INVALID_TRAILING_BITS = 8,
+
+    /* The number of padding characters is wrong, or a group follows a padded one although texts may
+     * not be concatenated. */
     DE_INVALID_PADDING = 9,
 
-    /* A specification is refused, by de_encoding_new only. These are judged in this order, but
-     * DE_NOT_ASCII and DE_DUPLICATE at each byte as it is given a meaning: */
+    /* The statuses from DE_SYMBOL_COUNT to DE_UNDEFINED are of de_encoding_new only: the
+     * specification is invalid. They are checked in this order, except that DE_NOT_ASCII and
+     * DE_DUPLICATE are checked at each byte as it gets its meaning. */
 
     /* The number of symbols is not 2, 4, 8, 16, 32 or 64. */
     DE_SYMBOL_COUNT = 10,
@@ -118,7 +129,7 @@ enum {
     /* The byte `detail` is given two meanings. */
     DE_DUPLICATE = 12,
 
-    /* There is padding, but no text needs it. */
+    /* There is a padding character, but symbols of 1, 2 or 4 bits never need one. */
     DE_EXTRA_PADDING = 13,
 
     /* The width of lines or the length of their separator is above 255. */
@@ -130,20 +141,21 @@ enum {
     /* The two texts of a translation differ in length. */
     DE_TRANSLATE_LENGTH = 16,
 
-    /* A byte is translated to the byte `detail`, which has no meaning. */
+    /* A byte is translated to the byte `detail`, which is not defined. */
     DE_UNDEFINED = 17,
 
-    /* The bytes are no layout, or the de_encoding was not made, as its mark shows. */
+    /* The bytes are not a layout, or the de_encoding was not made by a call. */
     DE_NO_ENCODING = 18,
 
-    /* The numbers are not those of a de_decoder for this encoding. */
+    /* The de_decoder is not valid for this encoding. */
     DE_NO_DECODER = 19,
 
-    /* The numbers are not those of a de_encoder for this encoding. */
+    /* The de_encoder is not valid for this encoding. */
     DE_NO_ENCODER = 20
 };
 
-/* A short description of a status. It is never null, and always valid. */
+/* Returns a short description of a status. The result is never null, and valid until the program
+ * ends. */
 DE_EXPORT
 const char *de_status_text(de_status status);
 
@@ -170,17 +182,17 @@ enum {
     DE_BASE64URL_NOPAD = 17
 };
 
-/* How far a text was decoded, if the status is DE_OK or that of a faulty text. */
+/* The result of decoding, if the status is DE_OK or one of the four of an invalid text. */
 typedef struct de_decoded {
-    /* How many bytes of the text were read. For a faulty text, these are the bytes before its first
-     * faulty group, or some more; they mean what was written. */
+    /* The number of bytes of the text that were read; they decode to the bytes that were written.
+     * For an invalid text, these are at least the bytes before the first faulty group. */
     size_t read;
 
-    /* How many bytes were written. */
+    /* The number of bytes that were written. */
     size_t written;
 
-    /* The position of the faulty byte, from 0. For an invalid length, if no byte is ignored, it is
-     * the greatest valid length below that one. After DE_OK it is the length of the text. */
+    /* After DE_OK, the length of the text. Otherwise the index of the invalid byte or, for an
+     * invalid length in an encoding that ignores no byte, the greatest valid length below it. */
     size_t position;
 } de_decoded;
 
@@ -189,46 +201,55 @@ typedef struct de_decoded {
 DE_EXPORT DE_NODISCARD DE_NONNULL(3)
 de_status de_encode_len(de_number number, size_t len, size_t *text_len);
 
-/* Writes the text of the data to the start of output, and its length to *written. The rest of the
- * output is unchanged. DE_TOO_LONG, DE_SHORT_BUFFER. */
+/* Writes the text of input to the start of output, and its length to *written. The rest of output
+ * is unchanged. DE_TOO_LONG, DE_SHORT_BUFFER. */
 DE_EXPORT DE_NODISCARD DE_NONNULL(6)
 de_status de_encode(de_number number, const void *input, size_t input_len, char *output,
                     size_t output_len, size_t *written);
 
-/* Writes the most bytes that a text of len bytes may mean to *most. If no text has this length, the
- * status is DE_INVALID_LENGTH, and *most is the greatest valid length below it. DE_TOO_LONG. */
+/* Writes the greatest number of bytes that a text of len bytes decodes to, to *most. If no valid
+ * text has this length, the status is DE_INVALID_LENGTH, and *most is the greatest valid length
+ * below it. DE_TOO_LONG. */
 DE_EXPORT DE_NODISCARD DE_NONNULL(3)
 de_status de_decode_len(de_number number, size_t len, size_t *most);
 
-/* Writes the data that the text means to the start of output, which has room for as many bytes as
- * de_decode_len returns, and how far the text was decoded to *decoded. A text that means nothing
- * has one fault, which is one of the four statuses DE_INVALID_. Then what was read means what was
- * written; within the length that de_decode_len returns, the rest of the output is unspecified. If
- * the length alone is the fault, nothing is read. DE_TOO_LONG, DE_SHORT_BUFFER. */
+/* Writes the data of the text input to the start of output, and how far the text was decoded to
+ * *decoded. The output needs the length that de_decode_len writes. The status of an invalid text
+ * is one of the four DE_INVALID_: the first *decoded.read bytes of input then decode to the
+ * first *decoded.written bytes of output. Within the length of de_decode_len, output after these
+ * bytes is unspecified. If de_decode_len refuses the length, nothing is read. DE_TOO_LONG,
+ * DE_SHORT_BUFFER. */
 DE_EXPORT DE_NODISCARD DE_NONNULL(6)
 de_status de_decode(de_number number, const char *input, size_t input_len, void *output,
                     size_t output_len, de_decoded *decoded);
 
-/* Writes to *canonical whether no two different texts decode to the same data. */
+/* Sets *canonical to true if no two different texts decode to the same data, and else to false. */
 DE_EXPORT DE_NODISCARD DE_NONNULL(2)
 de_status de_is_canonical(de_number number, bool *canonical);
 
-/* What a decoder keeps of a text that comes in pieces: plain numbers, which may be copied and need
- * no cleanup. A copy continues from where it was made. Any numbers may be passed. DE_NO_DECODER
- * refuses these: a len above DE_DECODE_LIMIT; a count of a whole group or more, or above len; held
- * bytes whose positions do not ascend or are not below len, or of which the encoding ignores one; a
- * fault that is neither 0 nor one of the four statuses DE_INVALID_; with a fault, a count that is
- * not 0, a fault_position that is not below len, or a kind of fault that no whole group has:
- * DE_INVALID_LENGTH, DE_INVALID_TRAILING_BITS if they are not checked, and DE_INVALID_PADDING if
- * texts have no padding; without a fault, an ended of 1 if texts may be concatenated. Other numbers
- * that no call has written may pass. What is decoded is then unspecified, but no call reads or
- * writes outside its arrays, and the position that de_decoder_finish writes is below len, or is len
- * with DE_OK. */
+/* The state of a decoder of a text that comes in pieces. It is plain data, which may be copied and
+ * needs no cleanup; a copy continues from where it was made. It may hold the bytes of an unfinished
+ * group.
+ *
+ * Any numbers may be passed. A call refuses these with DE_NO_DECODER:
+ * - a len above DE_DECODE_LIMIT
+ * - a count above len, or of a whole group or more
+ * - positions that do not ascend or are not below len
+ * - a held byte that the encoding ignores
+ * - a fault that is neither 0 nor one of the four statuses DE_INVALID_
+ * - with a fault: a count other than 0, a fault_position that is not below len, or a fault that no
+ *   whole group has: DE_INVALID_LENGTH, DE_INVALID_TRAILING_BITS if the encoding does not check
+ *   them, DE_INVALID_PADDING if it is without padding
+ * - without a fault: an ended of 1 if texts may be concatenated
+ *
+ * Other numbers that no call has written may be accepted. Then the decoded data is unspecified, but
+ * no call reads or writes outside its arrays, and the position that de_decoder_finish writes is
+ * below len, or is len with DE_OK. */
 typedef struct de_decoder {
-    /* How many bytes the text has. */
+    /* The length of the text so far. */
     size_t len;
 
-    /* The bytes of an unfinished group, and their positions in the text. */
+    /* The number of bytes of an unfinished group, and their positions in the text. */
     size_t count;
     size_t positions[8];
 
@@ -236,42 +257,45 @@ typedef struct de_decoder {
     size_t fault_position;
     de_status fault;
 
-    /* Whether no group may follow. */
+    /* 1 if no further group may follow, else 0. */
     uint32_t ended;
+
+    /* The bytes of the unfinished group. */
     unsigned char bytes[8];
 } de_decoder;
 
-/* Makes *decoder a decoder that has read nothing, for any encoding. The status is DE_OK or
+/* Sets *decoder to a decoder that has read nothing, for any encoding. The status is DE_OK or
  * DE_NULL_POINTER, so it may be ignored. */
 DE_EXPORT DE_NONNULL(1)
 de_status de_decoder_new(de_decoder *decoder);
 
-/* Writes the most bytes that len more bytes of the text may complete to *most: no more than len +
- * 7, and none after a fault. DE_NO_DECODER; DE_TOO_LONG if the text then has more than
- * DE_DECODE_LIMIT bytes. */
+/* Writes the greatest number of bytes of data that len more bytes of text complete to *most: at
+ * most len + 7, and 0 after a fault. DE_NO_DECODER; DE_TOO_LONG if the text would then be longer
+ * than DE_DECODE_LIMIT. */
 DE_EXPORT DE_NODISCARD DE_NONNULL(2, 4)
 de_status de_decoder_most(de_number number, const de_decoder *decoder, size_t len, size_t *most);
 
-/* Reads a piece of the text, which may be cut anywhere. Writes the data of the groups that are then
- * whole, up to the first faulty one, to the start of output, which has room for as many bytes as
- * de_decoder_most returns, and their number to *written. A fault is reported at the end. Within
- * that room, the output after the data is unspecified; beyond it, the output is unchanged.
- * DE_NO_DECODER, DE_TOO_LONG, DE_SHORT_BUFFER. */
+/* Reads a piece of the text, which may be cut anywhere. Writes the data of the groups that it
+ * completes, up to the first faulty one, to the start of output, and its length to *written. The
+ * output needs the length that de_decoder_most writes. Within that length, output after the data is
+ * unspecified; after it, output is unchanged. de_decoder_finish reports a fault. DE_NO_DECODER,
+ * DE_TOO_LONG, DE_SHORT_BUFFER. */
 DE_EXPORT DE_NODISCARD DE_NONNULL(2, 7)
 de_status de_decoder_read(de_number number, de_decoder *decoder, const char *input,
                           size_t input_len, void *output, size_t output_len, size_t *written);
 
-/* Ends the text. Writes the data of a last group, at most 5 bytes, to the start of output. Writes
- * to *decoded the length of the text, the number of bytes written, and the position of the fault,
- * or the length if there is none. The rest of the output is unchanged. The status is that of
- * de_decode for the whole text. The decoder is unchanged. DE_NO_DECODER, DE_SHORT_BUFFER. */
+/* Ends the text. Writes the data of a last group, at most 5 bytes, to the start of output, and
+ * leaves the rest of output and the decoder unchanged. Writes to *decoded the length of the text,
+ * the number of bytes written, and the position of the fault, or the length if the text is valid.
+ * The status equals the status of de_decode for the whole text, or is DE_NO_DECODER or
+ * DE_SHORT_BUFFER. */
 DE_EXPORT DE_NODISCARD DE_NONNULL(2, 5)
 de_status de_decoder_finish(de_number number, const de_decoder *decoder, void *output,
                             size_t output_len, de_decoded *decoded);
 
-/* Writes the number of bytes of data in a block, which is a whole group of symbols or a whole line,
- * to *align. The texts of pieces of data may be joined if the length of each piece but the last is
- * a multiple of it. It is from 1 to 189. */
+/* Writes the block size to *align: the number of bytes of data in a group of symbols, or in a line
+ * if there are lines. It is from 1 to 189. The joined texts of pieces of data are the text of all
+ * the data if the length of each piece but the last is a multiple of it. */
 DE_EXPORT DE_NODISCARD DE_NONNULL(2)
 de_status de_encode_align(de_number number, size_t *align);
 
@@ -279,17 +303,18 @@ de_status de_encode_align(de_number number, size_t *align);
 DE_EXPORT DE_NODISCARD DE_NONNULL(2)
 de_status de_bit_width(de_number number, size_t *width);
 
-/* What an encoder keeps of data that comes in pieces: plain numbers, which may be copied and need
- * no cleanup. A copy continues from where it was made. Any numbers may be passed: DE_NO_ENCODER
- * refuses a count of a whole block or more; any others are what is kept after just the held
+/* The state of an encoder of data that comes in pieces. It is plain data, which may be copied and
+ * needs no cleanup; a copy continues from where it was made. It holds the bytes of an unfinished
+ * block. Any numbers may be passed: a call refuses a count of a whole block or more with
+ * DE_NO_ENCODER, and treats any other state as that of an encoder which has read just these
  * bytes. */
 typedef struct de_encoder {
-    /* The bytes of an unfinished block. */
+    /* The number of bytes of an unfinished block, and the bytes. */
     size_t count;
     unsigned char bytes[189];
 } de_encoder;
 
-/* Makes *encoder an encoder that has read nothing, for any encoding. The status is DE_OK or
+/* Sets *encoder to an encoder that has read nothing, for any encoding. The status is DE_OK or
  * DE_NULL_POINTER, so it may be ignored. */
 DE_EXPORT DE_NONNULL(1)
 de_status de_encoder_new(de_encoder *encoder);
@@ -299,17 +324,17 @@ de_status de_encoder_new(de_encoder *encoder);
 DE_EXPORT DE_NODISCARD DE_NONNULL(2, 4)
 de_status de_encoder_most(de_number number, const de_encoder *encoder, size_t len, size_t *most);
 
-/* Reads a piece of the data, which may be cut anywhere. Writes the text of the blocks that are then
- * whole to the start of output, and its length to *written. The rest of the output is unchanged.
+/* Reads a piece of the data, which may be cut anywhere. Writes the text of the blocks that it
+ * completes to the start of output, and its length to *written. The rest of output is unchanged.
  * DE_NO_ENCODER, DE_TOO_LONG, DE_SHORT_BUFFER. */
 DE_EXPORT DE_NODISCARD DE_NONNULL(2, 7)
 de_status de_encoder_read(de_number number, de_encoder *encoder, const void *input,
                           size_t input_len, char *output, size_t output_len, size_t *written);
 
-/* Ends the data. Writes the text of the bytes held, with its padding and line end, to the start of
- * output, and its length to *written: what de_encode_len returns for encoder->count, and at most
- * DE_LAST_TEXT_LIMIT. The texts that were written, one after another, are the text of all the data.
- * The rest of the output is unchanged, and so is the encoder. DE_NO_ENCODER, DE_SHORT_BUFFER. */
+/* Ends the data. Writes the text of the held bytes, with its padding and line end, to the start of
+ * output, and its length to *written: the length that de_encode_len writes for encoder->count, at
+ * most DE_LAST_TEXT_LIMIT. All texts that were written, joined, are the text of all the data. The
+ * rest of output and the encoder are unchanged. DE_NO_ENCODER, DE_SHORT_BUFFER. */
 #define DE_LAST_TEXT_LIMIT 510
 DE_EXPORT DE_NODISCARD DE_NONNULL(2, 5)
 de_status de_encoder_finish(de_number number, const de_encoder *encoder, char *output,
@@ -319,61 +344,60 @@ de_status de_encoder_finish(de_number number, const de_encoder *encoder, char *o
 #define DE_NAME_LIMIT 22
 
 /* Writes the name of the encoding, such as "BASE64_NOPAD" for DE_BASE64_NOPAD, to the start of
- * output, and its length to *written. The rest of the output is unchanged. DE_SHORT_BUFFER, but not
- * for DE_NAME_LIMIT bytes or more. */
+ * output, and its length to *written. The rest of output is unchanged. DE_SHORT_BUFFER, never for
+ * DE_NAME_LIMIT bytes or more. */
 DE_EXPORT DE_NODISCARD DE_NONNULL(4)
 de_status de_name(de_number number, char *output, size_t output_len, size_t *written);
 
-/* Writes the number of the encoding with this name to *number. DE_UNKNOWN_ENCODING, even if the
- * name is known but in lower case. A name of more than DE_NAME_LIMIT bytes is not read. */
+/* Writes the number of the encoding with this name to *number. Names are in upper case.
+ * DE_UNKNOWN_ENCODING. A name of more than DE_NAME_LIMIT bytes is not read. */
 DE_EXPORT DE_NODISCARD DE_NONNULL(3)
 de_status de_number_named(const char *name, size_t name_len, de_number *number);
 
-/* A specification of an encoding. DE_SPECIFICATION is one with the defaults. */
+/* The parameters of an encoding. DE_SPECIFICATION has the defaults, and no symbols. */
 typedef struct de_specification {
     /* The symbols in order of value: 2, 4, 8, 16, 32 or 64 ASCII characters. */
     const char *symbols;
     size_t symbols_len;
 
-    /* Bytes that may be anywhere in a text and mean nothing. */
+    /* Bytes that decoding ignores, anywhere in a text. */
     const char *ignore;
     size_t ignore_len;
 
-    /* The separator that follows each line of wrap_width characters; there are lines if neither
-     * length is 0. */
+    /* The separator after each line of wrap_width characters. There are lines if neither the width
+     * nor the length of the separator is 0. */
     const char *wrap_separator;
     size_t wrap_separator_len;
     size_t wrap_width;
 
-    /* A translation: each byte of the first text means what the byte of the second at its position
-     * means. */
+    /* A translation: each byte of translate_from is decoded like the byte of translate_to at the
+     * same index. */
     const char *translate_from;
     size_t translate_from_len;
     const char *translate_to;
     size_t translate_to_len;
 
-    /* The character that fills the last group of a text; below 0 there is no padding. */
+    /* The character that fills the last group of a text, or a negative number for none. */
     int padding;
 
-    /* Whether the bit of weight 1 comes first, instead of that of weight 128. */
+    /* If true, the least significant bit of a byte comes first, else the most significant. */
     bool least_significant_first;
 
-    /* Whether bits left after the last byte must be zeros. */
+    /* If true, the bits after the last byte must be zeros. */
     bool check_trailing_bits;
 
-    /* Whether concatenated padded texts are decoded as one. */
+    /* If true, concatenated padded texts are decoded as one. */
     bool concatenate;
 } de_specification;
 
 #define DE_SPECIFICATION {NULL, 0, NULL, 0, NULL, 0, 0, NULL, 0, NULL, 0, -1, false, true, true}
 
-/* The room that the texts of any specification need. */
+/* The length that the texts of any specification need. */
 #define DE_TEXTS_LIMIT 703
 
-/* Writes the specification of the encoding to *specification, and its texts to the start of texts,
- * to which the pointers of the specification point. de_encoding_new makes this encoding from it, or
- * another if some of its fields are changed. The rest of texts is unchanged. DE_SHORT_BUFFER, but
- * not for DE_TEXTS_LIMIT bytes or more. */
+/* Writes the specification of the encoding to *specification. Its pointers point into texts. The
+ * call writes to the start of texts and leaves the rest unchanged. de_encoding_new makes the same
+ * encoding from it. DE_SHORT_BUFFER, never for DE_TEXTS_LIMIT bytes or more. */
 DE_EXPORT DE_NODISCARD DE_NONNULL(2)
 de_status de_specification_of(de_number number, de_specification *specification, char *texts,
                               size_t texts_len);
@@ -381,17 +405,18 @@ de_status de_specification_of(de_number number, de_specification *specification,
 /* The length of the tables of an encoding. */
 #define DE_TABLES 824
 
-/* An encoding of the caller: plain bytes, which may be copied within the program and need no
- * cleanup. They are trusted, and not judged again; de_encoding_read reads bytes from elsewhere.
- * DE_NO_ENCODING refuses an encoding that was not made, unless its eight bytes `made` happen to be
- * those of one that was. */
+/* An encoding that the caller made. It is plain bytes, which may be copied within the program and
+ * need no cleanup. Calls trust its tables and do not check them: to pass an encoding to another
+ * program, use its layout. Calls refuse an encoding that was not made with DE_NO_ENCODING, except
+ * if its bytes `made` equal those of a made one. */
 typedef struct de_encoding {
     unsigned char made[8];
     unsigned char tables[DE_TABLES];
 } de_encoding;
 
-/* Writes the encoding that is asked for to *encoding. After DE_DUPLICATE, DE_WRAP_WIDTH and
- * DE_UNDEFINED, writes the byte or the number to *detail instead, if that is not null. */
+/* Writes the encoding with this specification to *encoding. After DE_DUPLICATE, DE_WRAP_WIDTH and
+ * DE_UNDEFINED, writes the byte or the number to *detail if detail is not null, and leaves
+ * *encoding unchanged. */
 DE_EXPORT DE_NODISCARD DE_NONNULL(1, 2)
 de_status de_encoding_new(de_encoding *encoding, const de_specification *specification,
                           size_t *detail);
@@ -399,19 +424,20 @@ de_status de_encoding_new(de_encoding *encoding, const de_specification *specifi
 /* The greatest length of a layout. */
 #define DE_LAYOUT_LIMIT 770
 
-/* Writes the layout of the encoding, which describes it completely and may be stored or sent, to
- * the start of output, and its length to *written. The rest of the output is unchanged.
- * DE_SHORT_BUFFER, but not for DE_LAYOUT_LIMIT bytes or more. */
+/* Writes the layout of the encoding to the start of output, and its length to *written. A layout
+ * describes an encoding completely, and may be stored or sent. The rest of output is unchanged.
+ * DE_SHORT_BUFFER, never for DE_LAYOUT_LIMIT bytes or more. */
 DE_EXPORT DE_NODISCARD DE_NONNULL(1, 4)
 de_status de_encoding_layout(const de_encoding *encoding, void *output, size_t output_len,
                              size_t *written);
 
-/* Writes the encoding with this layout to *encoding. Any bytes may be passed: DE_NO_ENCODING if
- * they are no layout. */
+/* Writes the encoding with this layout to *encoding. Any bytes may be passed: the status is
+ * DE_NO_ENCODING if they are not a layout. */
 DE_EXPORT DE_NODISCARD DE_NONNULL(1)
 de_status de_encoding_read(de_encoding *encoding, const void *layout, size_t len);
 
-/* The same calls with such an encoding. DE_NO_ENCODING. */
+/* Like the calls above without `encoding_` in their names, for an encoding of the caller. The
+ * status is DE_NO_ENCODING instead of DE_UNKNOWN_ENCODING. */
 DE_EXPORT DE_NODISCARD DE_NONNULL(1, 3)
 de_status de_encoding_encode_len(const de_encoding *encoding, size_t len, size_t *text_len);
 DE_EXPORT DE_NODISCARD DE_NONNULL(1, 6)
@@ -453,10 +479,11 @@ DE_EXPORT DE_NODISCARD DE_NONNULL(1, 2)
 de_status de_encoding_specification(const de_encoding *encoding, de_specification *specification,
                                     char *texts, size_t texts_len);
 
-/* The length of the text of n bytes of data, as de_encode_len returns it, and the most bytes that a
- * text of n bytes may mean, as de_decode_len returns it if a text has that length. They are for
- * arrays whose size is known at compile time. n has no side effects, and is at most DE_ENCODE_LIMIT
- * or DE_DECODE_LIMIT. */
+/* DE_NAME_ENCODED_LEN(n) is the length of the text of n bytes of data, as de_encode_len writes it.
+ * DE_NAME_DECODED_LEN(n) is the greatest number of bytes that a text of n bytes decodes to, as
+ * de_decode_len writes it if a valid text has that length. Both are constants for a constant n, for
+ * the size of an array. n must not have side effects, and is at most DE_ENCODE_LIMIT or
+ * DE_DECODE_LIMIT. */
 #define DE_LEN_BITS(n, bits)                                                                       \
     ((size_t)(n) / (bits) * 8 + ((size_t)(n) % (bits) * 8 + (bits) - 1) / (bits))
 #define DE_DATA_BITS(n, bits) ((size_t)(n) / 8 * (bits) + (size_t)(n) % 8 * (bits) / 8)
