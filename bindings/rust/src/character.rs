@@ -1,24 +1,24 @@
-/// What a byte of a text is to an encoding.
+/// The role of a byte in the texts of an encoding.
 #[derive(Debug, Clone, Copy, PartialEq, Eq)]
 pub enum Character {
-    /// A symbol, or a byte that is read as one.
+    /// A symbol, or a byte that is translated to one.
     Symbol {
-        /// What it means: a number below the number of symbols.
+        /// The value of the symbol, below the number of symbols.
         value: usize,
     },
 
-    /// The padding character, or a byte that is read as it.
+    /// The padding character, or a byte that is translated to it.
     Padding,
 
-    /// A byte that means nothing.
+    /// A byte that decoding ignores.
     Ignored,
 
-    /// A byte that no text has.
+    /// A byte that is not allowed in a text.
     Invalid,
 }
 
 impl Character {
-    /// Returns the value of a symbol.
+    /// Returns the value of a symbol, and `None` for any other byte.
     #[must_use]
     pub fn is_symbol(self) -> Option<usize> {
         match self {
@@ -27,19 +27,19 @@ impl Character {
         }
     }
 
-    /// Returns whether this is padding.
+    /// Returns `true` for padding.
     #[must_use]
     pub fn is_padding(self) -> bool {
         self == Character::Padding
     }
 
-    /// Returns whether this is a byte that is ignored.
+    /// Returns `true` for a byte that decoding ignores.
     #[must_use]
     pub fn is_ignored(self) -> bool {
         self == Character::Ignored
     }
 
-    /// Returns whether this is a byte that no text has.
+    /// Returns `true` for a byte that is not allowed in a text.
     #[must_use]
     pub fn is_invalid(self) -> bool {
         self == Character::Invalid

@@ -2,9 +2,9 @@ use core::fmt;
 
 use crate::Encoding;
 
-/// The text of data, which is encoded when it is printed.
+/// Data that is encoded when it is formatted.
 ///
-/// [`Encoding::encode_display`] makes it.
+/// [`Encoding::encode_display`] returns it.
 #[derive(Debug)]
 pub struct Display<'a> {
     encoding: &'a Encoding,

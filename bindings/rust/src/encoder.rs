@@ -2,13 +2,13 @@ use alloc::string::String;
 
 use crate::Encoding;
 
-/// The greatest `encode_align`: that of lines of 252 symbols of six bits.
+/// The greatest `encode_align`: the data of a line of 252 symbols of six bits.
 const ALIGN_LIMIT: usize = 189;
 
-/// Appends the text of data that comes in pieces to a string.
+/// Encodes data that comes in pieces, and appends its text to a string.
 ///
-/// The text is that of the whole data: lines and padding do not show where a piece ended. The
-/// end of the text is written by [`finalize`](Encoder::finalize), or when the encoder is dropped.
+/// The text does not depend on how the data is cut into pieces.
+/// [`finalize`](Encoder::finalize) writes its end, or dropping the encoder does.
 ///
 /// ```
 /// static BASE32: data_encoding::Encoding = data_encoding::BASE32;
@@ -33,7 +33,7 @@ impl<'a> Encoder<'a> {
         Encoder { encoding, output, held: [0; ALIGN_LIMIT], held_len: 0 }
     }
 
-    /// Appends the text of the data so far, but for the end of it that more data may change.
+    /// Encodes `input`, and holds back the bytes of an incomplete block.
     pub fn append(&mut self, input: &[u8]) {
         let align = self.encoding.encode_align();
         let mut input = input;
@@ -50,10 +50,10 @@ impl<'a> Encoder<'a> {
         self.hold(rest, align);
     }
 
-    /// Appends the end of the text.
+    /// Appends the text of the held bytes.
     pub fn finalize(self) {}
 
-    /// Holds as much of the input as `most` says, and returns the rest.
+    /// Holds at most `most` bytes of `input`, and returns the rest.
     fn hold<'b>(&mut self, input: &'b [u8], most: usize) -> &'b [u8] {
         let (front, rest) = input.split_at(most.min(input.len()));
         let len = self.held_len + front.len();

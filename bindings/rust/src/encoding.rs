@@ -12,24 +12,24 @@ use crate::{static_layout, Character, DecodeError, DecodePartial, Display};
 #[cfg(feature = "alloc")]
 use crate::{Encoder, Specification};
 
-/// The shortest buffer in which any encoding has room for a line and its separator.
+/// The length of the longest line with its separator.
 const BUFFER_LEN: usize = 510;
 
-/// An encoding: how data is written as text, and which texts are data.
+/// A way to write data as text, and to read it back.
 ///
-/// Two encodings are equal if they write the same texts and decode the same texts to the same data,
-/// that is, if their layouts are equal. A clone does not allocate.
+/// Two encodings are equal if their layouts are equal: then they write the same texts, and decode
+/// the same texts to the same data. A clone does not allocate.
 #[derive(Clone)]
 pub struct Encoding(Source);
 
-/// What an encoding is made of.
+/// The representation of an encoding.
 #[derive(Clone)]
 enum Source {
-    /// A predefined one, which the library has by its number.
+    /// A predefined encoding, which the library knows by its number.
     Predefined { number: u32, due: Due, layout: &'static [u8] },
-    /// A layout of the program, which is judged when it is used.
+    /// A layout in the program, which is checked when it is used.
     Static(&'static [u8]),
-    /// One that was built of a specification.
+    /// An encoding that was built from a specification.
     #[cfg(feature = "alloc")]
     Built(Arc<Built>),
 }
@@ -51,7 +51,7 @@ impl Encoding {
         Encoding(Source::Built(Arc::new(Built { tables, layout })))
     }
 
-    /// Calls with the encoding as the library takes it.
+    /// Calls `call` with the handle of this encoding.
     #[inline]
     fn with<R>(&self, call: impl FnOnce(Handle<'_>) -> R) -> R {
         match self.0 {
@@ -60,8 +60,8 @@ impl Encoding {
         }
     }
 
-    /// The same for an encoding that has no number. It is not inlined, so that the calls of those
-    /// that have one are short.
+    /// Like [`with`](Self::with), for an encoding without a number. Not inlined, so that calls of
+    /// predefined encodings stay short.
     #[inline(never)]
     fn with_tables<R>(&self, call: impl FnOnce(Handle<'_>) -> R) -> R {
         let tables;
@@ -79,7 +79,7 @@ impl Encoding {
         })
     }
 
-    /// The fields of the layout, which is judged if it is one of the program.
+    /// Returns the fields of the layout. Checks a layout of the program first.
     fn layout(&self) -> Layout<'_> {
         if let Source::Static(_) = self.0 {
             self.with(|_| ());
@@ -100,20 +100,20 @@ impl Encoding {
         }
     }
 
-    /// Returns the length of the text of `len` bytes.
+    /// Returns the length of the text of `len` bytes of data.
     ///
     /// # Panics
     ///
-    /// Panics if `len` is greater than `usize::MAX / 512`. Longer data is encoded in parts, whose
-    /// lengths are multiples of [`encode_align`](Encoding::encode_align).
+    /// Panics if `len` is greater than `usize::MAX / 512`. To encode longer data, cut it at a
+    /// multiple of [`encode_align`](Encoding::encode_align).
     #[must_use]
     #[inline]
     pub fn encode_len(&self, len: usize) -> usize {
         self.with(|encoding| ffi::encode_len(encoding, len))
     }
 
-    /// Returns the number of bytes after a multiple of which data may be cut: the texts of the
-    /// parts, joined, are the text of the whole.
+    /// Returns the block size: encoding blocks separately and joining their texts gives the text of
+    /// all the data.
     ///
     /// ```
     /// use data_encoding::BASE64;
@@ -131,12 +131,12 @@ impl Encoding {
         }
     }
 
-    /// Writes the text of the data to the output.
+    /// Writes the text of `input` to `output`.
     ///
     /// # Panics
     ///
-    /// Panics if the length of the output is not [`encode_len`](Encoding::encode_len) of that of
-    /// the data.
+    /// Panics if the length of `output` is not
+    /// [`encode_len(input.len())`](Encoding::encode_len).
     ///
     /// ```
     /// use data_encoding::HEXLOWER;
@@ -150,12 +150,12 @@ impl Encoding {
         self.encode_mut_str(input, output);
     }
 
-    /// Writes the text of the data to the output, and returns it, which is all of the output.
+    /// Writes the text of `input` to `output`, and returns it as a string.
     ///
     /// # Panics
     ///
-    /// Panics if the length of the output is not [`encode_len`](Encoding::encode_len) of that of
-    /// the data.
+    /// Panics if the length of `output` is not
+    /// [`encode_len(input.len())`](Encoding::encode_len).
     #[inline]
     pub fn encode_mut_str<'a>(&self, input: &[u8], output: &'a mut [u8]) -> &'a str {
         let len = output.len();
@@ -164,7 +164,7 @@ impl Encoding {
         text
     }
 
-    /// Appends the text of the data to the output.
+    /// Appends the text of `input` to `output`.
     ///
     /// ```
     /// use data_encoding::HEXUPPER;
@@ -182,30 +182,31 @@ impl Encoding {
         });
     }
 
-    /// Returns an encoder, which appends the text of data that comes in pieces to the output.
+    /// Returns an encoder, which appends the text of data that comes in pieces to `output`.
     #[cfg(feature = "alloc")]
     pub fn new_encoder<'a>(&'a self, output: &'a mut String) -> Encoder<'a> {
         Encoder::new(self, output)
     }
 
-    /// Writes the text of the data to the writer, through 1024 bytes on the stack.
+    /// Writes the text of `input` to the writer `output`, through a buffer of 1024 bytes on the
+    /// stack.
     ///
     /// # Errors
     ///
-    /// Returns the error of the writer.
+    /// Returns the error of the writer, which may have received part of the text.
     pub fn encode_write(&self, input: &[u8], output: &mut impl fmt::Write) -> fmt::Result {
         self.encode_write_buffer(input, output, &mut [0; 1024])
     }
 
-    /// Writes the text of the data to the writer, through the buffer.
+    /// Writes the text of `input` to the writer `output`, through `buffer`.
     ///
     /// # Panics
     ///
-    /// Panics if the buffer has less than 510 bytes.
+    /// Panics if `buffer` is shorter than 510 bytes.
     ///
     /// # Errors
     ///
-    /// Returns the error of the writer.
+    /// Returns the error of the writer, which may have received part of the text.
     pub fn encode_write_buffer(
         &self,
         input: &[u8],
@@ -223,7 +224,7 @@ impl Encoding {
         })
     }
 
-    /// Returns a value that is printed as the text of the data.
+    /// Returns a value that is formatted as the text of `input`.
     ///
     /// ```
     /// use data_encoding::BASE64URL_NOPAD;
@@ -235,7 +236,7 @@ impl Encoding {
         Display::new(self, input)
     }
 
-    /// Returns the text of the data.
+    /// Returns the text of `input`.
     #[cfg(feature = "alloc")]
     #[must_use]
     #[inline]
@@ -248,8 +249,8 @@ impl Encoding {
         })
     }
 
-    /// Returns how many bytes a text of `len` bytes means at most: less, if it has padding or bytes
-    /// that are ignored.
+    /// Returns the greatest number of bytes that a text of `len` bytes decodes to. A text with
+    /// padding or ignored bytes decodes to fewer.
     ///
     /// # Panics
     ///
@@ -258,25 +259,25 @@ impl Encoding {
     /// # Errors
     ///
     /// Returns [`DecodeKind::Length`](crate::DecodeKind::Length), with the greatest valid length
-    /// below `len`, if no text has this length.
+    /// below `len`, if no valid text has this length.
     #[inline]
     pub fn decode_len(&self, len: usize) -> Result<usize, DecodeError> {
         self.with(|encoding| ffi::decode_len(encoding, len))
     }
 
-    /// Writes the data that the text means to the start of the output, and returns its length. What
-    /// the output has after the data is not specified.
+    /// Writes the data of the text `input` to the start of `output`, and returns its length. The
+    /// rest of `output` is unspecified.
     ///
     /// # Panics
     ///
-    /// Panics if the length of the output is not [`decode_len`](Encoding::decode_len) of that of
-    /// the text, or if that is an error.
+    /// Panics if the length of `output` is not [`decode_len(input.len())`](Encoding::decode_len),
+    /// or if that is an error.
     ///
     /// # Errors
     ///
-    /// Returns the fault of the text, with how far it was decoded: what was read means what was
-    /// written. [`DecodeKind::Length`](crate::DecodeKind::Length) is returned only if bytes are
-    /// ignored: `decode_len` has it otherwise.
+    /// Returns the fault of the text. The first `read` bytes of `input` then decode to the first
+    /// `written` bytes of `output`. The fault is [`DecodeKind::Length`](crate::DecodeKind::Length)
+    /// only if the encoding ignores bytes: otherwise `decode_len` returns it.
     ///
     /// ```
     /// use data_encoding::HEXLOWER;
@@ -302,7 +303,7 @@ impl Encoding {
         })
     }
 
-    /// Returns the data that the text means.
+    /// Returns the data of the text `input`.
     ///
     /// # Errors
     ///
@@ -316,33 +317,33 @@ impl Encoding {
         })
     }
 
-    /// Returns how many bits a symbol means, from 1 to 6.
+    /// Returns the number of bits of a symbol, from 1 to 6.
     #[must_use]
     pub fn bit_width(&self) -> usize {
         self.layout().bit_width()
     }
 
-    /// Returns what a byte of a text is to the encoding.
+    /// Returns the role of a byte in the texts of this encoding.
     #[must_use]
     pub fn interpret_byte(&self, byte: u8) -> Character {
         self.layout().character(byte)
     }
 
-    /// Returns whether no two different texts decode to the same data.
+    /// Returns `true` if no two different texts decode to the same data.
     #[must_use]
     pub fn is_canonical(&self) -> bool {
         self.with(ffi::is_canonical)
     }
 
-    /// Returns a specification that asks for this encoding.
+    /// Returns a specification of this encoding.
     #[cfg(feature = "alloc")]
     #[must_use]
     pub fn specification(&self) -> Specification {
         Specification::of(self.layout())
     }
 
-    /// Returns the encoding of a layout, as `data-encoding-macro` writes it. The first call that
-    /// has to know what the bytes say judges them, and panics if they are no layout.
+    /// Returns the encoding with this layout, as `data-encoding-macro` writes it. The first call
+    /// that reads the layout checks it, and panics if the bytes are not a layout.
     #[doc(hidden)]
     #[must_use]
     pub const fn internal_new(implementation: &'static [u8]) -> Encoding {

@@ -1,16 +1,16 @@
 use core::error::Error;
 use core::fmt;
 
-/// Why a text means no data.
+/// The kinds of faults of a text.
 #[derive(Debug, Clone, Copy, PartialEq, Eq)]
 pub enum DecodeKind {
-    /// No data has a text of this length.
+    /// No valid text has this length.
     Length,
 
-    /// A byte is no symbol.
+    /// A byte is not a symbol.
     Symbol,
 
-    /// The bits of the last symbol that are left after the last byte are not all zeros.
+    /// The bits after the last byte are not zeros.
     Trailing,
 
     /// The number of padding characters is wrong.
@@ -31,11 +31,11 @@ impl fmt::Display for DecodeKind {
 /// The fault of a text.
 #[derive(Debug, Clone, Copy, PartialEq, Eq)]
 pub struct DecodeError {
-    /// The position of the faulty byte, from 0; for [`DecodeKind::Length`], if no byte is
-    /// ignored, the greatest valid length below that of the text.
+    /// The index of the invalid byte. For [`DecodeKind::Length`] in an encoding that ignores no
+    /// byte: the greatest valid length below the length of the text.
     pub position: usize,
 
-    /// What is wrong there.
+    /// The kind of the fault.
     pub kind: DecodeKind,
 }
 
@@ -47,25 +47,25 @@ impl fmt::Display for DecodeError {
 
 impl Error for DecodeError {}
 
-/// How far a faulty text was decoded.
+/// The result of decoding an invalid text.
 #[derive(Debug, Clone, Copy, PartialEq, Eq)]
 pub struct DecodePartial {
-    /// How many bytes of the text were read, at most the position of the fault.
+    /// The number of bytes of the text that were decoded, at most the position of the fault.
     pub read: usize,
 
-    /// How many bytes were written: those that mean what was read.
+    /// The number of bytes of data that were written: the data of the first `read` bytes.
     pub written: usize,
 
     /// The fault.
     pub error: DecodeError,
 }
 
-/// Why there is no encoding that a [`Specification`](crate::Specification) asks for.
+/// The error of an invalid [`Specification`](crate::Specification).
 #[derive(Debug, Clone, Copy)]
 #[cfg(feature = "alloc")]
 pub struct SpecificationError(pub(crate) Refusal);
 
-/// The reasons, by the names under which they are printed for debugging.
+/// The kinds of errors, with the names that `Debug` prints.
 #[derive(Debug, Clone, Copy)]
 #[cfg(feature = "alloc")]
 pub(crate) enum Refusal {
@@ -102,7 +102,7 @@ impl Error for SpecificationError {
 
 #[cfg(feature = "alloc")]
 impl Refusal {
-    /// The reason without the character or number that it is about.
+    /// Returns the message without its character or number.
     fn in_general(self) -> &'static str {
         match self {
             Refusal::BadSize => "invalid number of symbols",

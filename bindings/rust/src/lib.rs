@@ -1,10 +1,10 @@
-//! Base encodings, proved: data as text over an alphabet of symbols, and back.
+//! Base encodings with proofs: data as text over an alphabet of symbols, and back.
 //!
-//! This crate has the calls of the crate `data-encoding` 2.11.1, and takes its place: hexadecimal,
-//! base32 and base64 as [constants](#constants), and every base of 2, 4, 8, 16, 32 or 64 symbols
-//! that a [`Specification`] asks for. Its functions pass their work on to a library that is proved
-//! to write the text that the definitions of the encoding give, and to decode exactly the texts
-//! that mean data.
+//! This crate has the calls of the crate `data-encoding` 2.11.1 and can replace it. Hexadecimal,
+//! base32 and base64 are [constants](#constants); a [`Specification`] makes any other encoding of
+//! 2, 4, 8, 16, 32 or 64 symbols. The functions call a library with proofs: it writes the text that
+//! the definition of the encoding gives, and decodes exactly the valid texts. The crate itself is
+//! tested, not proved.
 //!
 //! ```
 //! use data_encoding::BASE64;
@@ -14,14 +14,15 @@
 //! assert_eq!(BASE64.decode(b"SGl=").unwrap_err().to_string(), "non-zero trailing bits at 2");
 //! ```
 //!
-//! Data may also be encoded in place ([`Encoding::encode_mut`]), at the end of a `String`
+//! Other calls encode to a slice ([`Encoding::encode_mut`]), to the end of a `String`
 //! ([`Encoding::encode_append`]), in pieces ([`Encoding::new_encoder`]), to a writer
-//! ([`Encoding::encode_write`]), and when it is printed ([`Encoding::encode_display`]).
+//! ([`Encoding::encode_write`]), or when formatted ([`Encoding::encode_display`]).
 //!
 //! # Features
 //!
-//! Without the feature `alloc` there is what needs no memory of its own. `std`, the default, adds
-//! to `alloc` that an encoding of [`Encoding::internal_new`] is read once, and not in each call.
+//! `std`, the default, includes `alloc`, and checks the layout of an [`Encoding::internal_new`]
+//! once instead of in each call. `alloc` adds the calls that allocate. Without both, the other
+//! calls remain.
 
 #![no_std]
 

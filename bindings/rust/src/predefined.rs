@@ -22,7 +22,7 @@ const BASE64URL_SYMBOLS: &[u8] =
 pub const HEXLOWER: Encoding = Encoding::predefined(0, HEXLOWER_LAYOUT);
 const HEXLOWER_LAYOUT: &[u8] = &Form::new(HEX_LOWER).layout::<514>();
 
-/// Hexadecimal with the letters `a` to `f`, which reads `A` to `F` as these.
+/// Hexadecimal with the letters `a` to `f`, which also reads `A` to `F`.
 ///
 /// ```
 /// use data_encoding::HEXLOWER_PERMISSIVE;
@@ -45,7 +45,7 @@ const HEXLOWER_PERMISSIVE_LAYOUT: &[u8] =
 pub const HEXUPPER: Encoding = Encoding::predefined(2, HEXUPPER_LAYOUT);
 const HEXUPPER_LAYOUT: &[u8] = &Form::new(HEX_UPPER).layout::<514>();
 
-/// Hexadecimal with the letters `A` to `F`, which reads `a` to `f` as these.
+/// Hexadecimal with the letters `A` to `F`, which also reads `a` to `f`.
 ///
 /// ```
 /// use data_encoding::HEXUPPER_PERMISSIVE;
@@ -78,7 +78,7 @@ const BASE32_LAYOUT: &[u8] =
 pub const BASE32_NOPAD: Encoding = Encoding::predefined(5, BASE32_NOPAD_LAYOUT);
 const BASE32_NOPAD_LAYOUT: &[u8] = &Form::new(BASE32_SYMBOLS).layout::<514>();
 
-/// Base32 without padding, which reads lower case as upper case.
+/// Base32 without padding, which also reads lower case.
 ///
 /// ```
 /// use data_encoding::BASE32_NOPAD_NOCASE;
@@ -92,8 +92,8 @@ const BASE32_NOPAD_NOCASE_LAYOUT: &[u8] = &Form {
 }
 .layout::<514>();
 
-/// Base32 without padding, which reads `0`, `1`, `l` and `8` as the letters they look like: `O`, `I`,
-/// `I` and `B`.
+/// Base32 without padding, which reads `0`, `1`, `l` and `8` as the letters they look like: `O`,
+/// `I`, `I` and `B`.
 ///
 /// ```
 /// use data_encoding::BASE32_NOPAD_VISUAL;
@@ -125,7 +125,7 @@ const BASE32HEX_LAYOUT: &[u8] =
 pub const BASE32HEX_NOPAD: Encoding = Encoding::predefined(9, BASE32HEX_NOPAD_LAYOUT);
 const BASE32HEX_NOPAD_LAYOUT: &[u8] = &Form::new(BASE32HEX_SYMBOLS).layout::<514>();
 
-/// Base32hex of DNSSEC, in lower case and without padding, which reads upper case too: RFC 5155.
+/// Base32hex in lower case without padding, which also reads upper case, as in DNSSEC: RFC 5155.
 ///
 /// ```
 /// use data_encoding::BASE32_DNSSEC;
@@ -140,7 +140,7 @@ const BASE32_DNSSEC_LAYOUT: &[u8] = &Form {
 }
 .layout::<514>();
 
-/// Base32 of `DNSCurve`, which writes the least significant bit first, and reads upper case too.
+/// Base32 with the least significant bit first, as in `DNSCurve`. Also reads upper case.
 ///
 /// ```
 /// use data_encoding::BASE32_DNSCURVE;
@@ -176,8 +176,8 @@ const BASE64_LAYOUT: &[u8] =
 pub const BASE64_NOPAD: Encoding = Encoding::predefined(13, BASE64_NOPAD_LAYOUT);
 const BASE64_NOPAD_LAYOUT: &[u8] = &Form::new(BASE64_SYMBOLS).layout::<514>();
 
-/// Base64 of MIME: lines of 76 characters, which end with CR LF. Both bytes are ignored wherever they
-/// are in a text.
+/// Base64 of MIME: lines of 76 characters, which end with CR LF. Both bytes are ignored wherever
+/// they are in a text.
 ///
 /// ```
 /// use data_encoding::BASE64_MIME;

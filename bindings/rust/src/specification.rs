@@ -4,7 +4,7 @@ use crate::encoding::Encoding;
 use crate::layout::Layout;
 use crate::{ffi, Character, SpecificationError};
 
-/// In which order the bits of a byte are written.
+/// The order of the bits of a byte.
 ///
 /// ```
 /// use data_encoding::{BitOrder, Specification};
@@ -24,30 +24,32 @@ pub enum BitOrder {
     LeastSignificantFirst,
 }
 
-/// Bytes that mean what others mean.
+/// A translation: bytes that are decoded like others.
 #[derive(Debug, Clone)]
 pub struct Translate {
-    /// Bytes that have no meaning yet, or the same.
+    /// The bytes to translate. A byte that is already defined must have the same meaning.
     pub from: String,
 
-    /// As many bytes: each of `from` means what the one at its position here means by then.
+    /// The bytes that they are decoded like, index by index. Its length equals the length of
+    /// `from`.
     pub to: String,
 }
 
-/// How a text is cut into lines. There are none if the width is 0 or the separator empty.
+/// The lines of a text. There are no lines if the width is 0 or the separator is empty.
 #[derive(Debug, Clone)]
 pub struct Wrap {
-    /// How many characters a line has: a multiple of the symbols of a group, which are 8 for
-    /// symbols of 1, 3 and 5 bits, 4 for those of 2 and 6, and 2 for those of 4; at most 255.
+    /// The number of characters of a line, at most 255. It is a multiple of the symbols of a group:
+    /// 8 for symbols of 1, 3 and 5 bits, 4 for symbols of 2 and 6 bits, and 2 for symbols of 4
+    /// bits.
     pub width: usize,
 
-    /// What follows each line, the last too: at most 255 bytes, which decoding ignores.
+    /// The separator after each line, also the last: at most 255 bytes, which decoding ignores.
     pub separator: String,
 }
 
-/// What an encoding is asked for by.
+/// The parameters of an encoding.
 ///
-/// A byte may be given one meaning: a symbol, padding, or ignored.
+/// A byte has at most one meaning: a symbol, padding, or ignored.
 ///
 /// ```
 /// use data_encoding::Specification;
@@ -69,28 +71,28 @@ pub struct Specification {
     /// The symbols in order of value: 2, 4, 8, 16, 32 or 64 ASCII characters.
     pub symbols: String,
 
-    /// In which order the bits of a byte are written: the most significant one first by default.
+    /// The order of the bits of a byte. The default is the most significant bit first.
     pub bit_order: BitOrder,
 
-    /// Whether bits that are left after the last byte have to be zeros, which is the default.
-    /// Symbols of 1, 2 and 4 bits leave none, and count as checked.
+    /// If `true`, the default, the bits after the last byte must be zeros. Symbols of 1, 2 and 4
+    /// bits have no such bits, and count as checked.
     pub check_trailing_bits: bool,
 
-    /// What fills the last group of a text, which is nothing by default.
+    /// The character that fills the last group of a text. The default is `None`: no padding.
     pub padding: Option<char>,
 
-    /// Bytes that a text may have anywhere, and that mean nothing.
+    /// Bytes that decoding ignores, anywhere in a text.
     pub ignore: String,
 
-    /// How a text is cut into lines.
+    /// The lines of a text.
     pub wrap: Wrap,
 
-    /// Bytes that mean what others mean.
+    /// Bytes that are decoded like others.
     pub translate: Translate,
 }
 
 impl Specification {
-    /// Returns a specification without symbols, and with the defaults.
+    /// Returns a specification with the defaults, and without symbols.
     #[must_use]
     pub fn new() -> Specification {
         Specification {
@@ -108,7 +110,7 @@ impl Specification {
     ///
     /// # Errors
     ///
-    /// Returns why there is no such encoding.
+    /// Returns an error if the specification is invalid.
     pub fn encoding(&self) -> Result<Encoding, SpecificationError> {
         ffi::build(self).map(Encoding::built)
     }
@@ -130,7 +132,7 @@ impl Specification {
         specification
     }
 
-    /// Adds what the byte means, if it is ignored or read as another one.
+    /// Adds the byte to `ignore` or `translate`, if the layout has it so.
     fn add_meaning(&mut self, layout: Layout<'_>, byte: u8) {
         let read_as = match layout.character(byte) {
             Character::Invalid => return,

@@ -1,4 +1,4 @@
-"""Base encodings, proved: data as text over an alphabet of symbols, and back.
+"""Base encodings with proofs: data as text over an alphabet of symbols, and back.
 
 >>> BASE64.encode(b"Hello")
 'SGVsbG8='
@@ -9,7 +9,7 @@ b'Hello'
 >>> Encoding.named("BASE32_NOPAD").encode(b"Hi")
 'JBUQ'
 
-An Encoding is made once, and kept: to make one takes longer than to use it.
+Make an Encoding once and keep it: making one takes longer than using it.
 """
 
 import codecs
@@ -72,11 +72,11 @@ _FAULTS = {
 
 
 class DecodeError(ValueError):
-    """A text means nothing.
+    """Raised if a text can't be decoded.
 
-    `kind` is "length", "symbol", "trailing" or "padding". `position` is that of the faulty
-    character, from 0; for an invalid length if no character is ignored, the greatest valid
-    length below it. `data` is what the call decoded before the fault.
+    `kind` is "length", "symbol", "trailing" or "padding". `position` is the index of the invalid
+    character, from 0. For an invalid length in an encoding that ignores no character, it is the
+    greatest valid length below it. `data` is the data that the call decoded before the fault.
     """
 
     def __init__(self, kind: str, position: int, data: bytes = b"") -> None:
@@ -90,20 +90,20 @@ class DecodeError(ValueError):
 
 
 class Partial(NamedTuple):
-    """How far a text was decoded."""
+    """The result of decoding as much of a text as possible."""
 
     data: bytes
-    """What was read means these."""
+    """The data of the first `read` characters."""
 
     read: int
-    """How many characters were read."""
+    """The number of characters that were decoded."""
 
     error: Optional[DecodeError]
-    """The fault of the text, if it has one."""
+    """The fault of the text, or None if the text is valid."""
 
 
 class Specification(TypedDict):
-    """What an encoding is asked for by: the arguments of `Encoding`."""
+    """The parameters of an encoding: the arguments of `Encoding`."""
 
     symbols: str
     padding: Optional[str]
@@ -123,7 +123,7 @@ def _read(source: _Source, size: int) -> Union[bytes, str]:
 
 
 def _read_data(source: _Source, size: int) -> bytes:
-    """As many bytes as that, or as many as are left."""
+    """Reads `size` bytes, or fewer at the end of the source."""
     pieces = []
     while size > 0:
         piece = _read(source, size)
@@ -180,8 +180,10 @@ def _width(value: object) -> int:
 
 @final
 class Encoding(Calls):
-    """An encoding: how data is written as text, and which texts are data. It never changes, and
-    threads may share it. Two are equal if their layouts are."""
+    """A way to write data as text, and to read it back.
+
+    An encoding is immutable, and threads may share it. Two are equal if their layouts are equal.
+    """
 
     __slots__ = ()
 
@@ -197,12 +199,12 @@ class Encoding(Calls):
         check_trailing_bits: bool = True,
         concatenate: bool = True,
     ) -> "Encoding":
-        """The encoding of 2, 4, 8, 16, 32 or 64 ASCII symbols, in order of value.
+        """Makes an encoding of 2, 4, 8, 16, 32 or 64 ASCII symbols, in order of value.
 
-        `padding` fills the last group of a text. The characters of `ignore` may be anywhere in
-        a text. `wrap` is the number of characters of a line, and what follows each. Each character
-        of the first text of `translate` means what that of the second at its position means.
-        A ValueError says why there is no such encoding.
+        `padding` is the character that fills the last group of a text. Decoding ignores the
+        characters of `ignore`. `wrap` is the number of characters of a line, and the separator
+        after each line. Each character of the first text of `translate` is decoded like the
+        character of the second at the same index. Raises ValueError if these are invalid.
         """
         width, separator = _pair("wrap", wrap)
         source, target = _pair("translate", translate)
@@ -222,12 +224,12 @@ class Encoding(Calls):
 
     @staticmethod
     def names() -> List[str]:
-        """The names of the predefined encodings."""
+        """Returns the names of the predefined encodings."""
         return list(_PREDEFINED)
 
     @staticmethod
     def named(name: str) -> "Encoding":
-        """The predefined encoding of a name, as "BASE64". A ValueError if none has it."""
+        """Returns a predefined encoding, as "BASE64". Raises ValueError for an unknown name."""
         if not isinstance(name, str):
             raise TypeError(f"a name has to be a str, not {type(name).__name__}")
         found = _PREDEFINED.get(name)
@@ -237,28 +239,28 @@ class Encoding(Calls):
 
     @staticmethod
     def from_layout(layout: _Bytes) -> "Encoding":
-        """The encoding of a layout. A ValueError if the bytes are none."""
+        """Returns the encoding with this layout. Raises ValueError for bytes that are not one."""
         encoding = Encoding._of_layout(layout)
         name = _NAMES.get(encoding._layout())
         return encoding if name is None else _PREDEFINED[name]
 
     @property
     def layout(self) -> bytes:
-        """Bytes that say all of the encoding, to be stored or sent."""
+        """The layout: bytes that describe the encoding completely, to store or send."""
         return self._layout()
 
     def specification(self) -> Specification:
-        """What asks for this encoding: `Encoding(**it.specification()) == it`."""
+        """Returns the parameters of this encoding: `Encoding(**it.specification()) == it`."""
         return _specification(self._layout())
 
     def decode_partial(self, text: Union[str, _Bytes]) -> Partial:
-        """How far the text is decoded: all of it, or as far as what was read means something."""
+        """Decodes `text` up to its fault, if it has one. Raises no DecodeError."""
         data, read, kind, position = self._decode_parts(text)
         error = None if kind is None else DecodeError(kind, position, data)
         return Partial(data, read, error)
 
     def encode_stream(self, source: _Source, target: _Target) -> None:
-        """Writes the text of what is left of a binary file to another, as it reads."""
+        """Encodes the rest of the binary file `source` to the binary file `target`, in pieces."""
         size = _BLOCK - _BLOCK % self.encode_align
         whole = True
         while whole:
@@ -267,9 +269,11 @@ class Encoding(Calls):
             whole = len(data) == size
 
     def decode_stream(self, source: _Source, target: _Target) -> None:
-        """Writes the data that a text means to a binary file, as it reads the text, which is what
-        is left of another file. A DecodeError has the position in this text, and no `data`: what
-        comes before the fault is written."""
+        """Decodes the rest of the file `source` to the binary file `target`, in pieces.
+
+        Raises DecodeError if the text is invalid, with the position in the whole text and no data:
+        the data before the fault is written to `target`.
+        """
         decoder = Decoder(self)
         piece = _read(source, _BLOCK)
         while piece:
@@ -279,8 +283,8 @@ class Encoding(Calls):
 
     @property
     def encode_align(self) -> int:
-        """Data may be cut at multiples of this many bytes: the texts of the pieces, joined,
-        are the text of the whole."""
+        """The block size in bytes of data. If data is cut at multiples of it, the joined texts of
+        the pieces are the text of the whole."""
         layout = self._layout()
         bits = layout[_FLAGS] & _BIT_WIDTH
         width = layout[_LINES] if len(layout) > _LINES else 0
@@ -323,7 +327,7 @@ class Encoding(Calls):
 
     @staticmethod
     def hexlower_permissive() -> "Encoding":
-        """Hexadecimal with the letters a to f, which reads A to F as these."""
+        """Hexadecimal with the letters a to f, which also reads A to F."""
         return HEXLOWER_PERMISSIVE
 
     @staticmethod
@@ -333,7 +337,7 @@ class Encoding(Calls):
 
     @staticmethod
     def hexupper_permissive() -> "Encoding":
-        """Hexadecimal with the letters A to F, which reads a to f as these."""
+        """Hexadecimal with the letters A to F, which also reads a to f."""
         return HEXUPPER_PERMISSIVE
 
     @staticmethod
@@ -348,7 +352,7 @@ class Encoding(Calls):
 
     @staticmethod
     def base32_nopad_nocase() -> "Encoding":
-        """Base32 without padding, which reads lower case as upper case."""
+        """Base32 without padding, which also reads lower case."""
         return BASE32_NOPAD_NOCASE
 
     @staticmethod
@@ -368,12 +372,12 @@ class Encoding(Calls):
 
     @staticmethod
     def base32_dnssec() -> "Encoding":
-        """Base32hex of DNSSEC, in lower case, which reads upper case too."""
+        """Base32hex in lower case, as in DNSSEC, which also reads upper case."""
         return BASE32_DNSSEC
 
     @staticmethod
     def base32_dnscurve() -> "Encoding":
-        """Base32 of DNSCurve, the least significant bit first."""
+        """Base32 with the least significant bit first, as in DNSCurve."""
         return BASE32_DNSCURVE
 
     @staticmethod
@@ -393,7 +397,7 @@ class Encoding(Calls):
 
     @staticmethod
     def base64_mime_permissive() -> "Encoding":
-        """The same, which does not check trailing bits."""
+        """Like BASE64_MIME, but accepts any trailing bits."""
         return BASE64_MIME_PERMISSIVE
 
     @staticmethod
@@ -474,7 +478,7 @@ def _predefined(
     least_significant_first: bool = False,
     check_trailing_bits: bool = True,
 ) -> Encoding:
-    """The predefined encoding of the name, whose calls the library has by its number."""
+    """Makes the predefined encoding of the name, and registers it."""
     encoding = Encoding._specified(
         symbols, _padding(padding), b"", *wrap, *translate, least_significant_first,
         check_trailing_bits, True, names().index(name),
@@ -540,7 +544,7 @@ def _number(value: object) -> int:
 
 
 class Encoder(codecs.IncrementalEncoder):
-    """Encodes data that comes in pieces. The texts of the pieces, joined, are that of the whole."""
+    """Encodes data that comes in pieces. The joined results are the text of all the data."""
 
     def __init__(self, encoding: Encoding, errors: str = "strict") -> None:
         super().__init__(errors)
@@ -549,7 +553,7 @@ class Encoder(codecs.IncrementalEncoder):
 
     # The base class encodes text as bytes.
     def encode(self, input: _Bytes, final: bool = False) -> str:  # type: ignore[override]
-        """The text of what is whole with this piece. With `final` the data ends with it."""
+        """Returns the text of the blocks that `input` completes; with `final`, of all the rest."""
         text, held = self._encoding._encoder_read(self._held, input)
         if final:
             text += self._encoding._encoder_finish(held)
@@ -558,16 +562,16 @@ class Encoder(codecs.IncrementalEncoder):
         return text
 
     def reset(self) -> None:
-        """Forgets the data so far."""
+        """Discards the held bytes, so that new data begins."""
         self._held = b""
 
     def getstate(self) -> int:
-        """What is held of the data, as a number: 0 if nothing is."""
+        """Returns the held bytes as a number, which is 0 if there are none."""
         return int.from_bytes(b"\1" + self._held, "big") if self._held else 0
 
     # The base class has any number or text here.
     def setstate(self, state: int) -> None:  # type: ignore[override]
-        """Goes on from there. A ValueError if it is no state of such an encoder."""
+        """Continues from a state of `getstate`. Raises ValueError if it is not one."""
         state = _number(state)
         marked = state.to_bytes((state.bit_length() + 7) // 8, "big") if state > 0 else b""
         held = marked[1:]
@@ -580,8 +584,8 @@ class Encoder(codecs.IncrementalEncoder):
 class Decoder(codecs.IncrementalDecoder):
     """Decodes a text that comes in pieces.
 
-    The data of whole groups is returned as soon as they are there. The verdict on the text comes
-    with the last piece, and is that of `Encoding.decode` on the whole.
+    Each call returns the data of the groups that are complete. A fault is raised with the last
+    piece, and is the fault that `Encoding.decode` raises for the whole text.
     """
 
     def __init__(self, encoding: Encoding, errors: str = "strict") -> None:
@@ -590,16 +594,16 @@ class Decoder(codecs.IncrementalDecoder):
         self._kept = new_decoder()
 
     def reset(self) -> None:
-        """Forgets the text so far."""
+        """Discards the text so far, so that a new one begins."""
         self._kept = new_decoder()
 
     def getstate(self) -> Tuple[bytes, int]:
-        """What is held of the text, and all that is kept of it as one number, from 0."""
+        """Returns the held bytes of the text, and the whole state as a number."""
         held = self._encoding._decoder_held(self._kept)
         return held, int.from_bytes(self._kept, "little")
 
     def setstate(self, state: Tuple[bytes, int]) -> None:
-        """Goes on from there. A ValueError if the library refuses the number for this encoding."""
+        """Continues from a state of `getstate`. Raises ValueError if it is not valid here."""
         _, number = _pair("a state", state)
         try:
             kept = _number(number).to_bytes(len(self._kept), "little")
@@ -612,9 +616,12 @@ class Decoder(codecs.IncrementalDecoder):
     def decode(  # type: ignore[override]
         self, input: Union[str, _Bytes], final: bool = False
     ) -> bytes:
-        """The data of the groups that the piece completes. With `final` the text ends with it; its
-        fault is a DecodeError, with the data of the piece that comes before it, and the position in
-        the whole text. The next piece begins another text."""
+        """Returns the data of the groups that `input` completes.
+
+        With `final` the text ends with `input`. Raises DecodeError if the text is then invalid,
+        with the position in the whole text and the data that this call decoded. In either case the
+        next piece begins a new text.
+        """
         data, self._kept = self._encoding._decoder_read(self._kept, input)
         if not final:
             return data

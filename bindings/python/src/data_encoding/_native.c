@@ -855,7 +855,7 @@ static PyObject *new_encoding(PyObject *type, const de_encoding *tables, Py_ssiz
     return self;
 }
 
-/* The encoding that is asked for; it is the predefined one of the number, if that is not below 0. */
+/* Makes an encoding. A number that is not below 0 is the number of the predefined one. */
 static PyObject *specified(PyObject *type, PyObject *arguments) {
     de_specification asked = DE_SPECIFICATION;
     de_encoding tables;
@@ -920,26 +920,29 @@ static PyObject *names(PyObject *module, PyObject *unused) {
 
 static PyMethodDef encoding_methods[] = {
     {"encode", encode, METH_O,
-     "encode($self, data, /)\n--\n\nThe text of the data. A ValueError if it is too long."},
+     "encode($self, data, /)\n--\n\nReturns the text of `data`. Raises ValueError if it is "
+     "too long."},
     {"encode_bytes", encode_bytes, METH_O,
-     "encode_bytes($self, data, /)\n--\n\nThe text of the data, as bytes."},
+     "encode_bytes($self, data, /)\n--\n\nReturns the text of `data` as bytes."},
     {"encode_into", BY_ARRAY(encode_into),
-     "encode_into($self, data, output, /)\n--\n\nWrites the text of the data to the front of the "
-     "output, and returns its length. A ValueError says the length if the output is shorter."},
+     "encode_into($self, data, output, /)\n--\n\nWrites the text of `data` to the start of "
+     "`output`, and returns its length. Raises ValueError with that length if `output` is shorter, "
+     "and leaves it unchanged."},
     {"decode", decode, METH_O,
-     "decode($self, text, /)\n--\n\nThe data that the text means. A DecodeError if it means "
-     "nothing."},
+     "decode($self, text, /)\n--\n\nReturns the data of `text`. Raises DecodeError if the "
+     "text is invalid."},
     {"decode_into", BY_ARRAY(decode_into),
-     "decode_into($self, text, output, /)\n--\n\nWrites the data that the text means to the front "
-     "of the output, which has room for as many bytes as `decode_len` says, and returns how many "
-     "these are. A DecodeError if it means nothing."},
+     "decode_into($self, text, output, /)\n--\n\nWrites the data of `text` to the start of "
+     "`output`, and returns its length. Raises ValueError if `output` has fewer bytes than "
+     "`decode_len` returns for the length of `text`, and DecodeError if the text is invalid."},
     {"encode_len", encode_len, METH_O,
-     "encode_len($self, len, /)\n--\n\nThe length of the text of that many bytes."},
+     "encode_len($self, len, /)\n--\n\nReturns the length of the text of `len` bytes."},
     {"decode_len", decode_len, METH_O,
-     "decode_len($self, len, /)\n--\n\nHow many bytes a text of that many characters means at most. "
-     "A DecodeError if no text has this length."},
+     "decode_len($self, len, /)\n--\n\nReturns the greatest number of bytes that a text of `len` "
+     "characters decodes to. Raises DecodeError if no valid text has this length."},
     {"is_canonical", is_canonical, METH_NOARGS,
-     "is_canonical($self, /)\n--\n\nWhether no two different texts decode to the same data."},
+     "is_canonical($self, /)\n--\n\nReturns True if no two different texts decode to the same "
+     "data."},
     {"_decode_parts", decode_parts, METH_O, NULL},
     {"_layout", layout, METH_NOARGS, NULL},
     {"_decoder_held", decoder_held, METH_O, NULL},

@@ -1,10 +1,11 @@
-"""The calls of the standard library's module `base64` for base64, base32 and hexadecimal, by the
-encodings of this package: the same arguments, results and types of errors.
+"""The calls of the standard module `base64` for base64, base32 and hexadecimal.
+
+They take the same arguments, and return the same results and types of errors:
 
     from data_encoding import compat as base64
 
-A text that is refused is a `binascii.Error`. Its `__cause__` is the DecodeError with the position,
-unless the padding was wrong without `validate`. docs/COMING_FROM.md lists what differs.
+An invalid text raises `binascii.Error`. Its `__cause__` is the DecodeError with the position,
+except if the padding is wrong without `validate`. docs/PYTHON.md lists the differences.
 """
 
 import binascii
@@ -34,7 +35,7 @@ _Text = Any
 
 
 def _as_there(encoding: Encoding, padding: Optional[str]) -> Encoding:
-    """The encoding as the standard library has it: one text, whose trailing bits may be any."""
+    """Returns the encoding as `base64` has it: a single text, with any trailing bits."""
     asked = encoding.specification()
     asked["padding"] = padding
     asked["concatenate"] = False
@@ -78,7 +79,7 @@ def _decoded(encoding: Encoding, text: Union[bytes, str]) -> bytes:
 
 
 def b64encode(s: _Data, altchars: Optional[_Data] = None) -> bytes:
-    """The base64 of bytes-like data, as bytes; `altchars` are two bytes in place of `+` and `/`."""
+    """Encodes bytes-like data as base64. `altchars`, two bytes, replace `+` and `/`."""
     text = BASE64.encode_bytes(s)
     if altchars is None:
         return text
@@ -89,10 +90,10 @@ def b64encode(s: _Data, altchars: Optional[_Data] = None) -> bytes:
 def b64decode(
     s: _Text, altchars: Optional[_Text] = None, validate: bool = False
 ) -> bytes:
-    """The data of a base64 text, which is an ASCII string or bytes-like.
+    """Decodes a base64 text, an ASCII string or bytes-like.
 
-    Without `validate` a byte that is no symbol is skipped, and what follows the padding is not
-    read. A binascii.Error if the padding is wrong, or, with `validate`, if a byte is no symbol.
+    Without `validate`, skips bytes that are not symbols, and ignores everything after the padding.
+    Raises binascii.Error if the padding is wrong or, with `validate`, if a byte is not a symbol.
     """
     text = s
     if altchars is not None:
@@ -110,7 +111,7 @@ def b64decode(
 
 
 def _symbols_of(text: bytes) -> bytes:
-    """The symbols of a base64 text up to its padding, which has to complete the last group."""
+    """Returns the symbols of a base64 text before the padding that completes its last group."""
     found: List[bytes] = []
     count = 0
     for run in _RUNS.finditer(text.translate(None, _OTHERS)):
@@ -130,35 +131,35 @@ def _symbols_of(text: bytes) -> bytes:
 
 
 def standard_b64encode(s: _Data) -> bytes:
-    """The base64 of bytes-like data, as bytes."""
+    """Encodes bytes-like data as base64."""
     return BASE64.encode_bytes(s)
 
 
 def standard_b64decode(s: _Text) -> bytes:
-    """The data of a base64 text, as `b64decode` gives it."""
+    """Decodes a base64 text, like `b64decode`."""
     return b64decode(s)
 
 
 def urlsafe_b64encode(s: _Data) -> bytes:
-    """The base64 of bytes-like data with `-` and `_`, as bytes."""
+    """Encodes bytes-like data as base64 with `-` and `_`."""
     return BASE64URL.encode_bytes(s)
 
 
 def urlsafe_b64decode(s: _Text) -> bytes:
-    """The data of a base64 text with `-` and `_`, as `b64decode` gives it."""
+    """Decodes a base64 text with `-` and `_`, like `b64decode`."""
     return b64decode(_bytes_of(s).translate(_FROM_URL))
 
 
 def b32encode(s: _Data) -> bytes:
-    """The base32 of bytes-like data, as bytes."""
+    """Encodes bytes-like data as base32."""
     return BASE32.encode_bytes(s)
 
 
 def b32decode(s: _Text, casefold: bool = False, map01: Optional[_Text] = None) -> bytes:
-    """The data of a base32 text, which is an ASCII string or bytes-like.
+    """Decodes a base32 text, an ASCII string or bytes-like.
 
-    With `casefold` lower case is read as upper case. With `map01`, which is `I` or `L`, the digit 0
-    is read as `O`, and 1 as that letter.
+    With `casefold`, also reads lower case. With `map01`, which is `I` or `L`, reads 0 as `O` and 1
+    as that letter. Raises binascii.Error if the text is invalid.
     """
     text = _bytes_of(s)
     if map01 is not None:
@@ -169,21 +170,21 @@ def b32decode(s: _Text, casefold: bool = False, map01: Optional[_Text] = None) -
 
 
 def b32hexencode(s: _Data) -> bytes:
-    """The base32hex of bytes-like data, as bytes."""
+    """Encodes bytes-like data as base32hex."""
     return BASE32HEX.encode_bytes(s)
 
 
 def b32hexdecode(s: _Text, casefold: bool = False) -> bytes:
-    """The data of a base32hex text; with `casefold` lower case is read as upper case."""
+    """Decodes a base32hex text. With `casefold`, also reads lower case."""
     text = _bytes_of(s)
     return _decoded(_BASE32HEX, text.upper() if casefold else text)
 
 
 def b16encode(s: _Data) -> bytes:
-    """The hexadecimal of bytes-like data in upper case, as bytes."""
+    """Encodes bytes-like data as hexadecimal in upper case."""
     return HEXUPPER.encode_bytes(s)
 
 
 def b16decode(s: _Text, casefold: bool = False) -> bytes:
-    """The data of a hexadecimal text; with `casefold` lower case is read as upper case."""
+    """Decodes a hexadecimal text. With `casefold`, also reads lower case."""
     return _decoded(HEXUPPER_PERMISSIVE if casefold else HEXUPPER, _bytes_of(s))
