@@ -1,12 +1,12 @@
--- Symbols of six bits as sums: each is its value plus a number.
+-- Alphabets of six bits in which a symbol is its value plus an offset.
 use Rattle.std.specs.Prelude.{◌≡◌, ℕ, ◌+◌, ◌-◌, ◌%◌, ◌^◌, ◌<◌, nat_lt, if◌then◌else◌, List, slice_index}
 use Rattle.data_encoding_kernel.specs.declared.lanes.offset_alphabet.OffsetAlphabet.{OffsetAlphabet}
 
--- what is added to a value besides the number of its place among the last sixteen
+-- The additional offset of `value`: `first` if it is below the bound, or else 0.
 abbrev pub first_of : OffsetAlphabet → ℕ → ℕ
 first_of alphabet value = if nat_lt value alphabet.bound then alphabet.first else 0
 
--- the sum for a value
+-- The symbol of `value`: its sum with its offsets, modulo 256.
 abbrev pub offset_symbol : OffsetAlphabet → ℕ → ℕ
 offset_symbol alphabet value =
     ((value + slice_index alphabet.last (value - 48)) % 2 ^ 8 + first_of alphabet value) % 2 ^ 8

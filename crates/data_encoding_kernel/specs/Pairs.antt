@@ -1,16 +1,17 @@
--- Lanes of sixteen bits that have two digits each.
+-- Lanes of sixteen bits with two digits each.
 use Rattle.std.specs.Prelude.{ℕ, ◌*◌, ◌/◌, ◌%◌, ◌^◌, List, bit_and, bit_or}
 use Rattle.std.specs.Simd.Lanes.{zip2}
 
--- the higher sixteen bits of a product, and the lower ones
+-- The upper sixteen bits of the 32-bit product of `lane` and `factor`.
 abbrev pub high_half : ℕ → ℕ → ℕ
 high_half lane factor = lane * factor % 2 ^ 32 / 2 ^ 16
 
+-- The lower sixteen bits of the product of `lane` and `factor`.
 abbrev pub low_half : ℕ → ℕ → ℕ
 low_half lane factor = lane * factor % 2 ^ 16
 
--- lanes of which the bits under a mask are moved down by a factor, and others are moved up by
--- another one, to the bits that are kept
+-- In each lane, the bits under its mask, moved down by its factor of `downs`. Beside them, its bits
+-- moved up by its factor of `ups`, under its mask of `kept`.
 abbrev pub split_lanes : List ℕ → List ℕ → List ℕ → List ℕ → List ℕ → List ℕ
 split_lanes masks downs ups kept lanes =
     zip2 bit_or (zip2 high_half (zip2 bit_and lanes masks) downs)

@@ -1,12 +1,11 @@
--- Runs of whole groups that are symbols alone.
+-- Runs: consecutive whole groups in which each byte is a symbol.
 use Rattle.std.specs.Prelude.{◌≡◌, ℕ, ◌+◌, ◌*◌, ◌/◌, ◌<◌, ◌≤◌, true, false, List, length, take, slice_index}
 use Rattle.data_encoding_meaning.specs.declared.encoding.BitOrder.{BitOrder}
 use Rattle.data_encoding_meaning.specs.text.Base.{Base, meaning, is_symbol, group_bytes, group_symbols}
 use Rattle.data_encoding_kernel.specs.Tables.{Reads}
 use Rattle.data_encoding_meaning.specs.decoding.Decoding.{run_bytes}
 
--- The first groups of a text, as many as the count, are symbols only. The output starts with their
--- bytes.
+-- The first `count` groups of `part` are symbols only. The output starts with their bytes.
 pub record IsRun (base : Base) (part : List ℕ) (count : ℕ) (old new : List ℕ) : Type 0 where
   pub within : count * group_symbols base.width ≤ length part
   pub are_symbols : (k : ℕ) → k < count * group_symbols base.width
@@ -14,7 +13,8 @@ pub record IsRun (base : Base) (part : List ℕ) (count : ℕ) (old new : List �
   pub bytes : take (count * group_bytes base.width) new
       ≡ run_bytes base (take (count * group_symbols base.width) part)
 
--- The run is the longest: it has all whole groups, or the next group has a byte that is no symbol.
+-- The run is the longest: it has all whole groups, or the next group has a byte that is not a
+-- symbol.
 abbrev pub IsLongest : Base → List ℕ → ℕ → Type 0
 IsLongest base part count =
     count < length part / group_symbols base.width
@@ -22,12 +22,12 @@ IsLongest base part count =
     → is_symbol (meaning base (slice_index part (count * group_symbols base.width + k))) ≡ true)
     → false ≡ true
 
--- A run for each base that decodes with this table, width and order.
+-- The run is one for each base that decodes with the given table, width and order.
 abbrev pub IsRunBy : List ℕ → ℕ → BitOrder → List ℕ → ℕ → List ℕ → List ℕ → Type 0
 IsRunBy values width order part count old new =
     (base : Base) → Reads base values width order → IsRun base part count old new
 
--- The longest run for each base that decodes with this table, width and order.
+-- The run is the longest for each base that decodes with the given table, width and order.
 abbrev pub IsLongestBy : List ℕ → ℕ → BitOrder → List ℕ → ℕ → Type 0
 IsLongestBy values width order part count =
     (base : Base) → Reads base values width order → IsLongest base part count

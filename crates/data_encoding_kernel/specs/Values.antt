@@ -4,18 +4,18 @@ use Rattle.data_encoding_meaning.specs.declared.encoding.BitOrder.{BitOrder}
 use Rattle.data_encoding_kernel.specs.declared.lanes.rows.Rows.{Rows}
 use Rattle.data_encoding_kernel.specs.Words.{weight}
 
--- the two halves of a lane, of this many bits, as two digits of a word
+-- The two halves of a lane, of `half` bits each, as two digits of `size` bits in a word.
 abbrev pub joined : BitOrder → ℕ → ℕ → ℕ → ℕ
 joined order half size lane =
     (lane % 2 ^ half * 2 ^ weight order size 2 0 + lane / 2 ^ half * 2 ^ weight order size 2 1)
     % 2 ^ (half + half)
 
--- The row is sixteen entries of a table, from this one on.
+-- The row is the sixteen entries of a table from index `start` on.
 abbrev pub IsRow : List ℕ → ℕ → List ℕ → Type 0
 IsRow values start row =
     (k : ℕ) → k < 16 → slice_index row k ≡ slice_index values (start + k)
 
--- The rows are the lower half of a table.
+-- The rows are the lower half of the table.
 pub record HoldsRows (values : List ℕ) (rows : Rows) : Type 0 where
   pub first : IsRow values 0 rows.first
   pub second : IsRow values 16 rows.second
@@ -26,21 +26,22 @@ pub record HoldsRows (values : List ℕ) (rows : Rows) : Type 0 where
   pub seventh : IsRow values 96 rows.seventh
   pub eighth : IsRow values 112 rows.eighth
 
--- Each entry found that is below 128 is that of the table for its byte.
+-- Each entry below 128 that was found is the entry of the table for its byte.
 abbrev pub AreEntries : List ℕ → List ℕ → List ℕ → Type 0
 AreEntries values bytes found =
     (k : ℕ) → k < length bytes → slice_index found k < 128
     → slice_index found k ≡ slice_index values (slice_index bytes k)
 
--- Each entry of the table below 128 is the value of a symbol of this many bits.
+-- Each entry of the table below 128 is the value of a symbol of `width` bits.
 abbrev pub AreValues : List ℕ → ℕ → Type 0
 AreValues values width =
     (byte : ℕ) → byte < 256 → slice_index values byte < 128 → slice_index values byte < 2 ^ width
 
--- the entry of a row at the lowest four bits of a byte
+-- The entry of a row of the table at the lowest four bits of `byte`. The row begins at index
+-- `start`.
 abbrev pub in_row : List ℕ → ℕ → ℕ → ℕ
 in_row values start byte = slice_index values (start + byte % 16)
 
--- the first function of a byte if the bit that a shift makes the highest is set, or else the second
+-- `f byte` if the highest bit of `byte`, shifted up by `up`, is set, or else `g byte`.
 abbrev pub chosen_by : ℕ → (ℕ → ℕ) → (ℕ → ℕ) → ℕ → ℕ
 chosen_by up f g byte = if nat_le 128 (byte * 2 ^ up % 2 ^ 8) then f byte else g byte

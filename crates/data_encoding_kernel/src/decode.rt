@@ -1,4 +1,4 @@
-//! Runs of whole groups of symbols only, which are decoded without a judgement.
+//! Decoding of whole groups of symbols, up to the first group with another byte.
 
 ghost use Rattle.std.specs.Prelude.{◌≡◌, ℕ, ◌*◌, ◌/◌, ◌<◌, ◌≤◌, List, length, take, IsTrue};
 ghost use Rattle.data_encoding_kernel.specs.Runs.{IsLongestBy, IsRunBy};
@@ -11,8 +11,10 @@ use crate::turn::{DecodeTurn, EightGroups, SixteenSymbols};
 use crate::words::{decode_symbols, entry_of};
 use data_encoding_meaning::encoding::BitOrder;
 
-/// Decodes whole groups from the start of the input to the start of the output, up to the first
-/// group with a byte that is no symbol, and returns their number. Output bytes after theirs are
+/// Decodes whole groups from the start of `input` to the start of `output`, and returns their
+/// number.
+///
+/// Stops at the first group with a byte that is not a symbol. The output after the decoded bytes is
 /// unspecified.
 #[inline(always)]
 pub fn decode_run<L: LookUp, O: ConstantOrder, G: GroupSize>(
@@ -30,8 +32,9 @@ pub fn decode_run<L: LookUp, O: ConstantOrder, G: GroupSize>(
     decode_run_within::<L, O, G>(values, look_up, input, input.len(), output)
 }
 
-/// Decodes whole groups from the first `len` bytes of the input, as [`decode_run`] does. Bytes
-/// after them may be loaded, so that fewer groups are decoded one by one.
+/// Decodes whole groups of the first `len` bytes of `input`, like [`decode_run`].
+///
+/// May load the bytes after them, so that SIMD iterations cover more groups.
 // Inlined, since a call costs more than decoding a short text.
 #[inline(always)]
 pub fn decode_run_within<L: LookUp, O: ConstantOrder, G: GroupSize>(
@@ -113,7 +116,8 @@ fn decode_by_several<L: LookUp, O: ConstantOrder, G: GroupSize>(
     (first, false)
 }
 
-// By turns of sixteen symbols. The sixteenth may end a padded group; then a turn would be wasted.
+// Decodes 16 symbols per iteration. Skips the attempt if the 16th byte is padding or another byte
+// that is not a symbol.
 #[inline(always)]
 fn decode_by_few<L: LookUp, O: ConstantOrder, G: GroupSize>(
     values: &[u8; 256],
@@ -199,8 +203,8 @@ fn decode_by_eights<L: LookUp, O: ConstantOrder, G: GroupSize>(
     if at < len { at } else { len }
 }
 
-// As `count_turns`, where the output has room for all groups: then a turn that ends after `len` is
-// the only one to be tested, and none is where the input ends at `len`.
+// Like `count_turns`, for an output with room for every group. Only a last iteration that passes
+// `len` needs a check, and none is made if the input ends at `len`.
 #[inline(always)]
 fn count_turns_of_run<G: GroupSize>(input_len: usize, len: usize, output_len: usize) -> usize
     requires few { len ≤ input_len }
@@ -221,9 +225,11 @@ fn count_turns_of_run<G: GroupSize>(input_len: usize, len: usize, output_len: us
     whole + 1
 }
 
-/// Decodes by turns of eight groups, up to the first byte that is no symbol or up to a length, as
-/// long as the input and the output have a whole turn. Returns how many bytes were read; the whole
-/// groups among them are decoded, and output bytes after theirs are unspecified.
+/// Decodes eight groups per iteration, up to `len` or to the first byte that is not a symbol, and
+/// returns the number of bytes read.
+///
+/// Also stops where the input or the output is too short for an iteration. The whole groups among
+/// the bytes read are decoded. The output after their bytes is unspecified.
 #[inline(always)]
 pub fn decode_by_turns<L: LookUp, O: ConstantOrder, G: GroupSize>(
     look_up: &L,

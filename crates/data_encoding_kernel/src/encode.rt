@@ -1,4 +1,4 @@
-//! The symbols of data, group after group.
+//! Encoding of data, group after group.
 
 ghost use Rattle.std.specs.Prelude.{◌≡◌, ℕ, ◌+◌, ◌-◌, ◌*◌, ◌/◌, ◌<◌, ◌≤◌, List, length, take};
 ghost use Rattle.data_encoding_kernel.specs.Tables.{IsTextBy};
@@ -12,7 +12,7 @@ use crate::words::encode_group;
 use data_encoding_meaning::encoding::BitOrder;
 use data_encoding_meaning::limits::ENCODE_LIMIT;
 
-/// Writes the symbols of data.
+/// Writes the symbols of `input`, without padding.
 #[inline(always)]
 pub fn encode_plain<G: GroupSize>(
     symbols: &[u8; 256],

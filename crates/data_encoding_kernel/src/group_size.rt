@@ -1,11 +1,12 @@
-//! The sizes of a whole group, by the width of a symbol.
+//! The sizes of a whole group for each width of a symbol.
 
 ghost use Rattle.std.specs.Prelude.{ℕ, refl};
 ghost use Rattle.std.proofs.Common.{lit<, lit≤};
 ghost use Rattle.data_encoding_meaning.specs.text.Base.{IsGroup};
 
-/// Calls a method with the type of a width, from 1 to 6, as its last type argument. The width and
-/// the sizes of a group are then constants, and loops over a group are unrolled.
+/// Calls a method with the type for `$width`, from 1 to 6, as its last type argument.
+///
+/// The width and the sizes of a group are then constants, and loops over a group are unrolled.
 #[macro_export]
 macro_rules! call_by_width {
     ($width:expr, $this:ident.$call:ident::<$($fixed:ident),*>($($argument:expr),*)) => {
@@ -20,8 +21,9 @@ macro_rules! call_by_width {
     };
 }
 
-/// The width of a symbol, and the numbers of bytes and of symbols in a whole group: constants, so
-/// that loops over a group are unrolled.
+/// The width of a symbol in bits, and the numbers of bytes and of symbols in a whole group.
+///
+/// They are constants, so that loops over a group are unrolled.
 pub trait GroupSize {
     ghost WIDTH: { ℕ };
 

@@ -1,4 +1,4 @@
-//! The bytes of a text that are not ignored, packed sixteen at a time by a table of moves.
+//! Packing of the bytes of a text that are not ignored, sixteen at a time.
 
 ghost use Rattle.std.specs.Prelude.{◌≡◌, ℕ, ◌+◌, ◌-◌, ◌*◌, ◌^◌, ◌<◌, ◌≤◌, ◌==◌, ◌++◌, ◌∷◌, Bool, not, List, length, map, take, drop, filter};
 ghost use Rattle.std.specs.List.{AllByRecursion, range_with_len};
@@ -15,20 +15,19 @@ use crate::lanes::affine::bits;
 use crate::lanes::rows::in_row_16;
 use std::simd::prelude::*;
 
-/// The bytes that are ignored.
+/// The set of ignored bytes.
 #[derive(Clone, Copy, Drop)]
 pub struct IgnoredBytes {
-    /// By the lowest four bits of a byte: the bits of those rows of sixteen in which such a byte is
-    /// ignored.
+    /// `rows[low]` has bit `high` set if the byte `high << 4 | low` is ignored.
     pub rows: u8x16,
 }
 
-/// What was packed.
+/// The counts that packing returns.
 #[derive(Clone, Copy, Drop)]
 pub struct Packed {
     /// The number of bytes that are not ignored.
     pub count: usize,
-    /// The number of those sixteens that had an ignored byte.
+    /// The number of chunks of at most 16 bytes that had an ignored byte.
     pub mixed: usize,
 }
 
@@ -36,7 +35,7 @@ pub struct Packed {
 const IGNORED: u8 = 129;
 
 impl IgnoredBytes {
-    /// Returns the bytes below 128 that are ignored, by a table of values.
+    /// Returns the ignored bytes below 128 of a table of values.
     #[inline(always)]
     pub fn of(values: &[u8; 256]) -> IgnoredBytes
         ensures { (base : Base) → HoldsValues base values.now → length base.meanings ≤ 128
@@ -51,7 +50,7 @@ impl IgnoredBytes {
         IgnoredBytes { rows }
     }
 
-    /// Returns how many of sixteen bytes are not ignored.
+    /// Returns the number of bytes of `part` that are not ignored. `part` has 16 bytes.
     #[inline(always)]
     pub fn count_kept(&self, part: &[u8]) -> usize
         requires { length part.now ≡ 16 }
@@ -61,7 +60,8 @@ impl IgnoredBytes {
         kept_mask(self, u8x16::from_slice(part)).count_ones() as usize
     }
 
-    /// Returns the bits of those of sixteen bytes that are not ignored, the first lowest.
+    /// Returns a mask of the bytes of `part` that are not ignored. Its lowest bit is for the first
+    /// byte. `part` has 16 bytes.
     #[inline(always)]
     pub fn kept_bits(&self, part: &[u8]) -> u64
         requires { length part.now ≡ 16 }
@@ -94,8 +94,7 @@ fn kept_mask(ignored: &IgnoredBytes, bytes: u8x16) -> u64
     (rows & row_bits).simd_eq(u8x16::splat(0)).to_bitmask()
 }
 
-// Writes those of the first eight lanes whose bit is set in the mask, and returns how many they
-// are. What follows them is written too.
+// Packs the lanes selected by `mask` and returns their number. Always stores eight bytes.
 #[inline(always)]
 fn pack_eight(mask: u64, bytes: u8x16, room: &mut [u8]) -> usize
     requires mask { mask < 256 }
@@ -170,8 +169,9 @@ fn last_sixteen(part: &[u8]) -> u8x16
     u8x16::from_array(lanes)
 }
 
-/// Packs the bytes of a part of a text that are not ignored, in order, to the start of the room. Up
-/// to sixteen bytes after them are written too.
+/// Packs the bytes of `part` that are not ignored, in order, to the start of `room`.
+///
+/// Writes up to sixteen bytes after them, too.
 #[inline]
 pub fn pack(ignored: &IgnoredBytes, part: &[u8], room: &mut [u8]) -> Packed
     requires room { length part.now + 16 ≤ length room.old }

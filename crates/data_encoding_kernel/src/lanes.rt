@@ -1,4 +1,4 @@
-//! Eight groups, or sixteen symbols, at a time, in lanes of vectors.
+//! SIMD code: eight groups, or sixteen symbols, per iteration.
 
 pub mod affine;
 pub mod decode;

@@ -1,8 +1,8 @@
-//! The inner loops of encoding and decoding: groups of bytes and of symbols, by a table, a width
-//! and an order of bits, with one group in a word of 64 bits or eight groups in lanes.
+//! The inner loops of encoding and decoding: groups of bytes and of symbols.
 //!
-//! No encoding is known here. The contracts of the loops are about each base that encodes or
-//! decodes with the given table (`Writes`, `Reads`).
+//! A loop takes a look-up table, a width and an order of bits. It handles one group in a word of 64
+//! bits, or several groups in the lanes of SIMD vectors. It knows no encoding: its contract holds
+//! for each base that encodes or decodes with the given table (`Writes`, `Reads`).
 #![tactic(auto)]
 
 pub mod decode;

@@ -1,8 +1,8 @@
-//! What differs between platforms. No other source does: the build for WebAssembly puts another
-//! file in place of this one.
+//! The differences between platforms.
+//!
+//! The build for WebAssembly replaces this file, and no other.
 
-/// Whether groups go eight and sixteen at a time, in lanes of vectors; if not, one or four at a
-/// time, in words.
+/// Returns `true` if groups are encoded and decoded with SIMD, and `false` if in words.
 // No clause says which it is: so each function that asks is proved for both answers, and none is
 // proved again where this file is another.
 #[inline(always)]

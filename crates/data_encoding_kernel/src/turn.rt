@@ -1,4 +1,4 @@
-//! Several whole groups of symbols at a time.
+//! Iterations that decode several whole groups of symbols.
 
 ghost use Rattle.std.specs.Prelude.{◌≡◌, ℕ, ◌*◌, ◌/◌, ◌≤◌, List, length, IsTrue};
 ghost use Rattle.data_encoding_kernel.specs.Runs.{IsRunBy};
@@ -10,7 +10,7 @@ use crate::lanes::look_up::LookUp;
 use crate::words::decode_entries;
 use data_encoding_meaning::encoding::BitOrder;
 
-/// A way to decode a fixed number of whole groups in each turn of a loop.
+/// A way to decode a fixed number of whole groups per iteration.
 pub trait DecodeTurn<G: GroupSize> {
     ghost GROUPS: { ℕ };
 
@@ -28,10 +28,12 @@ pub trait DecodeTurn<G: GroupSize> {
             → IsRunBy values G.WIDTH order input.now (result / G.SYMBOLS) output.old output.new };
 }
 
-/// Eight groups in lanes, up to the first byte that is refused. The look-up is held by value, so
-/// that it stays in registers.
+/// Decodes eight groups with SIMD, up to the first byte that is not a symbol.
+///
+/// The look-up is held by value, so that it stays in registers.
 #[derive(Clone, Copy, Drop)]
 pub struct EightGroups<L> {
+    /// The look-up of entries.
     pub look_up: L,
 }
 
@@ -48,9 +50,10 @@ impl<L: LookUp, G: GroupSize> DecodeTurn<G> for EightGroups<L> {
     }
 }
 
-/// The groups of sixteen symbols in lanes, up to the first byte that is none.
+/// Decodes the groups of sixteen symbols with SIMD, up to the first byte that is not a symbol.
 #[derive(Clone, Copy, Drop)]
 pub struct SixteenSymbols<L> {
+    /// The look-up of entries.
     pub look_up: L,
 }
 

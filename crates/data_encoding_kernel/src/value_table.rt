@@ -5,19 +5,24 @@ ghost use Rattle.data_encoding_kernel.specs.Affine.{HoldsAffine, agrees};
 
 use crate::lanes::affine::{Affine, PlainAffine, plain_affine_of};
 
-/// The value of each byte that is a symbol, and 128 or more for any other byte; and the affine form
-/// of this table, which is found once, when an encoding is built.
+/// The value of each byte, and the affine form of this table.
+///
+/// A byte that is not a symbol has an entry of 128 or more. The affine form is found once, when an
+/// encoding is built.
 // A struct with a ghost field can't be part of a `static`, so functions require that both agree.
 #[repr(C)]
 #[derive(Clone, Copy, Debug, Drop)]
 pub struct ValueTable {
+    /// The entry of each byte.
     pub entries: [u8; 256],
+    /// The affine form, or [`PlainAffine::NONE`].
     pub form: PlainAffine,
 }
 
 impl ValueTable {
-    /// Returns the table with its affine form, if the search finds one. The symbols are the bytes
-    /// whose value is below the limit.
+    /// Returns the table with its affine form, if the search finds one.
+    ///
+    /// The symbols are the bytes with a value below `limit`.
     pub fn new(entries: [u8; 256], limit: u8) -> ValueTable
         ensures entries { result.entries ≡ entries }
         ensures agrees { IsTrue (agrees entries result.form) }
@@ -28,7 +33,7 @@ impl ValueTable {
         }
     }
 
-    /// Whether the table has an affine form.
+    /// Returns `true` if the table has an affine form.
     #[inline(always)]
     pub fn is_affine(&self) -> bool
         ensures { result ≡ self.now.form.is_affine }

@@ -10,8 +10,8 @@ ghost use Rattle.data_encoding_kernel.specs.Words.{weight, digit, low_byte, word
 use crate::group_size::GroupSize;
 use data_encoding_meaning::encoding::BitOrder;
 
-/// Returns how many bits of a word are below the digit at `index`, of `count` digits of `size` bits
-/// each.
+/// Returns the number of bits of a word below the digit at `index`, of `count` digits of `size`
+/// bits each.
 pub fn weight_at(order: BitOrder, size: usize, count: usize, index: usize) -> usize
     requires inside { index < count }
     requires fits { size * count ≤ 64 }
@@ -83,7 +83,7 @@ pub fn encode_group<G: GroupSize>(
     symbols_of_word::<G>(symbols, order, word, output);
 }
 
-/// Returns the entry of a byte.
+/// Returns the entry of `byte`.
 pub fn entry_of(values: &[u8; 256], byte: u8) -> u8
     ensures { result ≡ slice_index values.now byte }
 {
@@ -151,9 +151,11 @@ fn bytes_of_word<G: GroupSize>(order: BitOrder, word: u64, output: &mut [u8])
     }
 }
 
-/// Writes the bytes of a group of symbols, which may be shorter, without the bits after the last
-/// whole byte, and returns all entries combined by OR. If a byte of the input is no symbol, the
-/// result is 128 or more, and any bytes are written.
+/// Writes the bytes of a group of symbols, which may be shorter, and returns all its entries
+/// combined by OR.
+///
+/// The bits after the last whole byte are dropped. If a byte of `input` is not a symbol, the result
+/// is 128 or more, and the output is unspecified.
 #[inline(always)]
 pub fn decode_entries<G: GroupSize>(
     values: &[u8; 256],
@@ -173,8 +175,10 @@ pub fn decode_entries<G: GroupSize>(
     entries
 }
 
-/// Writes the bytes of a group of symbols, which may be shorter, without the bits after the last
-/// whole byte. Returns `false`, with any output, if a byte of the input is no symbol.
+/// Writes the bytes of a group of symbols, which may be shorter, and returns `true`.
+///
+/// The bits after the last whole byte are dropped. Returns `false` if a byte of `input` is not a
+/// symbol. The output is then unspecified.
 // Inlined, with the order as a constant, so that every shift is by a constant.
 #[inline(always)]
 pub fn decode_symbols<G: GroupSize>(
@@ -207,7 +211,7 @@ pub fn decode_symbols<G: GroupSize>(
     entries < 128
 }
 
-/// Returns the position of the first byte that is no symbol, or the length.
+/// Returns the index of the first byte that is not a symbol, or the length if there is none.
 #[inline(always)]
 pub fn symbol_position(values: &[u8; 256], input: &[u8]) -> usize
     ensures before { (k : ℕ) → k < result

@@ -1,9 +1,9 @@
-//! The order of bits, and what a byte of a text means.
+//! The order of bits, and the meaning of a byte in a text.
 
 ghost use Rattle.std.specs.Prelude.{◌≡◌};
 ghost use Rattle.data_encoding_meaning.specs.text.Base.{is_ignored, is_invalid, is_padding, value_of};
 
-/// Which bit of a byte comes first.
+/// The order in which the bits of a byte are encoded.
 #[derive(Clone, Copy, Debug, PartialEq, Eq)]
 pub enum BitOrder {
     /// The bit of weight 128 comes first, as in RFC 4648.
@@ -13,27 +13,27 @@ pub enum BitOrder {
     LeastSignificantFirst,
 }
 
-/// What a byte of a text means.
+/// The meaning of a byte in a text.
 #[derive(Clone, Copy, Debug, PartialEq, Eq)]
 pub enum Character {
-    /// A symbol, which means the bits of its value.
+    /// A symbol, which encodes the bits of its value.
     Symbol {
-        /// The value, below the number of symbols.
+        /// The value, less than the number of symbols.
         value: usize,
     },
 
-    /// Padding, which fills the last group of a text.
+    /// Padding, which fills up the last group of a text.
     Padding,
 
-    /// Ignored, as line ends often are.
+    /// An ignored byte, for example a line end.
     Ignored,
 
-    /// Nothing: a text with such a byte cannot be decoded.
+    /// A byte that is not allowed in a text.
     Invalid,
 }
 
 impl Character {
-    /// The value, if it is a symbol.
+    /// Returns the value of a symbol, and `None` for any other character.
     pub fn is_symbol(self) -> Option<usize>
         ensures { result ≡ value_of self }
     {
@@ -43,21 +43,21 @@ impl Character {
         }
     }
 
-    /// Whether it is padding.
+    /// Returns `true` if the character is padding.
     pub fn is_padding(self) -> bool
         ensures { result ≡ is_padding self }
     {
         matches!(self, Character::Padding)
     }
 
-    /// Whether it is ignored.
+    /// Returns `true` if the character is ignored.
     pub fn is_ignored(self) -> bool
         ensures { result ≡ is_ignored self }
     {
         matches!(self, Character::Ignored)
     }
 
-    /// Whether it is invalid.
+    /// Returns `true` if the character is invalid.
     pub fn is_invalid(self) -> bool
         ensures { result ≡ is_invalid self }
     {

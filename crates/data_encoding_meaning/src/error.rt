@@ -1,4 +1,4 @@
-//! Faults of texts: what is wrong, at which position, and how it is displayed.
+//! Faults of texts: their kinds, their positions, and the messages that they print.
 
 ghost use Rattle.std.specs.Prelude.{Some};
 ghost use Rattle.data_encoding_meaning.specs.decoding.Printed.{printed_error, printed_fault, printed_kind};
@@ -7,64 +7,64 @@ use std::alloc::AllocError;
 use std::error::Error;
 use std::fmt;
 
-/// What is wrong with a text.
+/// The kind of a fault.
 #[derive(Clone, Copy, Debug, PartialEq, Eq)]
 pub enum DecodeKind {
-    /// No text has this length.
+    /// The length of the text or of a group is invalid.
     Length,
 
-    /// A byte is no symbol.
+    /// A byte is not a symbol where a symbol is expected.
     Symbol,
 
-    /// Bits left after the last byte of data are not zeros.
+    /// The trailing bits of the last symbol are not all zeros.
     Trailing,
 
-    /// The number of padding characters is wrong, or a group follows a padded one where texts may
-    /// not be concatenated.
+    /// The number of padding characters is wrong, or a group follows a padded group although texts
+    /// may not be concatenated.
     Padding,
 }
 
-/// What is wrong with a text, and at which position.
+/// A fault of a text: its kind and its position.
 #[derive(Clone, Copy, Debug, PartialEq, Eq)]
 pub struct DecodeError {
-    /// The position of the faulty byte in the text, from 0. For an invalid length, if no byte is
-    /// ignored, it is the greatest valid length below that one.
+    /// The index of the faulty byte in the text, from 0. For an invalid length in an encoding that
+    /// ignores no byte: the longest valid length below it.
     pub position: usize,
 
-    /// What is wrong at this position.
+    /// The kind of the fault.
     pub kind: DecodeKind,
 }
 
-/// What is wrong with a group of a text, and with which of its bytes.
+/// A fault of a group: its kind, and the index of the faulty byte in the group.
 #[derive(Clone, Copy, Drop)]
 pub struct GroupFault {
-    /// The index of the faulty byte in the group.
+    /// The index of the faulty byte in the group, from 0.
     pub index: usize,
 
-    /// What is wrong at this index.
+    /// The kind of the fault.
     pub kind: DecodeKind,
 }
 
-/// How far a text with a fault was decoded.
+/// The progress of a decoding that stopped at a fault.
 #[derive(Clone, Copy, Debug, PartialEq, Eq)]
 pub struct DecodePartial {
-    /// How many bytes of the text were read; they mean the bytes that were written.
+    /// The number of bytes of the text that were read. They mean the bytes that were written.
     pub read: usize,
 
-    /// How many bytes of the output were written.
+    /// The number of bytes that were written to the output.
     pub written: usize,
 
     /// The fault of the text.
     pub error: DecodeError,
 }
 
-/// Why a decoding gave no data.
+/// The reason why a decoding returned no data.
 #[derive(Debug, Drop)]
 pub enum DecodeFault {
     /// The text has a fault.
     Error(DecodeError),
 
-    /// Memory for the data ran out.
+    /// The memory for the data could not be allocated.
     OutOfMemory,
 }
 

@@ -1,7 +1,7 @@
 //! Laws of the definitions: the contract of each function is a theorem, and a call does nothing.
 //!
-//! Users draw their conclusions from the laws in this module. The module `steps` has the steps by
-//! which a decoder proves that it reads a text in pieces.
+//! Each law is for encodings that are built from a specification. The laws in this module are for
+//! users. The module [`steps`] has the steps of the proof that a decoder reads a text in pieces.
 
 ghost use Rattle.std.specs.Prelude.{◌<◌};
 ghost use Rattle.data_encoding_meaning.specs.text.Base.{Base};
@@ -22,66 +22,73 @@ ghost use Rattle.data_encoding_meaning.specs.laws.SameMeaning.{FaultExchanged, M
 
 pub mod steps;
 
-/// Each encoding is built from its own specification.
+/// States that each encoding is built from its own specification.
 pub fn specification_again()
     ensures { SpecificationAgain }
 {}
 
-/// The rules of each of the eighteen, by name: the width and the order of bits, padding, lines, the
-/// bytes that are ignored, whether trailing bits are checked, and whether texts may be
-/// concatenated.
+/// States the rules of each predefined encoding, by name.
+///
+/// These are the width, the order of bits, the padding, the lines, the ignored bytes, whether
+/// trailing bits are checked, and whether texts may be concatenated.
 pub fn eighteen()
     ensures { EighteenRules }
 {}
 
-/// Data that is encoded in pieces has the text of the whole, if the length of each piece but the
-/// last is a multiple of `encode_align`, which is never 0.
+/// States that data may be encoded in pieces: the texts of the pieces, joined, are the text of the
+/// data.
+///
+/// The length of each piece except the last must be a multiple of `encode_align`, which is never 0.
 pub fn join_encode()
     ensures join { JoinEncode }
     ensures some { (base : Base) → IsSpecified base → 0 < alignment base }
 {}
 
-/// The text of data means the data, for each encoding that is built from a specification.
+/// States that the text of data means the data.
 pub fn round_trip()
     ensures { RoundTrip }
 {}
 
-/// A text means at most one list of bytes, for each encoding that is built from a specification.
+/// States that a text means at most one list of bytes.
 pub fn one_meaning()
     ensures { OneMeaning }
 {}
 
-/// A text means data if and only if it has no fault and the data is its sound bytes, for each
-/// encoding that is built from a specification.
+/// States that a text means data if and only if it has no fault and the data is its sound bytes.
 pub fn sound_text()
     ensures sound { SoundMeans }
     ensures meant { MeansSound }
 {}
 
-/// Without padding, the bits of the symbols of a text are the bits of the data that it means,
-/// followed by fewer bits than a symbol has, for each encoding that is built from a specification.
+/// States how the symbols of a text give its data, for an encoding without padding.
+///
+/// The bits of the symbols are the bits of the data, followed by fewer bits than a symbol has.
 pub fn unpadded()
     ensures { Unpadded }
 {}
 
-/// Different data has different texts, for each encoding that is built from a specification. If the
-/// encoding is canonical, each text that means n bytes is as long as the text of any n bytes, which
-/// is what `encode_len` returns.
+/// States that different data has different texts.
+///
+/// If the encoding is canonical, each text that means n bytes has the length that `encode_len`
+/// returns for n.
 pub fn injective()
     ensures differ { Injective }
     ensures length { FixedLength }
 {}
 
-/// Two texts joined mean their data joined, for each encoding that is built from a specification,
-/// in two cases: it is padded, and its texts may be concatenated or the first has no padding; or a
-/// symbol has 1, 2 or 4 bits.
+/// States when two texts, joined, mean their data, joined.
+///
+/// They do in two cases: the encoding is padded, and its texts may be concatenated or the first has
+/// no padding; or a symbol has 1, 2 or 4 bits.
 pub fn join_decode()
     ensures { JoinDecode }
 {}
 
-/// Texts may be compared instead of data for exactly those encodings without lines whose most
-/// significant bit comes first, whose symbols ascend, and whose padding comes before each symbol.
-/// Six of the sixteen are such encodings.
+/// States which encodings without lines keep the order of data: exactly the ordered ones.
+///
+/// An encoding is ordered if its most significant bit comes first, its symbols ascend, and its
+/// padding comes before each symbol. Six of the sixteen predefined encodings without lines are
+/// ordered.
 pub fn order()
     ensures kept { Order }
     ensures broken { NoOrder }
@@ -90,30 +97,35 @@ pub fn order()
     ensures sixteen { SixAreOrdered }
 {}
 
-/// If no byte is ignored and there is no padding, `decode_len` is exactly the number of bytes that
-/// a text means, and `encode_len` of that number is the length of the text, for each encoding that
-/// is built from a specification. If there are no lines and no padding, `decode_len` undoes
-/// `encode_len`.
+/// States when the length of a text determines the length of its data.
+///
+/// If no byte is ignored and there is no padding, a text means exactly as many bytes as
+/// `decode_len` returns for its length, and its length is `encode_len` of that number. If there are
+/// no lines and no padding, `decode_len` undoes `encode_len`.
 pub fn tight()
     ensures most { MeansMost }
     ensures fixed { LengthOfText }
     ensures again { LengthAgain }
 {}
 
-/// A fault of whole groups is also the fault of every longer text whose length is not a fault, for
-/// each encoding that is built from a specification. If the whole groups have no fault, no longer
-/// text has one before their end. Ignored bytes belong to no group.
+/// States that a fault of whole groups is also the fault of every longer text, unless the length of
+/// that text is a fault.
+///
+/// If the whole groups have no fault, no longer text has one before their end. Ignored bytes belong
+/// to no group.
 pub fn fault_stays()
     ensures groups { GroupFaultStays }
     ensures text { FaultStays }
     ensures before { NoFaultBefore }
 {}
 
-/// Without padding and ignored bytes, the fault of a text of a valid length follows from its bytes,
-/// for each encoding that is built from a specification. It is an invalid symbol if and only if
-/// some byte is no symbol, at the first such byte. If each byte is a symbol, it is trailing bits at
-/// the last byte, if bits are left that are not all zeros and that is checked. If a symbol has 1, 2
-/// or 4 bits, none are left.
+/// States how the fault of a text follows from its bytes, for a valid length and an encoding
+/// without padding and ignored bytes.
+///
+/// The fault is an invalid symbol if and only if some byte is not a symbol. It is at the first such
+/// byte. If each byte is a symbol, the fault is trailing bits if and only if they are checked and
+/// not all zeros. It is at the last byte. If a symbol has 1, 2 or 4 bits, there are no trailing
+/// bits.
 pub fn fault_told()
     ensures told { FaultTold }
     ensures symbol { SymbolTold }
@@ -121,72 +133,81 @@ pub fn fault_told()
     ensures whole { WholeTold }
 {}
 
-/// If ignored bytes count as invalid, the fault of a text is that of its length, or else that of
-/// the first faulty one of its groups, which are its bytes as they stand. A text of a valid length
-/// in which no byte is ignored has this fault in the encoding itself, for each that is built from a
-/// specification, and `decode_mut` reads and writes as far.
+/// States the fault of a text in which no byte is ignored.
+///
+/// If ignored bytes count as invalid, the fault is the fault of the length, or else the first fault
+/// of a group; the groups are consecutive bytes of the text. A text of a valid length in which no
+/// byte is ignored has the same fault in the encoding itself, and `decode_mut` reads and writes as
+/// far.
 pub fn run_told()
     ensures fault { RunFault }
     ensures same { RunTold }
 {}
 
-/// The symbols of a group, as of any valid number of them, give bytes, or the index of the first
-/// byte that is no symbol, for each encoding that is built from a specification. The bits that are
-/// left are not asked for: if trailing bits are checked, they alone may be a fault.
+/// States that a valid number of bytes gives data, or the index of the first byte that is not a
+/// symbol.
+///
+/// The data does not depend on the trailing bits. If every byte is a symbol, the only possible
+/// fault is the trailing bits, if they are checked.
 pub fn symbols_told()
     ensures { SymbolsTold }
 {}
 
-/// A text that means data is the text of the data, for each canonical encoding that is built from a
-/// specification. Six of the eighteen are canonical: those with no byte that is padding, ignored or
-/// translated.
+/// States which encodings are canonical: there, a text that means data is the text of the data.
+///
+/// An encoding is canonical if and only if no byte is ignored or translated, trailing bits are
+/// checked, and padded texts may not be concatenated. Six of the eighteen predefined encodings are
+/// canonical.
 pub fn canonical()
     ensures only { Canonical }
     ensures causes { CanonicalByCauses }
     ensures eighteen { SixAreCanonical }
 {}
 
-/// For each encoding that is built from a specification and is not canonical, and for each cause of
-/// that, two different texts mean the same data.
+/// States that each cause why an encoding is not canonical gives two different texts that mean the
+/// same data.
 pub fn not_canonical()
     ensures { NotCanonical }
 {}
 
-/// A text that follows one that means data and may be followed, as at `join_decode`, has the fault
-/// that it has alone, if any, with the length of the first added to its position. The data before
-/// that fault follows the data of the first.
+/// States the fault of a text that follows another.
+///
+/// If the first text means data and may be followed, as in [`join_decode`], the fault of the second
+/// stays the same. The length of the first text is added to its position. The data before the fault
+/// follows the data of the first.
 pub fn join_fault()
     ensures { JoinFault }
 {}
 
-/// No two encodings that are built from specifications have the same layout, and bytes are the
-/// layout of one if and only if they keep the rules.
+/// States that no two encodings have the same layout, and which bytes are the layout of an
+/// encoding.
 pub fn one_layout()
     ensures one { OneLayout }
     ensures rules { Layouts }
 {}
 
-/// A decoding of a piece that stops at a fault can be resumed: what was not read, followed by the
-/// next piece, has the meaning and the fault of the whole, if what was read may be followed, as at
-/// `join_decode`. A piece without a fault was read whole: of it and the next, `join_decode` and
-/// `join_fault` say the same.
+/// States that the decoding of a piece that stopped at a fault can be resumed.
+///
+/// The bytes of the piece that were not read, followed by the next piece, have the meaning and the
+/// fault of the whole. The bytes that were read must be a text that may be followed, as in
+/// [`join_decode`]. A piece without a fault is read whole; then [`join_decode`] and [`join_fault`]
+/// apply.
 pub fn resume()
     ensures { Resume }
 {}
 
-/// Texts that differ in ignored bytes only mean the same data, for each encoding that is built from
-/// a specification.
+/// States that texts that differ only in ignored bytes mean the same data.
 pub fn same_kept_bytes()
     ensures { SameKeptBytes }
 {}
 
-/// Texts whose bytes mean the same, one by one, by `interpret_byte`, have the same fault at the
-/// same position and mean the same data, for each encoding that is built from a specification.
+/// States that texts with the same characters, one by one as by `interpret_byte`, have the same
+/// fault at the same position and mean the same data.
 ///
-/// So a translated byte may be replaced by the symbol or the padding character that it means, and
-/// the text means the same. If translated bytes are the only reason why an encoding is not
-/// canonical, two texts that mean data mean the same data if and only if they are equal after each
-/// byte is so replaced; and a text so replaced is the text of its data.
+/// So a translated byte may be replaced by the symbol or the padding character that it means. If
+/// translated bytes are the only reason why an encoding is not canonical, two texts that mean data
+/// mean the same data if and only if they are equal after this replacement. The replaced text is
+/// then the text of its data.
 pub fn translated()
     ensures same { Translated }
     ensures own_form { OwnForm }
@@ -194,15 +215,16 @@ pub fn translated()
     ensures text { OwnText }
 {}
 
-/// Compares an encoding that is built from a specification with another that differs from it in its
-/// symbols alone. The text of data in the other is that in the first, with each symbol exchanged
-/// for the other's symbol of the same value, and each padding character for the other's.
+/// States how two encodings compare that differ only in their symbols.
 ///
-/// If both are built from specifications, and they check trailing bits alike, concatenate alike and
-/// ignore the same bytes, this holds for any text: with its characters exchanged, it means the same
-/// data, and it has the same fault at the same position if no byte that is invalid in the first
-/// means something in the other. More generally, texts whose bytes mean the same in each, one by
-/// one, have the same fault and mean the same.
+/// The text of data in the other encoding is its text in the first, with each symbol replaced by
+/// the other encoding's symbol of the same value, and each padding character by the other's.
+///
+/// If both are built from specifications, agree on the check of trailing bits and on concatenation,
+/// and ignore the same bytes, this extends to any text. With its characters replaced, it means the
+/// same data. It has the same fault at the same position if no byte that is invalid in the first
+/// has a meaning in the other. More generally, two texts whose characters are the same, one by one,
+/// each in its encoding, have the same fault and mean the same data.
 pub fn same_but_symbols()
     ensures text { SameButSymbols }
     ensures both { SameInBoth }

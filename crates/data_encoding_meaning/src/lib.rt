@@ -1,8 +1,8 @@
-//! What the texts of a base encoding mean.
+//! The meaning of the texts of a base encoding.
 //!
-//! The definitions of `specs/` say it without a loop: `text_of` is the text of data, `Means` says
-//! which texts mean which data, and `fault_of` is the one fault of any other text. The functions of
-//! [`laws`] are the theorems on them. The types here are those that the definitions name.
+//! The definitions are in `specs/`: `text_of` is the text of data, `Means` relates a text to the
+//! data that it means, and `fault_of` is the fault of a text that means no data. The functions of
+//! [`laws`] are theorems about them. The definitions use the types that this crate declares.
 #![tactic(auto)]
 
 pub mod encoding;

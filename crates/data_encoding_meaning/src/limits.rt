@@ -1,4 +1,4 @@
-//! The greatest lengths that one call takes.
+//! The limits on the length of data and of text in one call.
 
 /// The greatest length of data that is encoded in one call, in bytes.
 pub const ENCODE_LIMIT: usize = usize::MAX / 512;

@@ -1,6 +1,6 @@
-//! Why a specification is refused.
+//! The reasons to refuse a specification.
 
-/// Why a specification is refused, with the byte or the number that shows it.
+/// The reason why a specification is refused, with the byte or the number that is the cause.
 #[derive(Clone, Copy, Debug)]
 pub enum Refusal {
     /// The number of symbols is not 2, 4, 8, 16, 32 or 64.
@@ -9,21 +9,21 @@ pub enum Refusal {
     /// A character is not ASCII.
     NotAscii,
 
-    /// The byte is given two meanings.
+    /// The given byte has two meanings.
     Duplicate(u8),
 
-    /// There is padding, but no text needs it.
+    /// There is a padding character, but no text of this number of symbols needs padding.
     ExtraPadding,
 
     /// The width of lines or the length of the separator is above 255.
     WrapLength,
 
-    /// The width of lines is not a multiple of this.
+    /// The width of lines is not a multiple of the given number.
     WrapWidth(u8),
 
-    /// The texts of a translation differ in length.
+    /// The two texts of a translation differ in length.
     FromTo,
 
-    /// A byte is translated to this one, which has no meaning.
+    /// A byte is translated to the given byte, which has no meaning.
     Undefined(u8),
 }

@@ -1,11 +1,14 @@
-//! The table of moves: which of eight lanes are packed to the front.
+//! The look-up table that packs the selected lanes of eight to the front.
 
 ghost use Rattle.std.specs.Prelude.{◌≡◌, ◌<◌, Bool, List, length, take};
 ghost use Rattle.std.specs.List.{AllByRecursion, range_with_len};
 ghost use Rattle.std.specs.Simd.Lanes.{digits_l, mask_l};
 ghost use Rattle.data_encoding_kernel.specs.Ignore.{picked};
 
-/// Returns the row of the table of moves for the mask of eight lanes.
+/// Returns the indexes of the lanes that `mask` selects, one in each byte from the lowest on.
+///
+/// The mask has a bit for each of eight lanes. The bytes after the indexes are unspecified, but
+/// less than 8.
 #[inline(always)]
 pub fn moves(mask: u64) -> u64
     requires { mask < 256 }

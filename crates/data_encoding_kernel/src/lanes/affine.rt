@@ -1,4 +1,4 @@
-//! The entries of bytes, from a table that is affine by rows of sixteen.
+//! The entries of bytes, from a table that is affine in each row of sixteen bytes.
 
 ghost use Rattle.std.specs.Prelude.{◌≡◌, ℕ, ◌+◌, ◌*◌, ◌%◌, ◌/◌, ◌<◌, List, length, map, slice_index, IsTrue, IfSome};
 ghost use Rattle.std.specs.List.{range_with_len};
@@ -9,32 +9,37 @@ use crate::lanes::decode::are_below;
 use crate::lanes::rows::{in_row_16, in_row_32, in_row_64};
 use std::simd::prelude::*;
 
-/// A table in which the value of each symbol is its byte plus a constant of the row of sixteen, or
-/// an entry of one further row, which several rows may share.
+/// A table in which the value of each symbol is its byte plus a constant of its row of sixteen
+/// bytes.
+///
+/// Rows without such a constant have their entries in one more row, which they share.
 #[derive(Clone, Copy, Drop)]
 pub struct Affine {
-    /// By the lowest four bits of a byte: the bits of those rows in which such a byte is a symbol.
+    /// `symbols[low]` has bit `high` set if the byte `high << 4 | low` is a symbol.
     pub symbols: u8x16,
-    /// By row: the number that is added to a byte, modulo 256. The sum is 128 or more if the value
-    /// is in the shared row.
+    /// `deltas[high]` is added to a byte of row `high`, modulo 256. The sum is 128 or more if the
+    /// value is in the shared row.
     pub deltas: u8x16,
-    /// By the lowest four bits of a byte.
+    /// The entries of the shared row, by the lowest four bits of a byte.
     pub shared: u8x16,
 }
 
-/// An affine form as plain data, which is kept beside its table.
+/// An affine form as plain data. It is stored with its table.
 #[repr(C)]
 #[derive(Clone, Copy, Debug, Drop)]
 pub struct PlainAffine {
+    /// The field `symbols` of the [`Affine`].
     pub symbols: [u8; 16],
+    /// The field `deltas` of the [`Affine`].
     pub deltas: [u8; 16],
+    /// The field `shared` of the [`Affine`].
     pub shared: [u8; 16],
-    /// Whether the table has an affine form. Without one, no byte is a symbol by `symbols`.
+    /// `true` if the table has an affine form. Without one, no byte is a symbol by `symbols`.
     pub is_affine: bool,
 }
 
 impl PlainAffine {
-    /// The form of a table that has none.
+    /// The form for a table that has no affine form.
     pub const NONE: PlainAffine = PlainAffine {
         symbols: [0; 16],
         deltas: [0; 16],
@@ -55,8 +60,9 @@ impl PlainAffine {
     }
 }
 
-/// Returns the affine form of a table as plain data, or `PlainAffine::NONE` if the search finds
-/// none. The symbols are the bytes whose value is below the limit.
+/// Returns the affine form of `values`, or [`PlainAffine::NONE`] if the search finds none.
+///
+/// The symbols are the bytes with a value below `limit`.
 #[inline(never)]
 pub fn plain_affine_of(values: &[u8; 256], limit: u8) -> PlainAffine
     ensures { IsTrue (agrees values.now result) }
@@ -215,7 +221,7 @@ fn found<const N: usize>(
     is_none.select(Simd::<u8, N>::splat(255), values)
 }
 
-/// The entries of 16 bytes. That of a byte of 128 or more is 128 or more.
+/// Returns the entries of 16 bytes. The entry of a byte of 128 or more is 128 or more.
 #[inline(always)]
 pub fn affine_entries_16(affine: &Affine, bytes: u8x16) -> u8x16
     ensures { (values : List ℕ) → HoldsAffine values affine.now
@@ -224,7 +230,7 @@ pub fn affine_entries_16(affine: &Affine, bytes: u8x16) -> u8x16
     found_16(affine, bytes)
 }
 
-/// The entries of 32 bytes. That of a byte of 128 or more is 128 or more.
+/// Like [`affine_entries_16`], for 32 bytes.
 #[inline(always)]
 pub fn affine_entries_32(affine: &Affine, bytes: u8x32) -> u8x32
     ensures { (values : List ℕ) → HoldsAffine values affine.now
@@ -233,7 +239,7 @@ pub fn affine_entries_32(affine: &Affine, bytes: u8x32) -> u8x32
     found_32(affine, bytes)
 }
 
-/// The entries of 64 bytes. That of a byte of 128 or more is 128 or more.
+/// Like [`affine_entries_16`], for 64 bytes.
 #[inline(always)]
 pub fn affine_entries_64(affine: &Affine, bytes: u8x64) -> u8x64
     ensures { (values : List ℕ) → HoldsAffine values affine.now

@@ -1,4 +1,4 @@
-//! Eight groups of symbols at a time, with a lane for each.
+//! Decoding of eight groups of symbols, with a lane for each group.
 
 ghost use Rattle.std.specs.Prelude.{◌≡◌, ℕ, ◌+◌, ◌-◌, ◌*◌, ◌/◌, ◌%◌, ◌^◌, ◌<◌, ◌≤◌, ◌⊎◌, List, length, map, take, slice_index, flat_map, IsTrue};
 ghost use Rattle.std.specs.List.{AllByRecursion, range_with_len};
@@ -13,7 +13,7 @@ use crate::words::weight_at;
 use data_encoding_meaning::encoding::BitOrder;
 use std::simd::prelude::*;
 
-// The two halves of each lane, each a digit of `size` bits, as one number.
+/// Returns the two halves of each lane, each a digit of `size` bits, as one number.
 #[inline(always)]
 pub fn halves_16<const N: usize>(order: BitOrder, size: usize, lanes: Simd<u16, N>) -> Simd<u16, N>
     requires { size ≤ 8 }
@@ -26,6 +26,7 @@ pub fn halves_16<const N: usize>(order: BitOrder, size: usize, lanes: Simd<u16, 
     (low << Simd::<u16, N>::splat(low_weight)) + (high << Simd::<u16, N>::splat(high_weight))
 }
 
+/// Like [`halves_16`], for lanes of 32 bits.
 #[inline(always)]
 pub fn halves_32<const N: usize>(order: BitOrder, size: usize, lanes: Simd<u32, N>) -> Simd<u32, N>
     requires { size ≤ 16 }
@@ -38,6 +39,7 @@ pub fn halves_32<const N: usize>(order: BitOrder, size: usize, lanes: Simd<u32, 
     (low << Simd::<u32, N>::splat(low_weight)) + (high << Simd::<u32, N>::splat(high_weight))
 }
 
+/// Like [`halves_16`], for lanes of 64 bits.
 #[inline(always)]
 pub fn halves_64<const N: usize>(order: BitOrder, size: usize, lanes: Simd<u64, N>) -> Simd<u64, N>
     requires { size ≤ 32 }
@@ -86,7 +88,7 @@ fn words_of_eight(order: BitOrder, width: usize, values: u8x64) -> u64x8
     halves_64(order, 4 * width, u64x8::from_le_bytes(fours.to_le_bytes()))
 }
 
-// Whether each lane is below the limit.
+/// Returns `true` if each lane is less than `limit`.
 #[inline(always)]
 pub fn are_below<const N: usize>(limit: u8, lanes: Simd<u8, N>) -> bool
     requires { N ≤ 64 }
@@ -96,7 +98,7 @@ pub fn are_below<const N: usize>(limit: u8, lanes: Simd<u8, N>) -> bool
     !lanes.simd_ge(Simd::<u8, N>::splat(limit)).any()
 }
 
-// How many lanes come before the first that is not below the limit.
+/// Returns the number of lanes before the first that is not less than `limit`.
 #[inline(always)]
 pub fn count_below<const N: usize>(limit: u8, lanes: Simd<u8, N>) -> usize
     requires { N ≤ 64 }
@@ -154,7 +156,7 @@ fn words_of_groups<L: LookUp, G: GroupSize>(
     }
 }
 
-// The lowest bits of each word.
+/// Returns the lowest `count` bits of each word.
 #[inline(always)]
 pub fn low_bits<const N: usize>(count: usize, words: Simd<u64, N>) -> Simd<u64, N>
     requires { count < 64 }
@@ -239,8 +241,9 @@ fn store<G: GroupSize>(order: BitOrder, words: u64x8, output: &mut [u8])
     }
 }
 
-/// Decodes eight groups, and returns how many bytes come before the first that is no symbol. Output
-/// bytes after those of the whole groups before it are unspecified.
+/// Decodes eight groups, and returns the number of bytes before the first that is not a symbol.
+///
+/// The output after the bytes of the whole groups before it is unspecified.
 #[inline(always)]
 pub fn decode_eight<L: LookUp, G: GroupSize>(
     look_up: &L,

@@ -1,4 +1,4 @@
-//! Sixteen symbols at a time, with a lane for each of their groups.
+//! Decoding of sixteen symbols, with a lane for each group.
 
 ghost use Rattle.std.specs.Prelude.{◌≡◌, ℕ, ◌*◌, ◌/◌, ◌^◌, ◌<◌, ◌≤◌, List, length, map, take, flat_map};
 ghost use Rattle.std.specs.List.{AllByRecursion, range_with_len};
@@ -143,8 +143,9 @@ fn store_two<G: GroupSize>(order: BitOrder, words: u64x2, output: &mut [u8])
     }
 }
 
-/// Decodes sixteen symbols, and returns how many bytes come before the first that is none. Output
-/// bytes after those of the whole groups before it are unspecified.
+/// Decodes sixteen symbols, and returns the number of bytes before the first that is not a symbol.
+///
+/// The output after the bytes of the whole groups before it is unspecified.
 #[inline(always)]
 pub fn decode_sixteen<L: LookUp, G: GroupSize>(
     look_up: &L,

@@ -1,4 +1,4 @@
-//! The digits of eight groups of bytes, or of those of sixteen symbols, in lanes.
+//! The digits of several groups of bytes, in lanes.
 
 ghost use Rattle.std.specs.Prelude.{◌≡◌, ℕ, ◌+◌, ◌*◌, ◌^◌, ◌<◌, ◌≤◌, List, ◌++◌, length, map, take, flat_map};
 ghost use Rattle.std.specs.List.{AllByRecursion};
@@ -238,8 +238,8 @@ fn six_bit_digits(order: BitOrder, input: &[u8]) -> u8x64
     }
 }
 
-/// Returns the digits of the first eight groups, one after another. Up to six bytes after them are
-/// loaded too.
+/// Returns the digits of the first eight groups, one after another. May load up to six bytes after
+/// them.
 #[inline(always)]
 pub fn digits<G: GroupSize>(order: BitOrder, input: &[u8]) -> u8x64
     requires bytes { 10 * G.BYTES ≤ length input.now + 2 }
@@ -267,8 +267,8 @@ pub fn digits<G: GroupSize>(order: BitOrder, input: &[u8]) -> u8x64
     six_bit_digits(order, input)
 }
 
-/// Returns the digits of the first four groups of six bits a digit, one after another, repeatedly.
-/// Four bytes after them are loaded too.
+/// Returns the six-bit digits of the first four groups, one after another, repeated. Loads four
+/// bytes after them, too.
 // As wide as for eight groups, so that the steps after this one serve both; the compiler drops
 // lanes that are not used.
 #[inline(always)]
@@ -289,8 +289,8 @@ pub fn digits_of_four(order: BitOrder, input: &[u8]) -> u8x64
     }
 }
 
-/// Returns the digits of the first four groups of three bits a digit, one after another, twice.
-/// Four bytes after them are loaded too.
+/// Returns the three-bit digits of the first four groups, one after another, twice. Loads four
+/// bytes after them, too.
 #[inline(always)]
 pub fn octal_digits_of_four(order: BitOrder, input: &[u8]) -> u8x64
     requires { 16 ≤ length input.now }
@@ -302,8 +302,8 @@ pub fn octal_digits_of_four(order: BitOrder, input: &[u8]) -> u8x64
     join_eights(order, spread_three_bits(words.cast::<u64>()))
 }
 
-/// Returns the digits of the first two groups of five bits a digit, one after another, repeatedly.
-/// Six bytes after them are loaded too.
+/// Returns the five-bit digits of the first two groups, one after another, repeated. Loads six
+/// bytes after them, too.
 #[inline(always)]
 pub fn digits_of_two(order: BitOrder, input: &[u8]) -> u8x64
     requires { 16 ≤ length input.now }

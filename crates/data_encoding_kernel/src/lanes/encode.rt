@@ -1,4 +1,4 @@
-//! The symbols of eight groups of bytes at a time, or sixteen symbols, with a lane for each digit.
+//! Encoding of several groups of bytes, with a lane for each digit.
 
 ghost use Rattle.std.specs.Prelude.{◌≡◌, ◌⊎◌, ℕ, ◌+◌, ◌*◌, ◌/◌, ◌%◌, ◌^◌, ◌<◌, ◌≤◌, List, length, flat_map, map, take, slice_index};
 ghost use Rattle.std.specs.List.{AllByRecursion, range_with_len};
@@ -124,7 +124,7 @@ pub trait SymbolLookUp: Copy {
         ensures { result ≡ map (slice_index symbols.now) values };
 }
 
-/// By the rows of the table.
+/// Looks symbols up in the rows of the table.
 #[derive(Clone, Copy, Drop)]
 pub struct SymbolRows;
 
@@ -150,7 +150,7 @@ impl SymbolLookUp for OffsetAlphabet {
     }
 }
 
-/// Writes the text of the first eight groups. Up to eight bytes after them are loaded too.
+/// Writes the text of the first eight groups. May load up to eight bytes after them.
 #[inline(always)]
 pub fn encode_eight<S: SymbolLookUp, G: GroupSize>(
     look_up: &S,
@@ -168,8 +168,10 @@ pub fn encode_eight<S: SymbolLookUp, G: GroupSize>(
     store::<G>(look_up.symbols_of::<G>(symbols, values), output);
 }
 
-/// Writes the text of the whole groups of the first twelve bytes: four of three bytes, or two of
-/// five. Up to six bytes after them are loaded too.
+/// Writes the text of the whole groups of the first twelve bytes: four groups of three bytes, or
+/// two of five.
+///
+/// Loads sixteen bytes.
 #[inline(always)]
 pub fn encode_few<G: GroupSize>(
     symbols: &[u8; 256],

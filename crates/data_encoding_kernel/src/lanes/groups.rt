@@ -1,4 +1,4 @@
-//! The words of eight groups of bytes, with a lane for each.
+//! The words of several groups of bytes, with a lane for each group.
 
 ghost use Rattle.std.specs.Prelude.{◌≡◌, ◌≤◌, length};
 ghost use Rattle.data_encoding_kernel.specs.Lanes.{group_words};
@@ -18,7 +18,7 @@ const FIVES_FROM_LAST: [u8; 16] = [4, 3, 2, 1, 0, 128, 128, 128, 9, 8, 7, 6, 5, 
 
 const FIVES_FROM_FIRST: [u8; 16] = [0, 1, 2, 3, 4, 128, 128, 128, 5, 6, 7, 8, 9, 128, 128, 128];
 
-/// The words of the first eight groups of a byte.
+/// Returns the words of the first eight groups of one byte.
 #[inline(always)]
 pub fn eight_ones(input: &[u8]) -> u8x8
     requires { 8 ≤ length input.now }
@@ -46,7 +46,7 @@ fn little_endian_threes(input: &[u8]) -> u32x4
     u32x4::from_le_bytes(bytes.swizzle_dyn(u8x16::from_array(THREES_FROM_FIRST)))
 }
 
-/// The words of the first four groups of three bytes. Four bytes after the last are loaded too.
+/// Returns the words of the first four groups of three bytes. Loads four bytes after the last, too.
 #[inline(always)]
 pub fn four_threes(order: BitOrder, input: &[u8]) -> u32x4
     requires { 16 ≤ length input.now }
@@ -58,7 +58,8 @@ pub fn four_threes(order: BitOrder, input: &[u8]) -> u32x4
     }
 }
 
-/// The words of the first eight groups of three bytes. Four bytes after the last are loaded too.
+/// Returns the words of the first eight groups of three bytes. Loads four bytes after the last,
+/// too.
 #[inline(always)]
 pub fn eight_threes(order: BitOrder, input: &[u8]) -> u32x8
     requires { 28 ≤ length input.now }
@@ -88,7 +89,7 @@ fn little_endian_fives(input: &[u8]) -> u64x2
     u64x2::from_le_bytes(bytes.swizzle_dyn(u8x16::from_array(FIVES_FROM_FIRST)))
 }
 
-/// The words of the first two groups of five bytes. Six bytes after the last are loaded too.
+/// Returns the words of the first two groups of five bytes. Loads six bytes after the last, too.
 #[inline(always)]
 pub fn two_fives(order: BitOrder, input: &[u8]) -> u64x2
     requires { 16 ≤ length input.now }
@@ -100,7 +101,7 @@ pub fn two_fives(order: BitOrder, input: &[u8]) -> u64x2
     }
 }
 
-/// The words of the first eight groups of five bytes. Six bytes after the last are loaded too.
+/// Returns the words of the first eight groups of five bytes. Loads six bytes after the last, too.
 #[inline(always)]
 pub fn eight_fives(order: BitOrder, input: &[u8]) -> u64x8
     requires { 46 ≤ length input.now }

@@ -1,4 +1,4 @@
-//! Ways to find the entries of bytes, in a lane for each.
+//! The ways to look up the entries of bytes, with a lane for each byte.
 
 ghost use Rattle.std.specs.Prelude.{ℕ, List, IsTrue};
 ghost use Rattle.data_encoding_kernel.specs.Affine.{HoldsAffine, agrees};
@@ -9,24 +9,27 @@ use crate::lanes::rows::{Rows, entries_16, entries_32, entries_64, rows_of};
 use crate::value_table::ValueTable;
 use std::simd::prelude::*;
 
-/// A way to find the entries of a table for bytes. Each entry found that is below 128 is that of
-/// the table.
+/// A way to look up the entries of a table. Each entry below 128 that it finds is the entry of the
+/// table.
 pub trait LookUp: Copy {
     ghost holds: { List ℕ → Self → Type 0 };
 
-    /// Returns the look-up in this table.
+    /// Returns the look-up for `table`.
     fn of(table: &ValueTable) -> Self
         requires { IsTrue (agrees table.now.entries table.now.form) }
         ensures { holds table.now.entries result };
 
+    /// Returns the entries of 16 bytes.
     fn look_up_16(&self, bytes: u8x16) -> u8x16
         ensures { (values : List ℕ) → holds values self.now
             → AreEntries values bytes result };
 
+    /// Returns the entries of 32 bytes.
     fn look_up_32(&self, bytes: u8x32) -> u8x32
         ensures { (values : List ℕ) → holds values self.now
             → AreEntries values bytes result };
 
+    /// Returns the entries of 64 bytes.
     fn look_up_64(&self, bytes: u8x64) -> u8x64
         ensures { (values : List ℕ) → holds values self.now
             → AreEntries values bytes result };

@@ -1,4 +1,4 @@
-//! The symbols of values of six bits, as sums.
+//! Alphabets of six bits in which a symbol is its value plus an offset.
 
 ghost use Rattle.std.specs.Prelude.{◌≡◌, ◌-◌, ◌<◌, map, slice_index, IfSome, IsTrue};
 ghost use Rattle.std.specs.List.{AllByRecursion, range_with_len};
@@ -12,17 +12,19 @@ use std::simd::prelude::*;
 // long as it saves in half as many.
 const LONG_DATA_LEN: usize = 192;
 
-/// Symbols of which each is its value plus a number: the last sixteen have a number each, the
-/// values before them have that of the first of these, and those below a bound another one besides.
+/// An alphabet computed as `value + offset`, modulo 256.
+///
+/// The last sixteen values, from 48 on, have an offset each (`last`). Smaller values use `last[0]`.
+/// Values below `bound` add `first`, too.
 #[derive(Clone, Copy, Drop)]
 pub struct OffsetAlphabet {
-    /// What is added to each of the last sixteen values, modulo 256.
+    /// The offsets of the last sixteen values.
     pub last: u8x16,
 
-    /// The values below this number, ..
+    /// Values below this use `first`.
     pub bound: u8,
 
-    /// .. and what is added to them besides.
+    /// Added to values below `bound`.
     pub first: u8,
 }
 
@@ -38,8 +40,9 @@ fn each_value() -> u8x64
     ])
 }
 
-/// Returns whether the symbols are to be looked for as sums, for so many bytes of data. Three of
-/// them tell most tables that have no such form, so that data does not pay for a search in vain.
+/// Returns `true` if a search for offsets is worthwhile for `len` bytes of data.
+///
+/// Checking three symbols rules out most other alphabets, which avoids a search that would fail.
 // No clause: what asks is proved for both answers.
 #[inline(always)]
 pub fn seeks_offsets<G: GroupSize>(symbols: &[u8; 256], len: usize) -> bool {
@@ -50,7 +53,7 @@ pub fn seeks_offsets<G: GroupSize>(symbols: &[u8; 256], len: usize) -> bool {
     number == symbols[0] || number == symbols[48].wrapping_sub(48)
 }
 
-/// Returns the symbols as sums, if the search finds such a form.
+/// Returns the alphabet as offsets, if the search finds any.
 #[inline(never)]
 pub fn offset_alphabet_of(symbols: &[u8; 256]) -> Option<OffsetAlphabet>
     ensures { IfSome result (HoldsOffsetAlphabet symbols.now) }
@@ -87,7 +90,7 @@ fn agrees(alphabet: &OffsetAlphabet, symbols: &[u8; 256]) -> bool
     are_below(1, same.select(u8x64::splat(0), u8x64::splat(1)))
 }
 
-/// Returns the symbols of values, which are below 64.
+/// Returns the symbols of `values`, which are below 64.
 #[inline(always)]
 pub fn offset_symbols_64(alphabet: &OffsetAlphabet, values: u8x64) -> u8x64
     requires { AllByRecursion (λ value. value < 64) values }

@@ -1,5 +1,7 @@
-//! The digits of groups of symbols of five or six bits, the most significant first: each lane of
-//! sixteen bits has the two digits of a pair, which products move to a byte each.
+//! The digits of groups of symbols of five or six bits, the most significant bit first.
+//!
+//! Each lane of sixteen bits has the two digits of a pair. Two multiplications move them to a byte
+//! each.
 
 ghost use Rattle.std.specs.Prelude.{◌≡◌, ◌≤◌, length, flat_map};
 ghost use Rattle.data_encoding_meaning.specs.declared.encoding.BitOrder.TheVariants.{MostSignificantFirst};
@@ -80,8 +82,8 @@ fn split_pairs(by: &Split, lanes: u16x8) -> u16x8
     (lifted >> u32x8::splat(16)).cast::<u16>() | (second & u16x8::from_array(by.kept))
 }
 
-/// Returns the digits of the first four groups of six bits a digit, one after another. Four bytes
-/// after them are loaded too.
+/// Returns the six-bit digits of the first four groups, one after another. Loads four bytes after
+/// them, too.
 #[inline(always)]
 pub fn six_bit_digits_of_four(input: &[u8]) -> u8x16
     requires { 16 ≤ length input.now }
@@ -92,8 +94,8 @@ pub fn six_bit_digits_of_four(input: &[u8]) -> u8x16
     split_pairs(&SIX_BIT_SPLIT, u16x8::from_le_bytes(bytes)).to_le_bytes()
 }
 
-/// Returns the digits of the first two groups of five bits a digit, one after another. Six bytes
-/// after them are loaded too.
+/// Returns the five-bit digits of the first two groups, one after another. Loads six bytes after
+/// them, too.
 #[inline(always)]
 pub fn five_bit_digits_of_two(input: &[u8]) -> u8x16
     requires { 16 ≤ length input.now }
@@ -104,8 +106,8 @@ pub fn five_bit_digits_of_two(input: &[u8]) -> u8x16
     split_pairs(&FIVE_BIT_SPLIT, u16x8::from_le_bytes(bytes)).to_le_bytes()
 }
 
-/// Returns the digits of the first eight groups of six bits a digit, one after another. Four bytes
-/// after them are loaded too.
+/// Returns the six-bit digits of the first eight groups, one after another. Loads four bytes after
+/// them, too.
 #[inline(always)]
 pub fn six_bit_digits_of_eight(input: &[u8]) -> u8x32
     requires { 28 ≤ length input.now }
@@ -117,8 +119,8 @@ pub fn six_bit_digits_of_eight(input: &[u8]) -> u8x32
     low.shuffle::<32>(high, FIRST_32)
 }
 
-/// Returns the digits of the first eight groups of five bits a digit, one after another. Six bytes
-/// after them are loaded too.
+/// Returns the five-bit digits of the first eight groups, one after another. Loads six bytes after
+/// them, too.
 #[inline(always)]
 pub fn five_bit_digits_of_eight(input: &[u8]) -> u8x64
     requires { 46 ≤ length input.now }

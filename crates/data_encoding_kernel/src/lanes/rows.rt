@@ -1,4 +1,4 @@
-//! The entries of bytes, from a table in rows of sixteen.
+//! The entries of bytes, from a look-up table in rows of sixteen entries.
 
 ghost use Rattle.std.specs.Prelude.{◌≡◌, ℕ, ◌+◌, ◌%◌, ◌<◌, List, map, slice_index};
 ghost use Rattle.data_encoding_kernel.specs.Values.{AreEntries, HoldsRows, IsRow, chosen_by};
@@ -18,7 +18,7 @@ pub struct Rows {
     pub eighth: u8x16,
 }
 
-/// The rows of a table.
+/// Returns the rows of the lower half of `values`.
 #[inline(always)]
 pub fn rows_of(values: &[u8; 256]) -> Rows
     ensures { HoldsRows values.now result }
@@ -35,7 +35,7 @@ pub fn rows_of(values: &[u8; 256]) -> Rows
     }
 }
 
-// The entries of a row at the lowest four bits of bytes.
+/// Returns the entry of `row` at the lowest four bits of each byte.
 #[inline(always)]
 pub fn in_row_16(row: u8x16, bytes: u8x16) -> u8x16
     ensures { (values : List ℕ) → (start : ℕ) → IsRow values start row
@@ -44,6 +44,7 @@ pub fn in_row_16(row: u8x16, bytes: u8x16) -> u8x16
     row.swizzle_dyn_within::<16>(bytes & u8x16::splat(15))
 }
 
+/// Like [`in_row_16`], for 32 bytes.
 #[inline(always)]
 pub fn in_row_32(row: u8x16, bytes: u8x32) -> u8x32
     ensures { (values : List ℕ) → (start : ℕ) → IsRow values start row
@@ -56,6 +57,7 @@ pub fn in_row_32(row: u8x16, bytes: u8x32) -> u8x32
     repeated.swizzle_dyn_within::<16>(bytes & u8x32::splat(15))
 }
 
+/// Like [`in_row_16`], for 64 bytes.
 #[inline(always)]
 pub fn in_row_64(row: u8x16, bytes: u8x64) -> u8x64
     ensures { (values : List ℕ) → (start : ℕ) → IsRow values start row
@@ -121,7 +123,7 @@ macro_rules! entries_by_rows {
     }};
 }
 
-/// The entries of 16 bytes. That of a byte of 128 or more is 128 or more.
+/// Returns the entries of 16 bytes. The entry of a byte of 128 or more is 128 or more.
 #[inline(always)]
 pub fn entries_16(rows: &Rows, bytes: u8x16) -> u8x16
     ensures { (values : List ℕ) → HoldsRows values rows.now
@@ -130,7 +132,7 @@ pub fn entries_16(rows: &Rows, bytes: u8x16) -> u8x16
     entries_by_rows!(rows, bytes, in_row_16, u8x16)
 }
 
-/// The entries of 32 bytes. That of a byte of 128 or more is 128 or more.
+/// Like [`entries_16`], for 32 bytes.
 #[inline(always)]
 pub fn entries_32(rows: &Rows, bytes: u8x32) -> u8x32
     ensures { (values : List ℕ) → HoldsRows values rows.now
@@ -139,7 +141,7 @@ pub fn entries_32(rows: &Rows, bytes: u8x32) -> u8x32
     entries_by_rows!(rows, bytes, in_row_32, u8x32)
 }
 
-/// The entries of 64 bytes. That of a byte of 128 or more is 128 or more.
+/// Like [`entries_16`], for 64 bytes.
 #[inline(always)]
 pub fn entries_64(rows: &Rows, bytes: u8x64) -> u8x64
     ensures { (values : List ℕ) → HoldsRows values rows.now

@@ -1,4 +1,4 @@
--- A text that is decoded piece by piece.
+-- Texts that are decoded piece by piece.
 use Rattle.std.specs.Prelude.{◌≡◌, ℕ, ◌+◌, ◌-◌, ◌<◌, ◌*◌, ◌/◌, ◌%◌, ◌==◌, ◌&&◌, ◌⊎◌, Bool, true, false, not, if◌then◌else◌, ◌≤◌, List, [], ◌∷◌, ◌++◌, length, drop, take, filter, flat_map, All, Option, Some, None, is_some, Ok}
 use Rattle.std.specs.List.{list_any}
 use Rattle.std.specs.Simd.{first_chunks}
@@ -13,30 +13,31 @@ use Rattle.data_encoding_meaning.specs.laws.Laws.{further}
 use Rattle.data_encoding_meaning.specs.text.Lengths.{decoded_len, length_fault, most_bytes}
 use Rattle.data_encoding_meaning.specs.decoding.Partial.{is_length_fault, partial_of}
 
--- the whole groups of a text so far
+-- The whole groups of `text`.
 abbrev pub whole_groups : Base → List ℕ → List (List Positioned)
 whole_groups base text =
     first_chunks (group_symbols base.width) (length (kept base text) / group_symbols base.width)
     (kept base text)
 
--- the bytes after the last whole group
+-- The kept bytes of `text` after its last whole group.
 abbrev pub unfinished : Base → List ℕ → List Positioned
 unfinished base text =
     drop (length (kept base text) / group_symbols base.width * group_symbols base.width)
     (kept base text)
 
--- the bytes of the whole groups before the first faulty one
+-- The bytes of the whole groups before the first faulty one.
 abbrev pub whole_bytes : Base → List ℕ → List ℕ
 whole_bytes base text =
     flat_map (bytes_of_group base) (sound_groups base (whole_groups base text))
 
--- the fault of the bytes held at the end, which are the last group if there are any
+-- The fault of the bytes held at the end of a text. If there are any, they are its last group.
 abbrev pub held_fault : Bool → Base → List Positioned → Option DecodeError
 held_fault ended base [] = None
 held_fault ended base (k ∷ ks) = fault_after ended base (k ∷ ks)
 
--- What a decoder keeps of a text: its length, and the first fault of its whole groups or, if they
--- have none, the bytes after them with their positions, and whether one of the groups was final.
+-- The state of a decoder after `text`: its length, and the first fault of its whole groups. If they
+-- have none, `held` is the bytes after them with their positions, and `ended` is true if one of
+-- them was final.
 pub record HasRead (base : Base) (text : List ℕ) (len : ℕ) (fault : Option DecodeError)
     (held : List Positioned) (ended : Bool) : Type 0 where
   pub counted : len ≡ length text
@@ -44,21 +45,21 @@ pub record HasRead (base : Base) (text : List ℕ) (len : ℕ) (fault : Option D
   pub holds : fault ≡ None → held ≡ unfinished base text
   pub ends : fault ≡ None → ended ≡ list_any (is_final base) (whole_groups base text)
 
--- The bytes of the whole groups were appended to what the vector held.
+-- The bytes of the whole groups were appended to `before`.
 pub record HasDecoded (base : Base) (before text output : List ℕ) : Type 0 where
   pub appended : output ≡ before ++ whole_bytes base text
 
--- the bytes that were held after a text of this length, followed by those of a piece that are not
--- ignored
+-- The held bytes after a text of length `len`, followed by the bytes of `piece` that are not
+-- ignored.
 abbrev pub held_with : Base → ℕ → List Positioned → List ℕ → List Positioned
 held_with base len held piece =
     held ++ filter (λ k. not (is_ignored (meaning base k.byte))) (positioned_from len piece)
 
--- the bytes of a group, or none if there is a fault
+-- The bytes of `group`, or none if there is a fault.
 abbrev pub bytes_unless : Option DecodeError → Base → List Positioned → List ℕ
 bytes_unless fault base group = if is_some fault then [] else bytes_of_group base group
 
--- Before the first byte nothing is kept and nothing is decoded.
+-- Before the first byte, no byte is held and none is decoded.
 abbrev pub ReadsNothing : Type 0
 ReadsNothing =
     (base : Base) → IsSpecified base
@@ -73,8 +74,8 @@ HoldsPiece =
     → HasRead base (text ++ piece) (len + length piece) None (held_with base len held piece) ended
     × (whole_bytes base (text ++ piece) ≡ whole_bytes base text)
 
--- A piece that completes one group, and leaves nothing after it, has it judged, and decoded if it
--- has no fault.
+-- If a piece completes one group and leaves no byte after it, the group is checked, and decoded if
+-- it has no fault.
 abbrev pub ReadsGroup : Type 0
 ReadsGroup =
     (base : Base) → IsSpecified base → (text piece : List ℕ) (len : ℕ)
@@ -94,14 +95,14 @@ KeepsFault =
     → HasRead base (text ++ piece) (len + length piece) (Some error) other end
     × (whole_bytes base (text ++ piece) ≡ whole_bytes base text)
 
--- Bytes that were decoded stay, and more may be appended.
+-- Decoded bytes stay. More may be appended.
 abbrev pub KeepsBytes : Type 0
 KeepsBytes =
     (base : Base) → IsSpecified base → (text piece : List ℕ)
     → (more : List ℕ) × (whole_bytes base (text ++ piece) ≡ whole_bytes base text ++ more)
 
--- The fault of a text is that of its length, or else of its whole groups, or else of the bytes
--- held.
+-- The fault of a text is the fault of its length, or else of its whole groups, or else of the held
+-- bytes.
 abbrev pub TellsFault : Type 0
 TellsFault =
     (base : Base) → IsSpecified base → (text : List ℕ) (len : ℕ) (fault : Option DecodeError)
@@ -109,8 +110,8 @@ TellsFault =
     → fault_of base text
     ≡ or_else (length_fault base len) (or_else fault (held_fault ended base held))
 
--- The bytes of a text are those of its whole groups, followed by those of the bytes held unless
--- there is a fault.
+-- The bytes of a text are the bytes of its whole groups, followed by the bytes of the held group
+-- unless there is a fault.
 abbrev pub TellsBytes : Type 0
 TellsBytes =
     (base : Base) → IsSpecified base → (text : List ℕ) (len : ℕ) (fault : Option DecodeError)
@@ -118,13 +119,13 @@ TellsBytes =
     → sound_bytes base text
     ≡ whole_bytes base text ++ bytes_unless (or_else fault (held_fault ended base held)) base held
 
--- the fault of a group that is read as a text, at the position of the group's byte
+-- The fault of a group that is read as a text, at the position of the group's byte.
 abbrev pub fault_in : List Positioned → Option DecodeError → Option DecodeError
 fault_in group None = None
 fault_in group (Some fault) = fault_at fault.kind group fault.position
 
--- A group in which no byte is ignored has the fault that its bytes have as a text, and otherwise
--- the bytes of that text.
+-- A group in which no byte is ignored has the fault that its bytes have as a text. If it has none,
+-- it has the bytes of that text.
 abbrev pub JudgesGroup : Type 0
 JudgesGroup =
     (base : Base) → IsSpecified base → (group : List Positioned)
@@ -134,8 +135,8 @@ JudgesGroup =
     × (fault_of base (bytes_in group) ≡ None
     → bytes_of_group base group ≡ sound_bytes base (bytes_in group))
 
--- A piece of whole groups that means data has its data appended, if it follows whole groups of
--- which none was final.
+-- If whole groups, none of them final, are followed by a piece of whole groups that means data, the
+-- data is appended.
 abbrev pub ReadsSound : Type 0
 ReadsSound =
     (base : Base) → IsSpecified base → (text piece bytes : List ℕ) (len : ℕ)
@@ -145,8 +146,8 @@ ReadsSound =
     (list_any (is_final base) (groups base piece))
     × (whole_bytes base (text ++ piece) ≡ whole_bytes base text ++ bytes)
 
--- A fault of this kind in a piece of this length is that of a whole group: it is not the fault of a
--- length, texts may be concatenated, and either nothing is ignored and the length is that of whole
+-- A fault of this kind, in a piece of length `len`, belongs to a whole group. The fault is not
+-- `Length`, and texts may be concatenated. Either nothing is ignored and the length is whole
 -- groups, or fewer symbols than a group has mean no byte.
 pub record IsOfWholeGroup (base : Base) (len : ℕ) (kind : DecodeKind) : Type 0 where
   pub not_length : is_length_fault kind ≡ false
@@ -154,8 +155,9 @@ pub record IsOfWholeGroup (base : Base) (len : ℕ) (kind : DecodeKind) : Type 0
   pub whole : ((ignores_some base ≡ false) × (len % group_symbols base.width ≡ 0))
       ⊎ (most_bytes base (group_symbols base.width - 1) ≡ 0)
 
--- A piece with a fault of a whole group, after whole groups of which none was final, has that fault
--- kept, with their length added to its position, and the data before it appended.
+-- If whole groups, none of them final, are followed by a piece with a fault of a whole group, the
+-- fault is kept, with the length of the text before added to its position. The data before the
+-- fault is appended.
 abbrev pub ReadsFaulty : Type 0
 ReadsFaulty =
     (base : Base) → IsSpecified base → (text piece bytes : List ℕ) (len : ℕ)
@@ -167,7 +169,7 @@ ReadsFaulty =
     × (whole_bytes base (text ++ piece) ≡ whole_bytes base text ++ bytes)
 
 -- A text that means data is whole groups if it is padded, if eight bits are whole symbols, or if
--- nothing is ignored and its length is that of whole groups.
+-- nothing is ignored and its length is a multiple of `group_symbols`.
 abbrev pub AreWhole : Type 0
 AreWhole =
     (base : Base) → IsSpecified base → (piece bytes : List ℕ) → Means base piece bytes
@@ -201,13 +203,13 @@ MeansWhole =
     → length bytes % group_bytes base.width ≡ 0
     → length (kept base text) % group_symbols base.width ≡ 0
 
--- A text of whole groups of symbols has as many whole groups of bytes due.
+-- For a text of `count` groups of symbols, `decoded_len` is `count` groups of bytes.
 abbrev pub CountsGroups : Type 0
 CountsGroups =
     (base : Base) → IsSpecified base → (count : ℕ)
     → decoded_len base (count * group_symbols base.width) ≡ Ok (count * group_bytes base.width)
 
--- No more bytes are due than the text has.
+-- A text means at most as many bytes as it has.
 abbrev pub IsNoLonger : Type 0
 IsNoLonger = (base : Base) → IsSpecified base → (len : ℕ) → most_bytes base len ≤ len
 

@@ -1,4 +1,4 @@
--- What faults and refusals print.
+-- The messages of faults and of refusals.
 use Rattle.std.specs.Prelude.{ℕ, List, ◌++◌, codes, Option, Some, None}
 use Rattle.std.specs.Fmt.{decimal}
 use Rattle.data_encoding_meaning.specs.declared.error.DecodeKind.{DecodeKind}
@@ -9,23 +9,23 @@ use Rattle.data_encoding_meaning.specs.declared.error.DecodeFault.TheVariants.{E
 use Rattle.data_encoding_meaning.specs.declared.refusal.Refusal.{Refusal}
 use Rattle.data_encoding_meaning.specs.declared.refusal.Refusal.TheVariants.{BadSize, NotAscii, Duplicate, ExtraPadding, WrapLength, WrapWidth, FromTo, Undefined}
 
--- what a kind of fault prints
+-- The message of a kind of fault.
 abbrev pub printed_kind : DecodeKind → List ℕ
 printed_kind Length = codes "invalid length"
 printed_kind Symbol = codes "invalid symbol"
 printed_kind Trailing = codes "non-zero trailing bits"
 printed_kind Padding = codes "invalid padding length"
 
--- what a fault prints: its kind and its position
+-- The message of a fault: its kind and its position.
 abbrev pub printed_error : DecodeError → List ℕ
 printed_error error = printed_kind error.kind ++ codes " at " ++ decimal error.position
 
--- what the reason why a decoding gave no data prints
+-- The message of the reason why a decoding returned no data.
 abbrev pub printed_fault : DecodeFault → List ℕ
 printed_fault (Error error) = printed_error error
 printed_fault OutOfMemory = codes "out of memory"
 
--- what a refusal prints; the two that quote a character are left out
+-- The message of a refusal. The two that quote a character are left out.
 abbrev pub printed_refusal : Refusal → Option (List ℕ)
 printed_refusal BadSize = Some (codes "invalid number of symbols")
 printed_refusal NotAscii = Some (codes "non-ascii character")

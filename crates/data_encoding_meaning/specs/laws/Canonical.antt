@@ -1,4 +1,4 @@
--- Encodings in which data has one text only, and the causes of a second text.
+-- Encodings in which data has only one text, and the causes of a second text.
 use Rattle.std.specs.Prelude.{◌≡◌, ℕ, ◌-◌, ◌≤◌, ◌/◌, ◌==◌, Bool, true, false, not, ◌&&◌, List, [], ◌∷◌, ◌++◌, length, take, replicate, Some}
 use Rattle.data_encoding_meaning.specs.declared.limits.TheConstants.{DECODE_LIMIT}
 use Rattle.data_encoding_meaning.specs.declared.encoding.BitOrder.{BitOrder}
@@ -10,21 +10,21 @@ use Rattle.data_encoding_meaning.specs.text.Grammar.{Means}
 use Rattle.data_encoding_meaning.specs.specification.Layout.{translated_bytes}
 use Rattle.data_encoding_meaning.specs.text.Text.{padded_text, text_of, with_padding}
 
--- No two different texts of at most DECODE_LIMIT bytes mean the same data.
+-- No two different texts of at most `DECODE_LIMIT` bytes mean the same data.
 abbrev pub IsCanonical : Base → Type 0
 IsCanonical base =
     (text other bytes : List ℕ)
     → length text ≤ DECODE_LIMIT → length other ≤ DECODE_LIMIT
     → Means base text bytes → Means base other bytes → text ≡ other
 
--- whether there is no cause of a second text: trailing bits that are not checked, padding in texts
--- that may be concatenated, an ignored byte, or a translated byte
+-- `true` if there is no cause of a second text: trailing bits are checked, padded texts may not be
+-- concatenated, and no byte is ignored or translated.
 abbrev pub has_one_text : Base → Bool
 has_one_text base =
     base.checks_trailing_bits && not (is_padded base && base.concatenates)
     && not (ignores_some base) && (length (translated_bytes base) == 0)
 
--- If data has one text only, each text that means data is the text of that data.
+-- If there is no cause of a second text, each text that means data is the text of that data.
 abbrev pub Canonical : Type 0
 Canonical =
     (base : Base) → IsSpecified base → has_one_text base ≡ true
@@ -38,16 +38,16 @@ pub record AreTwoTexts (base : Base) (one other bytes : List ℕ) : Type 0 where
   pub one_means : Means base one bytes
   pub other_means : Means base other bytes
 
--- A text of one ignored byte means what the empty text means.
+-- A text of one ignored byte means the same as the empty text.
 abbrev pub IgnoredIsSecond : Base → Type 0
 IgnoredIsSecond base =
     (byte : ℕ) → is_ignored (meaning base byte) ≡ true → AreTwoTexts base [] (byte ∷ []) []
 
--- the value of a symbol whose last bit alone is 1
+-- The value of the symbol in which only the last bit is 1.
 abbrev pub last_bit : BitOrder → ℕ → ℕ
 last_bit order width = number_of order (replicate (width - 1) 0 ++ 1 ∷ [])
 
--- the text of a byte 0, with a trailing bit that is 1
+-- The text of a byte 0, but with a trailing bit that is 1.
 abbrev pub trailing_text : Base → List ℕ
 trailing_text base =
     with_padding base.padding (group_symbols base.width)
@@ -74,7 +74,7 @@ SymbolIsSecond base =
     → (bytes : List ℕ) × AreTwoTexts base (replicate (group_symbols base.width) (symbol base value))
     (replicate (group_symbols base.width) byte) bytes
 
--- the text of a byte 0, with this byte as its last character
+-- The text of a byte 0, with `byte` as its last character.
 abbrev pub text_ending_in : Base → ℕ → List ℕ
 text_ending_in base byte =
     take (group_symbols base.width - 1) (padded_text base (0 ∷ [])) ++ byte ∷ []

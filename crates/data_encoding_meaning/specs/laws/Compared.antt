@@ -1,4 +1,4 @@
--- Data that is compared by comparing texts.
+-- Comparing texts in place of data.
 use Rattle.std.specs.Prelude.{◌≡◌, ◌↔◌, ℕ, ◌<◌, List, All, None}
 use Rattle.data_encoding_meaning.specs.text.Base.{Base}
 use Rattle.data_encoding_meaning.specs.laws.Canonical.{IsCanonical}
@@ -7,7 +7,8 @@ use Rattle.data_encoding_meaning.specs.text.Grammar.{Means}
 use Rattle.data_encoding_meaning.specs.laws.Order.{IsBefore, IsOrdered}
 use Rattle.data_encoding_meaning.specs.text.Text.{text_of}
 
--- Two lists are in order if and only if two others are, and equal if and only if those are.
+-- `one` comes before `other` if and only if `first` comes before `second`, and they are equal if
+-- and only if those are.
 pub record CompareAlike (one other first second : List ℕ) : Type 0 where
   pub order : IsBefore one other ↔ IsBefore first second
   pub equality : (one ≡ other) ↔ (first ≡ second)

@@ -1,4 +1,4 @@
--- Which of the eighteen are canonical, and which keep the order of data.
+-- The predefined encodings that are canonical, and those that keep the order of data.
 use Rattle.std.specs.Prelude.{◌≡◌, ◌↔◌, true, List, [], ◌∷◌, All, Ok}
 use Rattle.data_encoding_meaning.specs.text.Base.{Base}
 use Rattle.data_encoding_meaning.specs.laws.Canonical.{IsCanonical, has_one_text}
@@ -11,17 +11,17 @@ abbrev pub CanonicalByCauses : Type 0
 CanonicalByCauses =
     (base : Base) → IsSpecified base → (has_one_text base ≡ true) ↔ IsCanonical base
 
--- The base that is built from these fields has the property.
+-- The base that is built from `fields` has the property `P`.
 abbrev pub Builds : (Base → Type 0) → Fields → Type 0
 Builds P fields = (base : Base) → base_of fields ≡ Ok base → P base
 
--- the fields of those of the eighteen that are canonical
+-- The fields of the six predefined encodings that are canonical.
 abbrev pub canonical_fields : List Fields
 canonical_fields =
     hexlower_fields ∷ hexupper_fields ∷ base32_nopad_fields ∷ base32hex_nopad_fields
     ∷ base64_nopad_fields ∷ base64url_nopad_fields ∷ []
 
--- the fields of those of the eighteen that are not canonical
+-- The fields of the twelve predefined encodings that are not canonical.
 abbrev pub second_text_fields : List Fields
 second_text_fields =
     hexlower_permissive_fields ∷ hexupper_permissive_fields ∷ base32_fields
@@ -35,13 +35,13 @@ SixAreCanonical =
     All (Builds IsCanonical) canonical_fields
     × All (Builds (λ base. IsCanonical base → ⊥)) second_text_fields
 
--- the fields of those of the sixteen without lines whose texts keep the order of data
+-- The fields of the six predefined encodings without lines that keep the order of data.
 abbrev pub ordered_fields : List Fields
 ordered_fields =
     hexlower_fields ∷ hexlower_permissive_fields ∷ hexupper_fields ∷ hexupper_permissive_fields
     ∷ base32hex_nopad_fields ∷ base32_dnssec_fields ∷ []
 
--- the fields of those of the sixteen without lines whose texts do not keep the order of data
+-- The fields of the ten predefined encodings without lines that do not keep the order of data.
 abbrev pub unordered_fields : List Fields
 unordered_fields =
     base32_fields ∷ base32_nopad_fields ∷ base32_nopad_nocase_fields ∷ base32_nopad_visual_fields

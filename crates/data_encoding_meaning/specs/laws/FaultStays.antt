@@ -1,4 +1,4 @@
--- Faults that stay the same, whatever follows the text.
+-- Faults that do not depend on the rest of the text.
 use Rattle.std.specs.Prelude.{◌≡◌, ℕ, ◌≤◌, ◌%◌, List, ◌++◌, length, Some, None}
 use Rattle.data_encoding_meaning.specs.declared.error.DecodeError.{DecodeError}
 use Rattle.data_encoding_meaning.specs.text.Base.{Base, group_symbols}
@@ -8,8 +8,8 @@ use Rattle.data_encoding_meaning.specs.text.Grammar.{kept}
 use Rattle.data_encoding_meaning.specs.text.Lengths.{length_fault}
 use Rattle.data_encoding_meaning.specs.decoding.Pieces.{whole_groups}
 
--- The first fault of the whole groups of a text is that of every longer text whose length is not a
--- fault.
+-- The first fault of the whole groups of a text is the fault of every longer text, unless the
+-- length of that text is a fault.
 abbrev pub GroupFaultStays : Type 0
 GroupFaultStays =
     (base : Base) → IsSpecified base → (text after : List ℕ) (error : DecodeError)
@@ -17,8 +17,8 @@ GroupFaultStays =
     → length_fault base (length (text ++ after)) ≡ None
     → fault_of base (text ++ after) ≡ Some error
 
--- The fault of a text whose kept bytes are whole groups is that of every longer text whose length
--- is not a fault.
+-- If the kept bytes of a text are whole groups, its fault is the fault of every longer text, unless
+-- the length of that text is a fault.
 abbrev pub FaultStays : Type 0
 FaultStays =
     (base : Base) → IsSpecified base → (text after : List ℕ) (error : DecodeError)
@@ -26,8 +26,8 @@ FaultStays =
     → fault_of base text ≡ Some error → length_fault base (length (text ++ after)) ≡ None
     → fault_of base (text ++ after) ≡ Some error
 
--- If a text without a fault has whole groups as its kept bytes, no longer text has a fault before
--- its end.
+-- If the kept bytes of a text without a fault are whole groups, no longer text has a fault before
+-- the end of the text.
 abbrev pub NoFaultBefore : Type 0
 NoFaultBefore =
     (base : Base) → IsSpecified base → (text after : List ℕ) (error : DecodeError)

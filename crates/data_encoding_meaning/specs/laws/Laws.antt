@@ -12,11 +12,11 @@ use Rattle.data_encoding_meaning.specs.laws.Order.{KeepsOrder, IsOrdered, IsBrok
 use Rattle.data_encoding_meaning.specs.decoding.Partial.{partial_of}
 use Rattle.data_encoding_meaning.specs.text.Text.{text_of}
 
--- The base is built from its specification.
+-- The base is built from its own specification.
 abbrev pub SpecificationAgain : Type 0
 SpecificationAgain = (base : Base) → IsSpecified base → base_of (fields_of base) ≡ Ok base
 
--- The text of bytes means these bytes.
+-- The text of bytes means the bytes.
 abbrev pub RoundTrip : Type 0
 RoundTrip =
     (base : Base) → IsSpecified base → (bytes : List ℕ) → All (λ byte. byte < 256) bytes
@@ -34,29 +34,29 @@ SoundMeans =
     (base : Base) → IsSpecified base → (text : List ℕ) → fault_of base text ≡ None
     → Means base text (sound_bytes base text)
 
--- Without padding, a text means bytes if and only if its symbols, one after the other, mean them:
--- the bits of the symbols are those of the bytes, followed by fewer bits than a symbol has.
+-- Without padding, a text means bytes if and only if its symbols, one after the other, mean them.
+-- The bits of the symbols are the bits of the bytes, followed by fewer bits than a symbol has.
 abbrev pub Unpadded : Type 0
 Unpadded =
     (base : Base) → IsSpecified base → base.padding ≡ None → (text bytes : List ℕ)
     → Means base text bytes ↔ PlainMeans base (meanings_in base (kept base text)) bytes
 
--- If the first of two pieces of data is whole lines or whole groups, the text of the data is the
--- texts of the pieces, joined.
+-- If the length of the first of two pieces of data is whole lines or whole groups, the text of the
+-- data is the texts of the pieces, joined.
 abbrev pub JoinEncode : Type 0
 JoinEncode =
     (base : Base) → IsSpecified base → (a b : List ℕ) → length a % alignment base ≡ 0
     → text_of base (a ++ b) ≡ text_of base a ++ text_of base b
 
--- Another text may follow: the base is padded and no group is final, or eight bits are whole
--- symbols.
+-- Another text may follow: the base is padded and `text` has no final group, or eight bits are
+-- whole symbols.
 abbrev pub MayBeFollowed : Base → List ℕ → Type 0
 MayBeFollowed base text =
     ((is_padded base ≡ true)
     × ((base.concatenates ≡ true) ⊎ All (λ byte. is_padding (meaning base byte) ≡ false) text))
     ⊎ (8 % base.width ≡ 0)
 
--- Two texts joined mean their bytes joined, if the first may be followed.
+-- Two texts, joined, mean their bytes, joined, if the first may be followed.
 abbrev pub JoinDecode : Type 0
 JoinDecode =
     (base : Base) → IsSpecified base → (text after bytes more : List ℕ)
@@ -69,18 +69,19 @@ Order =
     (base : Base) → IsSpecified base → base.wrapping ≡ None
     → (IsOrdered base → KeepsOrder base) × (KeepsOrder base → IsOrdered base)
 
--- For any other base there is data in order whose texts are not in order.
+-- A base that does not keep the order has data in order whose texts are not in order.
 abbrev pub NoOrder : Type 0
 NoOrder = (base : Base) → IsSpecified base → base.wrapping ≡ None → IsBroken base
 
--- the fault with this many bytes added to its position
+-- The fault, with `count` added to its position.
 abbrev pub further : ℕ → Option DecodeError → Option DecodeError
 further count None = None
 further count (Some fault) =
     Some (record { position = count + fault.position; kind = fault.kind })
 
 -- After a text that means bytes and may be followed, another text has the fault that it has alone,
--- with the length of the first added to its position; and its bytes follow those of the first.
+-- with the length of the first added to its position. Its sound bytes follow the bytes of the
+-- first.
 abbrev pub JoinFault : Type 0
 JoinFault =
     (base : Base) → IsSpecified base → (text after bytes : List ℕ)
@@ -88,8 +89,8 @@ JoinFault =
     → (fault_of base (text ++ after) ≡ further (length text) (fault_of base after))
     × (sound_bytes base (text ++ after) ≡ bytes ++ sound_bytes base after)
 
--- The prefix of a piece that was read means these bytes, and the rest of the piece, joined to the
--- next, has the meaning and the fault of the whole.
+-- The first `read` bytes of `piece` mean `bytes`. The rest of `piece`, joined to `next`, has the
+-- meaning and the fault of the whole.
 pub record Resumes (base : Base) (piece next : List ℕ) (read : ℕ) (bytes : List ℕ) : Type 0 where
   pub read_means : Means base (take read piece) bytes
   pub rest_means : (more : List ℕ) → Means base (drop read piece ++ next) more
@@ -99,8 +100,8 @@ pub record Resumes (base : Base) (piece next : List ℕ) (read : ℕ) (bytes : L
   pub sound : sound_bytes base (piece ++ next)
       ≡ bytes ++ sound_bytes base (drop read piece ++ next)
 
--- If a decoding of a piece stops at a fault and what was read may be followed, it is resumed with
--- the rest.
+-- If a decoding of a piece stops at a fault and the bytes that were read may be followed, the
+-- decoding resumes with the rest.
 abbrev pub Resume : Type 0
 Resume =
     (base : Base) → IsSpecified base → (piece next : List ℕ) (partial : DecodePartial)

@@ -1,4 +1,4 @@
--- What a text is decoded by: runs in which no byte is ignored, and the symbols of a group.
+-- The two layers of decoding: runs in which no byte is ignored, and the symbols of a group.
 use Rattle.std.specs.Prelude.{◌≡◌, ℕ, true, false, List, All, length, map, Option, Some, None}
 use Rattle.data_encoding_meaning.specs.declared.error.DecodeKind.TheVariants.{Symbol as SymbolFault}
 use Rattle.data_encoding_meaning.specs.text.Base.{Base, group_symbols, is_ignored, meaning}
@@ -10,12 +10,12 @@ use Rattle.data_encoding_meaning.specs.decoding.Partial.{ignoring_nothing, parti
 use Rattle.data_encoding_meaning.specs.specification.Fields.{IsSpecified}
 use Rattle.data_encoding_meaning.specs.laws.Told.{first_other}
 
--- No byte of the run is ignored.
+-- No byte of `run` is ignored.
 abbrev pub IgnoresNone : Base → List ℕ → Type 0
 IgnoresNone base run = All (λ byte. is_ignored (meaning base byte) ≡ false) run
 
--- If ignored bytes count as invalid, the fault of a run is that of its length, or else that of the
--- first faulty one of its groups, which are its bytes as they stand.
+-- If ignored bytes count as invalid, the fault of a run is the fault of its length, or else of its
+-- first faulty group. The groups are consecutive bytes of the run.
 abbrev pub RunFault : Type 0
 RunFault =
     (base : Base) → IsSpecified base → (run : List ℕ)
@@ -23,8 +23,8 @@ RunFault =
     ≡ or_else (length_fault (ignoring_nothing base) (length run))
     (first_fault base (runs (group_symbols base.width) (positioned run)))
 
--- A run of a valid length in which no byte is ignored has the same fault, is read and written as
--- far, and has the same bytes before that fault, as if ignored bytes were invalid.
+-- A run of a valid length in which no byte is ignored has the same fault as if ignored bytes were
+-- invalid. It is read and written as far, and has the same bytes before the fault.
 abbrev pub RunTold : Type 0
 RunTold =
     (base : Base) → IsSpecified base → (run : List ℕ) → IgnoresNone base run
@@ -33,12 +33,12 @@ RunTold =
     × (partial_of base run ≡ partial_of (ignoring_nothing base) run)
     × (sound_bytes base run ≡ sound_bytes (ignoring_nothing base) run)
 
--- the base, but trailing bits are not checked
+-- The base without the check of trailing bits.
 abbrev pub checking_none : Base → Base
 checking_none base = record base { checks_trailing_bits = false }
 
--- The first byte that is no symbol is the fault; or each is a symbol, they give these bytes,
--- whatever bits are left, and only these bits may be a fault.
+-- If an index is given, the fault is an invalid symbol there. Otherwise each byte is a symbol, the
+-- symbols mean bytes whatever the trailing bits are, and only the trailing bits may be a fault.
 abbrev pub TellsSymbols : Base → List ℕ → Option ℕ → Type 0
 TellsSymbols base symbols (Some index) =
     symbols_fault base (map (meaning base) symbols) ≡ faulty_at SymbolFault index
@@ -48,7 +48,7 @@ TellsSymbols base symbols None =
     × (symbols_fault base (map (meaning base) symbols)
     ≡ trailing_fault base (map (meaning base) symbols))
 
--- A valid number of bytes gives bytes, or the index of the first that is no symbol.
+-- A valid number of bytes gives data, or the index of the first byte that is not a symbol.
 abbrev pub SymbolsTold : Type 0
 SymbolsTold =
     (base : Base) → IsSpecified base → (symbols : List ℕ)

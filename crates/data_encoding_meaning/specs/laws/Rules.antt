@@ -1,4 +1,4 @@
--- The rules of the eighteen encodings, by name.
+-- The rules of the predefined encodings, by name.
 use Rattle.std.specs.Prelude.{◌≡◌, ◌==◌, ℕ, Bool, true, false, not, List, [], ◌∷◌, length, Option, Some, None}
 use Rattle.data_encoding_meaning.specs.declared.encoding.BitOrder.{BitOrder}
 use Rattle.data_encoding_meaning.specs.declared.encoding.BitOrder.TheVariants.{MostSignificantFirst, LeastSignificantFirst}
@@ -7,7 +7,7 @@ use Rattle.data_encoding_meaning.specs.laws.Eighteen.{Builds}
 use Rattle.data_encoding_meaning.specs.specification.Layout.{ignored_bytes}
 use Rattle.data_encoding_meaning.specs.specification.Predefined.{hexlower_fields, hexlower_permissive_fields, hexupper_fields, hexupper_permissive_fields, base32_fields, base32_nopad_fields, base32_nopad_nocase_fields, base32_nopad_visual_fields, base32hex_fields, base32hex_nopad_fields, base32_dnssec_fields, base32_dnscurve_fields, base64_fields, base64_nopad_fields, base64_mime_fields, base64_mime_permissive_fields, base64url_fields, base64url_nopad_fields}
 
--- what a base has besides its symbols and its translated bytes
+-- The rules of a base: everything except its symbols and its translated bytes.
 pub record Rules : Type 0 where
   pub width : ℕ
   pub order : BitOrder
@@ -17,7 +17,7 @@ pub record Rules : Type 0 where
   pub checks_trailing_bits : Bool
   pub concatenates : Bool
 
--- The base has these rules.
+-- The base has the rules `rules`.
 pub record HasRules (rules : Rules) (base : Base) : Type 0 where
   pub width : base.width ≡ rules.width
   pub order : base.order ≡ rules.order
@@ -28,7 +28,7 @@ pub record HasRules (rules : Rules) (base : Base) : Type 0 where
   pub checks : base.checks_trailing_bits ≡ rules.checks_trailing_bits
   pub concatenates : base.concatenates ≡ rules.concatenates
 
--- no padding and no lines, and the most significant bit first
+-- Symbols of `width` bits, no padding, no lines, and the most significant bit first.
 abbrev pub plain_rules : ℕ → Rules
 plain_rules width = record {
   width = width;
@@ -40,22 +40,22 @@ plain_rules width = record {
   concatenates = true;
 }
 
--- the same with the least significant bit first
+-- Like `plain_rules`, with the least significant bit first.
 abbrev pub reversed_rules : ℕ → Rules
 reversed_rules width = record (plain_rules width) { order = LeastSignificantFirst }
 
--- the same with '=' as padding
+-- Like `plain_rules`, with '=' as padding.
 abbrev pub padded_rules : ℕ → Rules
 padded_rules width = record (plain_rules width) { padding = Some 61 }
 
--- padded, in lines of 76 characters that end in CR LF, both of which are ignored
+-- Padded base64 in lines of 76 characters that end in CR LF. Both bytes are ignored.
 abbrev pub mime_rules : Rules
 mime_rules = record (padded_rules 6) {
   wrapping = Some (record { column = 76; separator = 13 ∷ 10 ∷ [] });
   ignored = 10 ∷ 13 ∷ [];
 }
 
--- Each of the eighteen has these rules.
+-- Each of the predefined encodings has its rules.
 pub record EighteenRules : Type 0 where
   pub hexlower : Builds (HasRules (plain_rules 4)) hexlower_fields
   pub hexlower_permissive : Builds (HasRules (plain_rules 4)) hexlower_permissive_fields

@@ -1,4 +1,4 @@
--- Texts that mean the same.
+-- Texts with the same meaning.
 use Rattle.std.specs.Prelude.{◌≡◌, ◌↔◌, ℕ, Bool, true, ◌&&◌, List, All, filter, map, not, unwrap_or}
 use Rattle.data_encoding_meaning.specs.text.Base.{Base, meaning, is_ignored, is_invalid, is_padded, ignores_some}
 use Rattle.data_encoding_meaning.specs.decoding.Fault.{fault_of}
@@ -7,18 +7,19 @@ use Rattle.data_encoding_meaning.specs.text.Grammar.{Means}
 use Rattle.data_encoding_meaning.specs.specification.Layout.{ignored_bytes, own_character}
 use Rattle.data_encoding_meaning.specs.text.Text.{text_of}
 
--- the bytes of a text that are not ignored
+-- The bytes of `text` that are not ignored.
 abbrev pub kept_bytes : Base → List ℕ → List ℕ
 kept_bytes base text = filter (λ byte. not (is_ignored (meaning base byte))) text
 
--- Texts that differ in ignored bytes only mean the same.
+-- Texts that differ only in ignored bytes mean the same.
 abbrev pub SameKeptBytes : Type 0
 SameKeptBytes =
     (base : Base) → IsSpecified base → (text other bytes : List ℕ)
     → kept_bytes base text ≡ kept_bytes base other → Means base text bytes
     → Means base other bytes
 
--- Texts whose bytes mean the same, one by one, have the same fault and mean the same data.
+-- Texts whose bytes mean the same characters, one by one, have the same fault and mean the same
+-- data.
 abbrev pub Translated : Type 0
 Translated =
     (base : Base) → IsSpecified base → (text other : List ℕ)
@@ -26,11 +27,13 @@ Translated =
     → (fault_of base text ≡ fault_of base other)
     × ((bytes : List ℕ) → Means base text bytes → Means base other bytes)
 
--- the character that another base has for the value of a symbol or for padding, or the byte itself
+-- The character of `other` with the meaning of `byte` in `base`, if that is a symbol or padding.
+-- Otherwise `byte` itself.
 abbrev pub exchanged : Base → Base → ℕ → ℕ
 exchanged base other byte = unwrap_or (own_character other (meaning base byte)) byte
 
--- a text in which each byte that means a symbol or padding is replaced by that character
+-- The text with each byte that means a symbol or padding replaced by that symbol or padding
+-- character.
 abbrev pub own_form : Base → List ℕ → List ℕ
 own_form base text = map (exchanged base base) text
 
@@ -40,13 +43,13 @@ OwnForm =
     (base : Base) → IsSpecified base → (text : List ℕ)
     → map (meaning base) text ≡ map (meaning base) (own_form base text)
 
--- whether a translated byte is the only possible cause of a second text
+-- `true` if a translated byte is the only possible cause of a second text.
 abbrev pub has_one_own_form : Base → Bool
 has_one_own_form base =
     base.checks_trailing_bits && not (is_padded base && base.concatenates)
     && not (ignores_some base)
 
--- If only translated bytes give a second text, two texts that mean data mean the same data if and
+-- If only translated bytes cause a second text, two texts that mean data mean the same data if and
 -- only if their own forms are equal.
 abbrev pub OwnForms : Type 0
 OwnForms =
@@ -54,34 +57,35 @@ OwnForms =
     → (text other bytes others : List ℕ) → Means base text bytes → Means base other others
     → (bytes ≡ others) ↔ (own_form base text ≡ own_form base other)
 
--- If only translated bytes give a second text, the own form of a text that means data is the text
+-- If only translated bytes cause a second text, the own form of a text that means data is the text
 -- of the data.
 abbrev pub OwnText : Type 0
 OwnText =
     (base : Base) → IsSpecified base → has_one_own_form base ≡ true
     → (text bytes : List ℕ) → Means base text bytes → own_form base text ≡ text_of base bytes
 
--- The bases have the same width, bit order and lines, and both have padding or neither.
+-- The bases have the same width, bit order and lines, and both have padding or neither has.
 pub record DifferInSymbols (base other : Base) : Type 0 where
   pub width : base.width ≡ other.width
   pub order : base.order ≡ other.order
   pub padded : is_padded base ≡ is_padded other
   pub wrapping : base.wrapping ≡ other.wrapping
 
--- The text of data in the other base is that in the first, with each symbol exchanged.
+-- The text of data in the other base is its text in the first, with each character exchanged.
 abbrev pub SameButSymbols : Type 0
 SameButSymbols =
     (base other : Base) → IsSpecified base → DifferInSymbols base other
     → (bytes : List ℕ) → text_of other bytes ≡ map (exchanged base other) (text_of base bytes)
 
--- The bases also check trailing bits alike, concatenate alike and ignore the same bytes.
+-- The bases also agree on the check of trailing bits and on concatenation, and ignore the same
+-- bytes.
 pub record DifferInSymbolsAlone (base other : Base) : Type 0 where
   pub in_symbols : DifferInSymbols base other
   pub checks : base.checks_trailing_bits ≡ other.checks_trailing_bits
   pub concatenates : base.concatenates ≡ other.concatenates
   pub ignored : ignored_bytes base ≡ ignored_bytes other
 
--- Texts whose bytes mean the same in each of the two bases, one by one, have the same fault and
+-- Texts whose bytes mean the same characters, one by one, each in its base, have the same fault and
 -- mean the same data.
 abbrev pub SameInBoth : Type 0
 SameInBoth =
@@ -90,24 +94,24 @@ SameInBoth =
     → (fault_of base text ≡ fault_of other another)
     × ((bytes : List ℕ) → Means base text bytes ↔ Means other another bytes)
 
--- a text with each character exchanged
+-- The text with each character exchanged.
 abbrev pub exchanged_text : Base → Base → List ℕ → List ℕ
 exchanged_text base other text = map (exchanged base other) text
 
--- Any text that means data means the same in the other base, with each character exchanged.
+-- A text that means data means the same data in the other base, with each character exchanged.
 abbrev pub MeansExchanged : Type 0
 MeansExchanged =
     (base other : Base) → IsSpecified base → IsSpecified other → DifferInSymbolsAlone base other
     → (text bytes : List ℕ) → Means base text bytes
     → Means other (exchanged_text base other text) bytes
 
--- No byte of the text that is invalid in the base means something in the other.
+-- Each byte of `text` that is invalid in `base` is also invalid in `other`.
 abbrev pub IsInvalidInBoth : Base → Base → List ℕ → Type 0
 IsInvalidInBoth base other text =
     All (λ byte. is_invalid (meaning base byte) ≡ true → is_invalid (meaning other byte) ≡ true)
     text
 
--- If no invalid byte means something in the other base, the exchanged text has the same fault at
+-- If each invalid byte is also invalid in the other base, the exchanged text has the same fault at
 -- the same position.
 abbrev pub FaultExchanged : Type 0
 FaultExchanged =

@@ -1,4 +1,4 @@
--- The fault of a text and what it means; the texts of different data, and their lengths.
+-- The fault of a text and its meaning; the texts of different data, and their lengths.
 use Rattle.std.specs.Prelude.{◌≡◌, ◌↔◌, ℕ, ◌<◌, List, length, All, None}
 use Rattle.data_encoding_meaning.specs.text.Base.{Base}
 use Rattle.data_encoding_meaning.specs.laws.Canonical.{IsCanonical}
@@ -7,7 +7,7 @@ use Rattle.data_encoding_meaning.specs.specification.Fields.{IsSpecified}
 use Rattle.data_encoding_meaning.specs.text.Grammar.{Means}
 use Rattle.data_encoding_meaning.specs.text.Text.{text_of}
 
--- A text means bytes if and only if it has no fault and they are its sound bytes.
+-- A text means bytes if and only if it has no fault and the bytes are its sound bytes.
 abbrev pub MeansSound : Type 0
 MeansSound =
     (base : Base) → IsSpecified base → (text bytes : List ℕ)
@@ -20,7 +20,8 @@ Injective =
     → All (λ byte. byte < 256) bytes → All (λ byte. byte < 256) others
     → text_of base bytes ≡ text_of base others → bytes ≡ others
 
--- If a base is canonical, a text that means data is as long as the text of any data of that length.
+-- If a base is canonical, a text that means data is as long as the text of any data of the same
+-- length.
 abbrev pub FixedLength : Type 0
 FixedLength =
     (base : Base) → IsSpecified base → IsCanonical base → (text bytes others : List ℕ)

@@ -1,11 +1,11 @@
--- The table of values, and what its entries mean.
+-- The table of values, and the meaning of its entries.
 use Rattle.std.specs.Prelude.{◌≡◌, ℕ, ◌==◌, nat_lt, Bool, ◌&&◌, ◌||◌, IsTrue, if◌then◌else◌, List, take, drop, replicate}
 use Rattle.std.specs.List.{list_all}
 use Rattle.data_encoding_meaning.specs.declared.encoding.Character.{Character}
 use Rattle.data_encoding_meaning.specs.declared.encoding.Character.TheVariants.{Symbol, Padding, Ignored, Invalid}
 
--- what an entry means: a value below 64 is that of a symbol, 129 is ignored, 130 is padding, and
--- any other is invalid
+-- The meaning of an entry. A value below 64 is a symbol, 129 is ignored, 130 is padding, and any
+-- other is invalid.
 abbrev pub meaning_of_entry : ℕ → Character
 meaning_of_entry entry =
     if nat_lt entry 64 then Symbol entry
@@ -13,7 +13,7 @@ meaning_of_entry entry =
     else if entry == 130 then Padding
     else Invalid
 
--- whether an entry is allowed with this many symbols
+-- `true` if `entry` is allowed with `count` symbols.
 abbrev pub is_entry_of : ℕ → ℕ → Bool
 is_entry_of count entry = nat_lt entry count || (nat_lt 127 entry && nat_lt entry 131)
 

@@ -8,24 +8,25 @@ use Rattle.data_encoding_meaning.specs.declared.encoding.Character.TheVariants.{
 use Rattle.data_encoding_meaning.specs.text.Base.{Base, Wrapping, meaning, symbol, is_ignored, ignores_some}
 use Rattle.data_encoding_meaning.specs.specification.Fields.{Fields}
 
--- the entry of a meaning in the layout
+-- The entry of a meaning in the layout.
 abbrev pub code_of : Character → ℕ
 code_of (Symbol value) = value
 code_of Invalid = 128
 code_of Ignored = 129
 code_of Padding = 130
 
--- the flag of the bit order in the layout
+-- The flag of the bit order in the layout.
 abbrev pub order_flag : BitOrder → ℕ
 order_flag MostSignificantFirst = 8
 order_flag LeastSignificantFirst = 0
 
--- the end of the layout: the lines, or a zero if a byte is ignored without lines, or nothing
+-- The end of the layout: the lines. Without lines it is a zero if a byte is ignored, and otherwise
+-- empty.
 abbrev pub wrapping_bytes : Bool → Option Wrapping → List ℕ
 wrapping_bytes ignores None = if ignores then 0 ∷ [] else []
 wrapping_bytes ignores (Some wrapping) = wrapping.column ∷ wrapping.separator
 
--- the layout of a base: its symbols repeated, the entries, the padding, the flags, and the lines
+-- The layout of a base: its symbols repeated, the entries, the padding, the flags, and the lines.
 abbrev pub layout : Base → List ℕ
 layout base =
     concat (replicate (256 / 2 ^ base.width) base.symbols)
@@ -35,43 +36,43 @@ layout base =
     + (if base.concatenates then 0 else 32))
     ∷ wrapping_bytes (ignores_some base) base.wrapping
 
--- the symbol or the padding character that has a meaning
+-- The symbol or the padding character with the given meaning.
 abbrev pub own_character : Base → Character → Option ℕ
 own_character base (Symbol value) = Some (symbol base value)
 own_character base Padding = base.padding
 own_character base _ = None
 
--- the symbol or the padding character that a byte means, or 0 if it means neither
+-- The symbol or the padding character that `byte` means, or 0 if it means neither.
 abbrev pub own_byte : Base → ℕ → ℕ
 own_byte base byte = unwrap_or (own_character base (meaning base byte)) 0
 
--- whether a byte has the meaning of this character and is not it
+-- `true` if there is a `character` for the meaning of `byte`, and it is not `byte`.
 abbrev pub is_translated : Base → ℕ → Option ℕ → Bool
 is_translated base byte None = false
 is_translated base byte (Some character) = not (character == byte)
 
--- the bytes that are translated, in order
+-- The translated bytes, in ascending order.
 abbrev pub translated_bytes : Base → List ℕ
 translated_bytes base =
     filter (λ byte. is_translated base byte (own_character base (meaning base byte)))
     (range_with_len 0 128)
 
--- the bytes that are ignored, in order
+-- The ignored bytes, in ascending order.
 abbrev pub ignored_bytes : Base → List ℕ
 ignored_bytes base =
     filter (λ byte. is_ignored (meaning base byte)) (range_with_len 0 128)
 
--- the width of the lines, or 0
+-- The width of the lines, or 0 if there are none.
 abbrev pub column_of : Option Wrapping → ℕ
 column_of None = 0
 column_of (Some wrapping) = wrapping.column
 
--- the separator of the lines, or nothing
+-- The separator of the lines, or an empty one if there are none.
 abbrev pub separator_of : Option Wrapping → List ℕ
 separator_of None = []
 separator_of (Some wrapping) = wrapping.separator
 
--- the fields of a specification from which the base is built
+-- The fields of a specification from which the base is built.
 abbrev pub fields_of : Base → Fields
 fields_of base = record {
   symbols = base.symbols;

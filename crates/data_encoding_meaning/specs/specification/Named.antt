@@ -1,10 +1,10 @@
--- The predefined encodings by name, and by number in the order of this list.
+-- The predefined encodings by name, and by number in the order of the list.
 use Rattle.std.specs.Prelude.{◌≡◌, ℕ, List, [], ◌∷◌, ◌++◌, codes, bytes_eq, flat_map, map, position, slice_get, slice_index_or, Option, Some, None, Ok}
 use Rattle.data_encoding_meaning.specs.text.Base.{Base}
 use Rattle.data_encoding_meaning.specs.specification.Fields.{Fields, base_of}
 use Rattle.data_encoding_meaning.specs.specification.Predefined.{hexlower_fields, hexlower_permissive_fields, hexupper_fields, hexupper_permissive_fields, base32_fields, base32_nopad_fields, base32_nopad_nocase_fields, base32_nopad_visual_fields, base32hex_fields, base32hex_nopad_fields, base32_dnssec_fields, base32_dnscurve_fields, base64_fields, base64_nopad_fields, base64_mime_fields, base64_mime_permissive_fields, base64url_fields, base64url_nopad_fields}
 
--- each name with its specification
+-- Each name with its specification.
 abbrev pub predefined : List (List ℕ × Fields)
 predefined =
     (codes "HEXLOWER", hexlower_fields)
@@ -27,37 +27,37 @@ predefined =
     ∷ (codes "BASE64URL_NOPAD", base64url_nopad_fields)
     ∷ []
 
--- the names in order
+-- The names, in order.
 abbrev pub names : List (List ℕ)
 names = map (λ (entry : List ℕ × Fields). entry.0) predefined
 
--- the names, each followed by LF
+-- The names, each followed by LF.
 abbrev pub listing : List ℕ
 listing = flat_map (λ name. name ++ 10 ∷ []) names
 
--- the name of a number, if it has one
+-- The name with the given number, if there is one.
 abbrev pub name_numbered : ℕ → Option (List ℕ)
 name_numbered number = slice_get names number
 
--- the number of a name, if it is known
+-- The number of `name`, if it is known.
 abbrev pub number_named : List ℕ → Option ℕ
 number_named name = position (bytes_eq name) names
 
--- the specification of a number, if it has one
+-- The specification with the given number, if there is one.
 abbrev pub fields_numbered : ℕ → Option Fields
 fields_numbered number =
     slice_index_or (map (λ (entry : List ℕ × Fields). Some entry.1) predefined) number None
 
--- the specification of a number, if there is a number and it has one
+-- The specification with the given number, if a number is given and there is one.
 abbrev pub fields_at : Option ℕ → Option Fields
 fields_at None = None
 fields_at (Some number) = fields_numbered number
 
--- the specification of a name, if it is known
+-- The specification with the given name, if it is known.
 abbrev pub fields_named : List ℕ → Option Fields
 fields_named name = fields_at (number_named name)
 
--- The base is built from the specification of this number.
+-- The base is built from the specification with the number `number`.
 pub record IsNumbered (number : ℕ) (base : Base) : Type 0 where
   pub fields : Fields
   pub is_known : fields_numbered number ≡ Some fields

@@ -4,8 +4,8 @@ use Rattle.data_encoding_meaning.specs.text.Base.{Base}
 use Rattle.data_encoding_meaning.specs.text.Text.{text_of}
 use Rattle.data_encoding_meaning.specs.text.Lengths.{alignment}
 
--- The text of these bytes was appended to the text before, except that the last few are held until
--- they fill a block.
+-- The text of `bytes` was appended to `before`, except for the last bytes, `held`, which are too
+-- few for a block.
 pub record HasEncoded (base : Base) (before bytes : List ℕ) (text held : List ℕ) : Type 0 where
   pub encoded : List ℕ
   pub are_bytes : bytes ≡ encoded ++ held

@@ -6,42 +6,43 @@ use Rattle.data_encoding_meaning.specs.declared.encoding.Character.TheVariants.{
 use Rattle.data_encoding_meaning.specs.text.Base.{Base, meaning, is_padded, is_padding, is_ignored, group_symbols}
 use Rattle.data_encoding_meaning.specs.text.Bits.{bits_of_bytes, bits_of, runs}
 
--- a byte of a text, with its position there
+-- A byte of a text, with its position in the text.
 pub record Positioned : Type 0 where
   pub position : ℕ
   pub byte : ℕ
 
--- the bytes of `part`, which starts at `position` in a text, with their positions in that text
+-- The bytes of `part`, with their positions in a text in which `part` starts at `position`.
 abbrev pub positioned_from : ℕ → List ℕ → List Positioned
 positioned_from position part =
     map (λ (p : ℕ × ℕ). record { position = p.0; byte = p.1 }) (enumerate_from position part)
 
--- the bytes of a text, with their positions
+-- The bytes of `text`, with their positions.
 abbrev pub positioned : List ℕ → List Positioned
 positioned text = positioned_from 0 text
 
--- the bytes of `part` that are not ignored, with their positions in the text
+-- The bytes of `part` that are not ignored, with their positions in a text in which `part` starts
+-- at `start`.
 abbrev pub kept_in : Base → ℕ → List ℕ → List Positioned
 kept_in base start part =
     filter (λ k. not (is_ignored (meaning base k.byte))) (positioned_from start part)
 
--- the bytes of a text that are not ignored, with their positions
+-- The kept bytes of `text`: those that are not ignored, with their positions.
 abbrev pub kept : Base → List ℕ → List Positioned
 kept base text = kept_in base 0 text
 
--- the kept bytes of a text from this position on
+-- The kept bytes of `text` from position `read` on.
 abbrev pub kept_from : Base → ℕ → List ℕ → List Positioned
 kept_from base read text = kept_in base read (drop read text)
 
--- the kept bytes of a text, in groups of `group_symbols` bytes; the last group may have fewer
+-- The kept bytes of `text`, in groups of `group_symbols` bytes. The last group may have fewer.
 abbrev pub groups : Base → List ℕ → List (List Positioned)
 groups base text = runs (group_symbols base.width) (kept base text)
 
--- the bytes of a group
+-- The bytes of `group`, without their positions.
 abbrev pub bytes_in : List Positioned → List ℕ
 bytes_in group = map (λ k. k.byte) group
 
--- the bytes of a group as characters
+-- The characters that the bytes of `group` mean.
 abbrev pub meanings_in : Base → List Positioned → List Character
 meanings_in base group = map (meaning base) (bytes_in group)
 
@@ -58,8 +59,8 @@ pub record PlainMeans (base : Base) (characters : List Character) (bytes : List 
   pub rest_is_zero : base.checks_trailing_bits ≡ true → rest ≡ replicate (length rest) 0
   pub are_bytes : All (λ byte. byte < 256) bytes
 
--- The group is one or more symbols, followed by any number of padding characters. The bytes are
--- those that the symbols mean. If the base is padded, the group has `group_symbols` characters.
+-- The group is one or more symbols, followed by any number of padding characters. It means the
+-- bytes that the symbols mean. If the base is padded, the group has `group_symbols` characters.
 -- Otherwise the group has no padding, and may have fewer.
 pub record GroupMeans (base : Base) (group : List Character) (bytes : List ℕ) : Type 0 where
   pub symbols : List Character
@@ -70,15 +71,16 @@ pub record GroupMeans (base : Base) (group : List Character) (bytes : List ℕ) 
   pub is_begun : 0 < length symbols
   pub means : PlainMeans base symbols bytes
 
--- whether a group is final: it has padding, and the base does not allow concatenated texts
+-- `true` if the group is final: it has padding, and the base does not allow concatenated texts.
 abbrev pub ends_text : Base → List Character → Bool
 ends_text base group = not base.concatenates && list_any is_padding group
 
--- whether a group that is given by its bytes is final
+-- `true` if the group, given by its bytes, is final.
 abbrev pub is_final : Base → List Positioned → Bool
 is_final base group = ends_text base (meanings_in base group)
 
--- The bytes are those that the groups mean, joined in order. No group follows a final group.
+-- The groups mean `bytes`: the bytes of each group, joined in order. No group follows a final
+-- group.
 abbrev pub GroupsMean : Base → List (List Character) → List ℕ → Type 0
 GroupsMean base [] bytes = bytes ≡ []
 GroupsMean base (group ∷ others) bytes =
@@ -86,7 +88,7 @@ GroupsMean base (group ∷ others) bytes =
     × GroupMeans base group piece × (ends_text base group ≡ true → others ≡ [])
     × GroupsMean base others more
 
--- A text means the bytes that its groups mean, joined in order. Only the last group may have fewer
--- than `group_symbols` bytes, and only if the base is not padded.
+-- The text means `bytes`: the bytes of its groups, joined in order. Only the last group may have
+-- fewer than `group_symbols` bytes, and only if the base is not padded.
 abbrev pub Means : Base → List ℕ → List ℕ → Type 0
 Means base text bytes = GroupsMean base (map (meanings_in base) (groups base text)) bytes
