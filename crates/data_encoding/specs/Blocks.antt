@@ -1,4 +1,4 @@
--- What is packed of a text: its bytes that are not ignored.
+-- Blocks: the kept bytes of a part of a text, packed.
 use Rattle.std.specs.Prelude.{◌≡◌, ℕ, ◌+◌, ◌-◌, ◌<◌, ◌≤◌, false, List, length, take, drop, slice_index}
 use Rattle.data_encoding.specs.declared.decode.blocks.Packing.{Packing}
 use Rattle.data_encoding.specs.Progress.{HasExactOutput}
@@ -6,18 +6,18 @@ use Rattle.data_encoding_meaning.specs.text.Base.{Base, meaning, is_ignored}
 use Rattle.data_encoding_meaning.specs.text.Grammar.{bytes_in, kept}
 use Rattle.data_encoding_meaning.specs.decoding.Decoding.{HasDecodedTo}
 
--- These are the bytes of the prefix of this length that are not ignored.
+-- The kept bytes of the first `span` bytes of `part` are `bytes`.
 abbrev pub AreKept : Base → List ℕ → ℕ → List ℕ → Type 0
 AreKept base part span bytes = bytes_in (kept base (take span part)) ≡ bytes
 
--- The prefix of this length has all bytes that are not ignored except for the last ones, as many as
--- these, and ends with one of them.
+-- The first `span` bytes of `part` have all its kept bytes except the last `last`, and end with a
+-- kept byte.
 pub record EndsBefore (base : Base) (part : List ℕ) (last span : ℕ) : Type 0 where
   pub before : length (kept base (take span part)) + last ≡ length (kept base part)
   pub ends : 0 < span → is_ignored (meaning base (slice_index part (span - 1))) ≡ false
 
--- A text was decoded from a position on, and packed further: these are the bytes between that are
--- not ignored.
+-- The text was decoded up to a position from `first` on, and packed up to `packed`. The kept bytes
+-- between them are `bytes`.
 pub record HasPacked (base : Base) (text : List ℕ) (first packed written : ℕ)
     (bytes output : List ℕ) : Type 0 where
   pub read : ℕ
@@ -27,7 +27,7 @@ pub record HasPacked (base : Base) (text : List ℕ) (first packed written : ℕ
   pub are : AreKept base (drop read text) (packed - read) bytes
   pub so_far : HasDecodedTo base text read written false output
 
--- The bytes of the room from the first on, up to the end, are packed and not decoded.
+-- The bytes of the room from `first` to `end` are packed and not yet decoded.
 pub record IsPacking (base : Base) (text room : List ℕ) (at : Packing) (output : List ℕ)
     : Type 0 where
   pub exact : HasExactOutput base text output
@@ -36,7 +36,7 @@ pub record IsPacking (base : Base) (text room : List ℕ) (at : Packing) (output
   pub packed : HasPacked base text at.start at.read at.written (drop at.first (take at.end room))
       output
 
--- More of what is packed is decoded, and nothing more is packed.
+-- More of the packed bytes are decoded, and no more are packed.
 pub record PacksOn (base : Base) (text room : List ℕ) (before after : Packing) (output : List ℕ)
     : Type 0 where
   pub packing : IsPacking base text room after output

@@ -1,4 +1,4 @@
--- What the calls promise that an encoding has by value and by reference.
+-- The promises of calls that both `Encoding` and `EncodingRef` have.
 use Rattle.std.specs.Prelude.{◌≡◌, ◌⊎◌, ℕ, ◌*◌, ◌%◌, ◌<◌, ◌≤◌, false, List, ◌++◌, length, take, None, Some, Result, Err, IfOk, IfErr, IsOk, IsOkAnd, OnErr, OnOk}
 use Rattle.std.specs.String.{string_bytes, string_capacity}
 use Rattle.std.specs.declared.string.String.{String}
@@ -15,33 +15,34 @@ use Rattle.data_encoding_meaning.specs.decoding.Fault.{IsRefusal, fault_of, soun
 use Rattle.data_encoding_meaning.specs.decoding.Partial.{partial_of}
 use Rattle.data_encoding_meaning.specs.specification.Fields.{IsSpecified}
 
--- The number of bits of a symbol.
+-- `count` is the number of bits of a symbol.
 pub record IsBitWidth (encoding : Base) (count : ℕ) : Type 0 where
   pub value : count ≡ encoding.width
   pub width : IsWidth count
   pub base : IsSpecified encoding
 
--- The number of symbols of a whole group.
+-- `count` is the number of symbols of a whole group.
 pub record IsGroupLen (encoding : Base) (count : ℕ) : Type 0 where
   pub value : count ≡ group_symbols encoding.width
   pub width : IsWidth encoding.width
   pub base : IsSpecified encoding
 
--- The number of bytes of a whole group.
+-- `count` is the number of bytes of a whole group.
 pub record IsGroupBytes (encoding : Base) (count : ℕ) : Type 0 where
   pub value : count ≡ group_bytes encoding.width
   pub some : 0 < count
   pub few : count ≤ 5
   pub base : IsSpecified encoding
 
--- The length of the text of this many bytes.
+-- `count` is the length of the text of `len` bytes.
 pub record IsEncodeLen (encoding : Base) (len count : ℕ) : Type 0 where
   pub length : (bytes : List ℕ) → length bytes ≡ len → length (text_of encoding bytes) ≡ count
   pub most : count ≤ 263 * len
   pub empty : len ≡ 0 → count ≡ 0
   pub base : IsSpecified encoding
 
--- How many bytes, in whole groups or lines, have a text that surely fits an output of this length.
+-- `count` bytes of data are whole groups or lines, and their text fits an output of `output_len`
+-- bytes.
 pub record IsPieceLen (encoding : Base) (output_len count : ℕ) : Type 0 where
   pub some : 0 < count
   pub few : count ≤ output_len
@@ -50,7 +51,7 @@ pub record IsPieceLen (encoding : Base) (output_len count : ℕ) : Type 0 where
       → length (text_of encoding bytes) ≤ output_len
   pub base : IsSpecified encoding
 
--- The text of the data was appended to the output; or memory ran out, and nothing has changed.
+-- The text of the data was appended to the output, or memory ran out and nothing has changed.
 pub record AppendsText {A E : Type 0} (encoding : Base) (input : List ℕ) (old new : String A)
     (answer : Result (Unit {0}) E) : Type 0 where
   pub text : OnOk answer (string_bytes new ≡ string_bytes old ++ text_of encoding input)
@@ -59,7 +60,8 @@ pub record AppendsText {A E : Type 0} (encoding : Base) (input : List ℕ) (old 
   pub empty : length input ≡ 0 → IsOk answer
   pub base : IsSpecified encoding
 
--- The greatest number of bytes that a text of this length may mean, or the fault of the length.
+-- `count` is the greatest number of bytes that a text of `len` bytes may mean, or the fault of the
+-- length.
 pub record IsDecodeLen (encoding : Base) (len : ℕ) (count : Result ℕ DecodeError) : Type 0 where
   pub value : count ≡ decoded_len encoding len
   pub position : IfErr count (λ error. error.position < len)
@@ -67,8 +69,8 @@ pub record IsDecodeLen (encoding : Base) (len : ℕ) (count : Result ℕ DecodeE
       → IsOkAnd count (λ most. length bytes ≤ most)
   pub base : IsSpecified encoding
 
--- The data of a text was written to the front of the output, which held `old` and now holds `new`;
--- or the text has a fault, and what was read before it means what was written.
+-- The data of the text was written to the start of the output, which changed from `old` to `new`.
+-- Or the text has a fault, and the bytes that were read mean the bytes that were written.
 pub record DecodesText (base : Base) (text old new : List ℕ) (answer : Result ℕ DecodePartial)
     : Type 0 where
   pub decoded : IfOk answer (λ n. (n ≤ length new) × Means base text (take n new))
@@ -84,7 +86,7 @@ pub record DecodesText (base : Base) (text old new : List ℕ) (answer : Result 
   pub full : IfOk answer (λ n. base.padding ≡ None → ignores_some base ≡ false → n ≡ length new)
   pub len : length new ≡ length old
 
--- The data of a text is returned; or the text has a fault, or memory ran out.
+-- The data of the text is returned, or its fault, or memory ran out.
 pub record DecodesWhole {A : Type 0} (base : Base) (text : List ℕ)
     (answer : Result (Vec ℕ A) DecodeFault) : Type 0 where
   pub means : IfOk answer (λ bytes. Means base text bytes.items)

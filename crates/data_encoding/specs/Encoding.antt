@@ -1,4 +1,4 @@
--- What a contract sees of an encoding: the base of its tables.
+-- The view of an encoding in contracts: the base of its tables.
 use Rattle.std.specs.Prelude.{◌≡◌, ℕ, zero, suc, Bool, ◌/◌, ◌%◌, ◌^◌, ◌<◌, ◌==◌, nat_lt, ◌||◌, not, IsTrue, List, [], length, map, replicate, take, drop, slice_index, Option, None, Some, is_some}
 use Rattle.std.specs.List.{concat, list_all, range_with_len}
 use Rattle.data_encoding_meaning.specs.declared.encoding.BitOrder.{BitOrder}
@@ -7,7 +7,7 @@ use Rattle.data_encoding_meaning.specs.specification.Entries.{meaning_of_entry, 
 use Rattle.data_encoding_kernel.specs.declared.lanes.affine.PlainAffine.{PlainAffine}
 use Rattle.data_encoding_kernel.specs.Affine.{agrees}
 
--- the tables by which an encoding encodes and decodes
+-- The tables of an encoding.
 pub record EncodingTables : Type 0 where
   pub symbols : List ℕ
   pub values : List ℕ
@@ -21,7 +21,7 @@ pub record EncodingTables : Type 0 where
   pub separator : List ℕ
   pub form : PlainAffine
 
--- the base that the tables of an encoding describe
+-- The base that the tables describe.
 abbrev pub base_of_tables : EncodingTables → Base
 base_of_tables e = record {
   width = e.width;
@@ -34,8 +34,8 @@ base_of_tables e = record {
   wrapping = wrapping_by e.column e.separator;
 }
 
--- Without a padding character no byte means padding. With one, it is ASCII and means padding, and
--- eight bits are not whole symbols.
+-- Without a padding character no byte means padding. A padding character is ASCII and means
+-- padding, and eight bits are not whole symbols.
 abbrev pub KeepsPadding : Option ℕ → ℕ → List ℕ → Type 0
 KeepsPadding None width values = IsTrue (list_all (λ v. not (v == 130)) (take 128 values))
 KeepsPadding (Some character) width values =
@@ -49,10 +49,10 @@ KeepsWrapping (suc n) separator width values =
     × (0 < length separator) × (length separator < 256)
     × IsTrue (list_all (λ byte. slice_index values byte == 129) separator)
 
--- A symbol has one to six bits, and trailing bits are checked if eight bits are whole symbols. The
--- symbols are ASCII, and are repeated to fill their table. Each has its own value; any other byte
--- has the value of a symbol, or 128 to 130; each from 128 on has 128. The affine form agrees with
--- the values.
+-- The rules of the tables. A symbol has one to six bits, and trailing bits are checked if eight
+-- bits are whole symbols. The symbols are ASCII, and are repeated to fill their table. Each has its
+-- own value; any other byte has the value of a symbol, or 128 to 130; each from 128 on has 128. The
+-- affine form agrees with the values.
 pub record KeepsRules (e : EncodingTables) : Type 0 where
   pub is_width : IsWidth e.width
   pub unpadded_concatenates : IsTrue (e.concatenates || is_some e.padding)

@@ -1,4 +1,4 @@
--- Data that is encoded piece by piece: what is kept, and the text of whole blocks.
+-- Data that is encoded piece by piece: the state between pieces, and the text of whole blocks.
 use Rattle.std.specs.Prelude.{◌≡◌, ℕ, ◌+◌, ◌-◌, ◌*◌, ◌/◌, ◌%◌, ◌<◌, ◌≤◌, List, ◌++◌, length, take, drop}
 use Rattle.data_encoding.specs.declared.kept_data.DueLen.{DueLen}
 use Rattle.data_encoding.specs.declared.kept_data.KeptData.{KeptData}
@@ -7,28 +7,29 @@ use Rattle.data_encoding_meaning.specs.text.Base.{Base}
 use Rattle.data_encoding_meaning.specs.text.Lengths.{alignment}
 use Rattle.data_encoding_meaning.specs.text.Text.{text_of}
 
--- the bytes of the unfinished block
+-- The held bytes of the unfinished block.
 abbrev pub held_data : KeptData → List ℕ
 held_data kept = take kept.count kept.bytes
 
--- the length of the whole blocks of this many bytes
+-- The length of the whole blocks of `len` bytes.
 abbrev pub blocks_len : Base → ℕ → ℕ
 blocks_len base len = len / alignment base * alignment base
 
--- the text of the whole blocks of data
+-- The text of the whole blocks of `bytes`.
 abbrev pub text_of_blocks : Base → List ℕ → List ℕ
 text_of_blocks base bytes = text_of base (take (blocks_len base (length bytes)) bytes)
 
--- the text that is written for a piece, after what is kept
+-- The text that is written for `piece`, after the bytes that `kept` holds.
 abbrev pub piece_text : Base → KeptData → List ℕ → List ℕ
 piece_text base kept piece = text_of_blocks base (held_data kept ++ piece)
 
--- the bytes after the whole blocks of data
+-- The bytes after the whole blocks of `bytes`.
 abbrev pub after_blocks : Base → List ℕ → List ℕ
 after_blocks base bytes = drop (blocks_len base (length bytes)) bytes
 
--- The lengths of the text that this many more bytes complete, of all blocks and of one, and that of
--- the blocks after the first; the latter two are asked for only if one is completed.
+-- `due` has the lengths for `len` more bytes: of the text of all blocks that they complete, of the
+-- text of one block, and of the blocks after the first. The latter two matter only if a block is
+-- completed.
 pub record IsDue (encoding : Base) (kept : KeptData) (len : ℕ) (due : DueLen) : Type 0 where
   pub total : (piece : List ℕ) → length piece ≡ len
       → length (piece_text encoding kept piece) ≡ due.total

@@ -5,15 +5,15 @@ use Rattle.data_encoding_meaning.specs.declared.encoding.BitOrder.TheVariants.{M
 use Rattle.data_encoding.specs.declared.plain.PlainFields.{PlainFields}
 use Rattle.data_encoding.specs.Encoding.{EncodingTables}
 
--- the order of the bits, by a flag
+-- The order of bits that the flag means.
 abbrev pub order_by : Bool → BitOrder
 order_by least = if least then LeastSignificantFirst else MostSignificantFirst
 
--- the padding character, or none if the entry is not ASCII
+-- The padding character, or none if the entry is not ASCII.
 abbrev pub padding_by : ℕ → Option ℕ
 padding_by entry = if nat_lt entry 128 then Some entry else None
 
--- the tables that plain fields and a separator describe
+-- The tables that the plain fields and the separator describe.
 abbrev pub plain_tables : PlainFields → List ℕ → EncodingTables
 plain_tables f separator = record {
   symbols = f.symbols;

@@ -1,4 +1,4 @@
--- How far a text is decoded.
+-- The progress of a decoding.
 use Rattle.std.specs.Prelude.{◌≡◌, ℕ, ◌≤◌, false, List, length, drop, Ok}
 use Rattle.data_encoding.specs.declared.decode.entries.Entries.{Entries}
 use Rattle.data_encoding.specs.declared.decode.progress.Progress.{Progress}
@@ -9,30 +9,31 @@ use Rattle.data_encoding_meaning.specs.text.Base.{Base}
 use Rattle.data_encoding_meaning.specs.text.Lengths.{decoded_len}
 use Rattle.data_encoding_meaning.specs.decoding.Decoding.{HasDecodedTo, IsIgnoredFront}
 
--- A text that is decoded in one call, and an output of the length that the text's gives.
+-- The text is short enough for one call, and the output has the length that `decode_len` returns
+-- for it.
 pub record HasExactOutput (base : Base) (text output : List ℕ) : Type 0 where
   pub limit : length text ≤ DECODE_LIMIT
   pub len : decoded_len base (length text) ≡ Ok (length output)
 
--- The symbols of the base have this many bits, which are in this order.
+-- The symbols of the base have `width` bits, in the given order.
 pub record IsCodedIn (base : Base) (width : ℕ) (order : BitOrder) : Type 0 where
   pub width_is : base.width ≡ width
   pub order_is : base.order ≡ order
 
--- The base decodes with these entries, this width and order, and the look-up has the entries.
+-- The base decodes with the entries, the width and the order, and the look-up has the entries.
 pub record ReadsBy {L : Type 0} (holds : List ℕ → L → Type 0) (base : Base)
     (entries : Entries L) (width : ℕ) (order : BitOrder) : Type 0 where
   pub reads : Reads base entries.values.now width order
   pub held : holds entries.values.now entries.look_up.now
 
--- A text is decoded up to a position, and this many ignored bytes follow.
+-- The text is decoded as far as `at` states, and `at.ignored` ignored bytes follow.
 pub record HasReached (base : Base) (text : List ℕ) (at : Progress) (output : List ℕ)
     : Type 0 where
   pub exact : HasExactOutput base text output
   pub so_far : HasDecodedTo base text at.read at.written false output
   pub front : IsIgnoredFront base (drop at.read text) at.ignored
 
--- And no less far than from where it went on.
+-- The text is decoded as far as `at` states, which is at least up to `start`.
 pub record GoesOn (base : Base) (text : List ℕ) (start : ℕ) (at : Progress) (output : List ℕ)
     : Type 0 where
   pub reached : HasReached base text at output

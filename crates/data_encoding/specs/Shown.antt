@@ -1,12 +1,12 @@
--- What a `Display` prints.
+-- The view of a `Display` in contracts.
 use Rattle.std.specs.Prelude.{ℕ, List}
 use Rattle.data_encoding.specs.declared.write.Display.{Display}
 use Rattle.data_encoding_meaning.specs.text.Text.{text_of}
 
--- its data
+-- The data of a `Display`.
 abbrev pub shown_data : Display → List ℕ
 shown_data shown = shown.input.now
 
--- the text of its data
+-- The text that a `Display` prints.
 abbrev pub shown_text : Display → List ℕ
 shown_text shown = text_of shown.encoding (shown_data shown)

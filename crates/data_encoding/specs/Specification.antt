@@ -1,4 +1,4 @@
--- What a `Specification` asks for, with its texts as bytes.
+-- The view of specifications in contracts: their fields, with texts as bytes.
 use Rattle.std.specs.Prelude.{◌≡◌, true, [], None}
 use Rattle.std.specs.String.{string_bytes}
 use Rattle.data_encoding_meaning.specs.declared.encoding.BitOrder.TheVariants.{MostSignificantFirst}
@@ -11,7 +11,7 @@ use Rattle.data_encoding.specs.declared.specification.Translate.{Translate}
 use Rattle.data_encoding.specs.declared.specification.Wrap.{Wrap}
 use Rattle.data_encoding_meaning.specs.specification.Fields.{Fields}
 
--- what a specification asks for
+-- The fields of a `Specification`.
 abbrev pub specified : Specification → Fields
 specified s = record {
   symbols = string_bytes s.symbols;
@@ -26,11 +26,11 @@ specified s = record {
   to = string_bytes s.translate.to;
 }
 
--- the reason why no base is built from a specification
+-- The refusal of a `SpecificationError`.
 abbrev pub refusal_of : SpecificationError → Refusal
 refusal_of error = error.refusal
 
--- what a specification of borrowed bytes asks for
+-- The fields of a `SpecificationParts`.
 abbrev pub fields_of_parts : SpecificationParts → Fields
 fields_of_parts p = record {
   symbols = p.symbols.now;
@@ -45,7 +45,7 @@ fields_of_parts p = record {
   to = p.translate_to.now;
 }
 
--- what a specification of its own bytes asks for
+-- The fields of a `SpecificationBytes`.
 abbrev pub fields_of_bytes : SpecificationBytes → Fields
 fields_of_bytes s = record {
   symbols = s.symbols.items;
@@ -60,7 +60,8 @@ fields_of_bytes s = record {
   to = s.translate_to.items;
 }
 
--- an empty specification: the most significant bit first, and trailing bits checked
+-- An empty specification, with the most significant bit first, trailing bits checked, and texts
+-- concatenated.
 abbrev pub no_fields : Fields
 no_fields = record {
   symbols = [];

@@ -1,4 +1,4 @@
--- How a step leaves a text, and how the steps end.
+-- The steps of a decoding, and their end.
 use Rattle.std.specs.Prelude.{◌≡◌, ℕ, ◌-◌, ◌<◌, ◌≤◌, Bool, true, false, List, length, take, drop, Option, None, Some}
 use Rattle.data_encoding_meaning.specs.declared.error.DecodePartial.{DecodePartial}
 use Rattle.data_encoding.specs.declared.decode.Stop.{Stop}
@@ -10,18 +10,18 @@ use Rattle.data_encoding_meaning.specs.text.Grammar.{kept}
 use Rattle.data_encoding_meaning.specs.decoding.Partial.{StopsAt, is_length_fault}
 use Rattle.data_encoding_meaning.specs.decoding.Decoding.{HasDecodedTo, HasNoLastRun, HasRoom, IsDecoded, IsLastRun, IsStop}
 
--- the fault of the group at which a decoding stopped
+-- The fault of the group at which the decoding stopped.
 abbrev pub fault_of_stop : Stop → GroupFault
 fault_of_stop stop = record { index = stop.index; kind = stop.kind }
 
--- The last run of a rest was decoded, and means so many bytes; or there is none.
+-- The last run of `rest` was decoded to `written` bytes, or there is none.
 abbrev pub DecodesLastRun : Base → List ℕ → List ℕ → Option ℕ → Type 0
 DecodesLastRun base rest output (Some written) =
     (written ≤ length output) × IsLastRun base rest written output
 DecodesLastRun base rest output None = HasNoLastRun base rest
 
--- A decoding stopped before a faulty group; what is reported of that group is what is reported of
--- the text.
+-- The decoding stopped before a faulty group. A report of the fault of this group is a report of
+-- the fault of the text.
 pub record HasStopped (base : Base) (text output : List ℕ) (stop : Stop) : Type 0 where
   pub within : stop.read ≤ length text
   pub fits : stop.written ≤ length output
@@ -34,12 +34,12 @@ pub record HasStopped (base : Base) (text output : List ℕ) (stop : Stop) : Typ
       new partial
       → StopsAt base text new partial
 
--- The steps over a text ended: at its end without a fault, or at a faulty group.
+-- The decoding ended: at the end of the text without a fault, or at a faulty group.
 abbrev pub HasEnded : Base → List ℕ → List ℕ → Stop → Bool → Type 0
 HasEnded base text output stop true = IsDecoded base text stop.written output
 HasEnded base text output stop false = HasStopped base text output stop
 
--- How a step from a position left a text: more was read and there is more to read, or the steps
+-- After a step from position `read`, more was read and there is more to read, or the decoding
 -- ended.
 abbrev pub HasStepped : Base → List ℕ → ℕ → List ℕ → Stop → Step → Type 0
 HasStepped base text read output stop More =

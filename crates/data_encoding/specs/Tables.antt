@@ -1,4 +1,4 @@
--- The tables of a base that its layout and its specification are made from.
+-- The tables of a base, for its layout and its specification.
 use Rattle.std.specs.Prelude.{◌≡◌, map}
 use Rattle.data_encoding.specs.declared.specification.tables.Tables.{Tables}
 use Rattle.data_encoding_meaning.specs.text.Base.{Base}

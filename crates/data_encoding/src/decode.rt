@@ -1,4 +1,4 @@
-//! From text to data.
+//! Decoding: from text to data.
 
 pub(crate) mod blocks;
 pub(crate) mod entries;
@@ -28,7 +28,7 @@ use data_encoding_kernel::group_size::GroupSize;
 use data_encoding_meaning::limits;
 use std::alloc::Global;
 
-/// The greatest length of a text that is decoded in one call, in bytes.
+/// The greatest length of a text that one call decodes, in bytes.
 pub const DECODE_LIMIT: usize = limits::DECODE_LIMIT;
 
 // 2^61 - 1
@@ -60,24 +60,23 @@ impl Stop {
 }
 
 impl Encoding {
-    /// Decodes the text `input`, writes the data to the start of `output`, and returns the length
-    /// of the data. `input` must have at most `DECODE_LIMIT` bytes. `output` must have exactly the
-    /// length that `decode_len` returns for `input.len()`.
+    /// Decodes the text `input` to the start of `output`, and returns the length of the data in
+    /// bytes.
     ///
-    /// `input` may be several concatenated padded texts, if the encoding allows it.
+    /// `input` must have at most `DECODE_LIMIT` bytes. It may be several concatenated padded texts,
+    /// if the encoding allows it. `output` must have exactly the length that `decode_len` returns
+    /// for `input.len()`. The bytes of `output` after the data are unspecified. If the encoding has
+    /// no padding and ignores no byte, the data fills `output`.
     ///
-    /// An invalid text has one fault, which the error contains. After an error, the first `read`
-    /// bytes of `input` mean the first `written` bytes of `output`. `read` is the end of the last
-    /// group before the faulty one, or 0 if there is none, except after some `Length` faults.
+    /// Returns the fault of an invalid text. The first `read` bytes of `input` then mean the first
+    /// `written` bytes of `output`, and the other bytes of `output` are unspecified. `read` is the
+    /// end of the last group before the faulty one, or 0 if there is none, except after some
+    /// `Length` faults.
     ///
     /// Only the last group can have a `Length` fault, and only if the encoding ignores bytes. Let
     /// `rest` be the bytes of `input` after the groups before it, and `front` the longest prefix of
     /// `rest` with a valid length. If `front` has no ignored byte and no fault, `read` is the
     /// position of the fault.
-    ///
-    /// Bytes of `output` after the first `written` are unspecified.
-    ///
-    /// If the encoding has no padding and ignores no byte, the returned length is `output.len()`.
     pub fn decode_mut(&self, input: &[u8], output: &mut [u8]) -> Result<usize, DecodePartial>
         requires limit { length input.now ≤ DECODE_LIMIT }
         requires exact { decoded_len self.now (length input.now) ≡ Ok (length output.old) }
@@ -86,13 +85,15 @@ impl Encoding {
         self.by_ref().decode_mut(input, output)
     }
 
-    /// Returns the data that `input` means. `input` must have at most `DECODE_LIMIT` bytes.
+    /// Returns the data that the text `input` means.
     ///
-    /// `input` may be several concatenated padded texts, if the encoding allows it.
+    /// `input` must have at most `DECODE_LIMIT` bytes. It may be several concatenated padded texts,
+    /// if the encoding allows it.
     ///
-    /// An invalid text has one fault: that of its length or, if the length has no fault, that of
-    /// its first faulty group. In a group, the padding is checked before the symbols.
-    /// `OutOfMemory` is returned only if `decode_len` returns more than 0 for `input.len()`.
+    /// Returns the fault of an invalid text. This is the fault of its length or, if the length has
+    /// no fault, of its first faulty group. In a group, the padding is checked before the symbols.
+    /// Returns `OutOfMemory` only if memory runs out and `decode_len` returns more than 0 for
+    /// `input.len()`.
     pub fn decode(&self, alloc: Global, input: &[u8]) -> Result<Vec<u8>, DecodeFault>
         requires limit { length input.now ≤ DECODE_LIMIT }
         ensures { DecodesWhole self.now input.now result }
@@ -102,24 +103,7 @@ impl Encoding {
 }
 
 impl EncodingRef<'_> {
-    /// Decodes the text `input`, writes the data to the start of `output`, and returns the length
-    /// of the data. `input` must have at most `DECODE_LIMIT` bytes. `output` must have exactly the
-    /// length that `decode_len` returns for `input.len()`.
-    ///
-    /// `input` may be several concatenated padded texts, if the encoding allows it.
-    ///
-    /// An invalid text has one fault, which the error contains. After an error, the first `read`
-    /// bytes of `input` mean the first `written` bytes of `output`. `read` is the end of the last
-    /// group before the faulty one, or 0 if there is none, except after some `Length` faults.
-    ///
-    /// Only the last group can have a `Length` fault, and only if the encoding ignores bytes. Let
-    /// `rest` be the bytes of `input` after the groups before it, and `front` the longest prefix of
-    /// `rest` with a valid length. If `front` has no ignored byte and no fault, `read` is the
-    /// position of the fault.
-    ///
-    /// Bytes of `output` after the first `written` are unspecified.
-    ///
-    /// If the encoding has no padding and ignores no byte, the returned length is `output.len()`.
+    /// Like [`Encoding::decode_mut`].
     #[inline(always)]
     pub fn decode_mut(&self, input: &[u8], output: &mut [u8]) -> Result<usize, DecodePartial>
         requires limit { length input.now ≤ DECODE_LIMIT }
@@ -133,13 +117,7 @@ impl EncodingRef<'_> {
         Err(self.stopped(input, output, stop))
     }
 
-    /// Returns the data that `input` means. `input` must have at most `DECODE_LIMIT` bytes.
-    ///
-    /// `input` may be several concatenated padded texts, if the encoding allows it.
-    ///
-    /// An invalid text has one fault: that of its length or, if the length has no fault, that of
-    /// its first faulty group. In a group, the padding is checked before the symbols.
-    /// `OutOfMemory` is returned only if `decode_len` returns more than 0 for `input.len()`.
+    /// Like [`Encoding::decode`].
     pub fn decode(&self, alloc: Global, input: &[u8]) -> Result<Vec<u8>, DecodeFault>
         requires limit { length input.now ≤ DECODE_LIMIT }
         ensures { DecodesWhole self.now input.now result }

@@ -1,4 +1,4 @@
-//! From data to text.
+//! Encoding: from data to text.
 
 pub(crate) mod append;
 pub(crate) mod lines;
@@ -21,15 +21,16 @@ use data_encoding_kernel::group_size::GroupSize;
 use data_encoding_meaning::limits;
 use std::alloc::{AllocError, Global};
 
-/// The greatest length of data that is encoded in one call, in bytes.
+/// The greatest length of data that one call encodes, in bytes.
 pub const ENCODE_LIMIT: usize = limits::ENCODE_LIMIT;
 
 const _: () = prove!(ENCODE_LIMIT == 36028797018963967);
 
 impl Encoding {
-    /// Returns the length of the text of `len` bytes of data, including the padding and the
-    /// separators of lines. `len` must be at most `ENCODE_LIMIT`. The result is at most
-    /// `263 * len`.
+    /// Returns the length in bytes of the text of `len` bytes of data, with its padding and line
+    /// separators.
+    ///
+    /// `len` must be at most `ENCODE_LIMIT`. The result is at most `263 * len`.
     pub fn encode_len(&self, len: usize) -> usize
         requires limit { len ≤ ENCODE_LIMIT }
         ensures { IsEncodeLen self.now len result }
@@ -37,11 +38,11 @@ impl Encoding {
         self.by_ref().encode_len(len)
     }
 
-    /// Returns the number of bytes of data in a whole line, or in a whole group of symbols if the
-    /// encoding has no lines. The number is from 1 to 189.
+    /// Returns the length of a block: the number of bytes of data in a whole line, or in a whole
+    /// group if the encoding has no lines.
     ///
-    /// If the length of each piece of data but the last is a multiple of this number, the texts of
-    /// the pieces, joined in order, are the text of the joined data.
+    /// The length is from 1 to 189. If the length of each piece of data except the last is a
+    /// multiple of it, the texts of the pieces, joined in order, are the text of the data.
     pub fn encode_align(&self) -> usize
         ensures value { result ≡ alignment self.now }
         ensures some { 0 < result }
@@ -51,8 +52,10 @@ impl Encoding {
         self.by_ref().encode_align()
     }
 
-    /// Writes the text of the data `input` to `output`. `input` must have at most `ENCODE_LIMIT`
-    /// bytes. `output` must have exactly the length that `encode_len` returns for `input.len()`.
+    /// Writes the text of the data `input` to `output`.
+    ///
+    /// `input` must have at most `ENCODE_LIMIT` bytes. `output` must have exactly the length that
+    /// `encode_len` returns for `input.len()`.
     pub fn encode_mut(&self, input: &[u8], output: &mut [u8])
         requires limit { length input.now ≤ ENCODE_LIMIT }
         requires exact { length output.old ≡ length (text_of self.now input.now) }
@@ -62,7 +65,8 @@ impl Encoding {
         self.by_ref().encode_mut(input, output);
     }
 
-    /// Does what `encode_mut` does, under the same conditions, and returns `output` as a `str`.
+    /// Writes the text of `input` to `output`, like [`encode_mut`](Encoding::encode_mut), and
+    /// returns `output` as a `str`.
     pub fn encode_mut_str<'a>(&self, input: &[u8], output: &'a mut [u8]) -> &'a str
         requires limit { length input.now ≤ ENCODE_LIMIT }
         requires exact { length output.old ≡ length (text_of self.now input.now) }
@@ -71,9 +75,10 @@ impl Encoding {
         self.by_ref().encode_mut_str(input, output)
     }
 
-    /// Returns the text of the data `input`, which must have at most `ENCODE_LIMIT` bytes. If the
-    /// encoding has padding, the padding fills the last group. If the encoding has lines, each line
-    /// is followed by the separator.
+    /// Returns the text of the data `input`.
+    ///
+    /// `input` must have at most `ENCODE_LIMIT` bytes. Padding fills the last group, if the
+    /// encoding has padding. The separator follows each line, if the encoding has lines.
     ///
     /// Returns an error only if memory runs out, and never if `input` is empty.
     pub fn encode(&self, alloc: Global, input: &[u8]) -> Result<String, AllocError>
@@ -86,9 +91,7 @@ impl Encoding {
 }
 
 impl EncodingRef<'_> {
-    /// Returns the length of the text of `len` bytes of data, including the padding and the
-    /// separators of lines. `len` must be at most `ENCODE_LIMIT`. The result is at most
-    /// `263 * len`.
+    /// Like [`Encoding::encode_len`].
     #[inline(always)]
     pub fn encode_len(&self, len: usize) -> usize
         requires limit { len ≤ ENCODE_LIMIT }
@@ -115,11 +118,7 @@ impl EncodingRef<'_> {
         symbol_count(self.fields.width, len)
     }
 
-    /// Returns the number of bytes of data in a whole line, or in a whole group of symbols if the
-    /// encoding has no lines. The number is from 1 to 189.
-    ///
-    /// If the length of each piece of data but the last is a multiple of this number, the texts of
-    /// the pieces, joined in order, are the text of the joined data.
+    /// Like [`Encoding::encode_align`].
     pub fn encode_align(&self) -> usize
         ensures value { result ≡ alignment self.now }
         ensures some { 0 < result }
@@ -132,8 +131,7 @@ impl EncodingRef<'_> {
         group_bytes(self.fields.width) as usize
     }
 
-    /// Writes the text of the data `input` to `output`. `input` must have at most `ENCODE_LIMIT`
-    /// bytes. `output` must have exactly the length that `encode_len` returns for `input.len()`.
+    /// Like [`Encoding::encode_mut`].
     #[inline(always)]
     pub fn encode_mut(&self, input: &[u8], output: &mut [u8])
         requires limit { length input.now ≤ ENCODE_LIMIT }
@@ -144,7 +142,7 @@ impl EncodingRef<'_> {
         call_by_width!(self.fields.width, self.encode_by_width::<>(input, output))
     }
 
-    /// Does what `encode_mut` does, under the same conditions, and returns `output` as a `str`.
+    /// Like [`Encoding::encode_mut_str`].
     pub fn encode_mut_str<'a>(&self, input: &[u8], output: &'a mut [u8]) -> &'a str
         requires limit { length input.now ≤ ENCODE_LIMIT }
         requires exact { length output.old ≡ length (text_of self.now input.now) }
@@ -154,11 +152,7 @@ impl EncodingRef<'_> {
         unsafe { str::from_utf8_unchecked(output) }
     }
 
-    /// Returns the text of the data `input`, which must have at most `ENCODE_LIMIT` bytes. If the
-    /// encoding has padding, the padding fills the last group. If the encoding has lines, each line
-    /// is followed by the separator.
-    ///
-    /// Returns an error only if memory runs out, and never if `input` is empty.
+    /// Like [`Encoding::encode`].
     pub fn encode(&self, alloc: Global, input: &[u8]) -> Result<String, AllocError>
         requires limit { length input.now ≤ ENCODE_LIMIT }
         ensures text { IfOk result (λ text. string_bytes text ≡ text_of self.now input.now) }

@@ -1,4 +1,4 @@
-//! Data that comes in pieces, encoded as it comes.
+//! Encoding of data that comes in pieces.
 
 ghost use Rattle.std.specs.Prelude.{◌≡◌, ℕ, ◌+◌, ◌<◌, ◌≤◌, List, [], ◌++◌, length, IfErr, IsOk, OnErr, OnOk};
 ghost use Rattle.std.specs.Borrow.{sem};
@@ -14,14 +14,14 @@ use crate::encoding::{Encoding, EncodingRef};
 use crate::kept_data::KeptData;
 use std::alloc::{AllocError, Allocator};
 
-/// What an [`Encoder`] borrows besides its text: an [`Encoding`].
+/// An encoding that an [`Encoder`] can borrow.
 ///
-/// It is a type parameter, since what becomes of the text is proved only if the encoder has no
-/// other reference.
+/// It is a type parameter because the prover tracks the text only if it is the encoder's only
+/// reference.
 pub trait Encodes: Copy {
     ghost base: { Self → Base };
 
-    /// Returns the encoding by reference.
+    /// Returns a reference to the encoding.
     fn by_ref(&self) -> EncodingRef<'_>
         ensures { result ≡ Self.base self.now };
 }
@@ -35,11 +35,14 @@ impl Encodes for &Encoding {
     }
 }
 
-/// Appends the text of data that comes in pieces to a text. It borrows the text and the encoding.
+/// Encodes data that comes in pieces, and appends its text to a string.
 ///
-/// A block is `encode_align` bytes of data: a group of symbols, or a line. The text of a block is
-/// appended once the block is whole; the encoder holds the bytes that do not fill a block yet. An
-/// encoder must be consumed by `finalize` or `abandon`: a program that drops one does not compile.
+/// It borrows the string and the encoding. A block is `encode_align` bytes of data: a whole line,
+/// or a whole group if there are no lines. The text of a block is appended when the block is
+/// complete. The encoder holds the bytes of an unfinished block.
+///
+/// An encoder must be consumed by `finalize` or `abandon`: a program that drops one does not
+/// compile.
 #[derive(Debug)]
 pub struct Encoder<'a, E: Encodes = &'a Encoding> {
     encoding: E,
@@ -54,7 +57,7 @@ pub struct Encoder<'a, E: Encodes = &'a Encoding> {
 impl Encoding {
     ghost use Rattle.data_encoding.specs.Encoder.{base_of_encoder, output_name, HasTaken};
 
-    /// Returns an encoder that has taken nothing and appends to `output`.
+    /// Returns an encoder that appends to `output`. It holds no bytes.
     pub fn new_encoder<'a>(&'a self, output: &'a mut String) -> Encoder<'a>
         ensures output { output_name result ≡ output.entry.ghost_name }
         ensures base { base_of_encoder result ≡ self.now }
@@ -129,11 +132,13 @@ impl EncodingRef<'_> {
 impl<'a, E: Encodes> Encoder<'a, E> {
     ghost use Rattle.data_encoding.specs.Encoder.{base_of_encoder, held, output_name, written, Finalizes, HasTaken, IsUnchanged};
 
-    /// Takes a piece, of at most `ENCODE_LIMIT` bytes, and appends the text of the blocks that are
-    /// then whole.
+    /// Encodes the piece `input`: appends the text of the blocks that it completes, and holds the
+    /// other bytes.
     ///
-    /// Returns an error only if memory runs out, and never if no block is whole. The bytes and the
-    /// capacity of the text, and the bytes held, are then unchanged.
+    /// `input` must have at most `ENCODE_LIMIT` bytes.
+    ///
+    /// Returns an error only if memory runs out, and never if no block is completed. The bytes and
+    /// the capacity of the text, and the held bytes, are then unchanged.
     pub fn append(&mut self, input: &[u8]) -> Result<(), AllocError>
         requires limit { length input.now ≤ ENCODE_LIMIT }
         ensures output { output_name self.new ≡ output_name self.old }
@@ -149,10 +154,10 @@ impl<'a, E: Encodes> Encoder<'a, E> {
             .append_blocks(input, &mut self.kept, self.block_len, self.output)
     }
 
-    /// Appends the text of the bytes held, with padding, and with the separator if there are lines.
+    /// Appends the text of the held bytes, with its padding and line separator.
     ///
-    /// If memory runs out, which never happens if nothing is held, the encoder is returned. It, and
-    /// the bytes and the capacity of the text, are unchanged.
+    /// Returns the encoder if memory runs out, which never happens if no byte is held. The encoder,
+    /// and the bytes and the capacity of the text, are then unchanged.
     pub fn finalize(self) -> Result<(), Encoder<'a, E>>
         ensures* text { sem 𝓛 (Finalizes self.entry result) }
         ensures unchanged { IfErr result (λ encoder. IsUnchanged self.entry encoder) }
@@ -179,7 +184,7 @@ impl<'a, E: Encodes> Encoder<'a, E> {
         Ok(())
     }
 
-    /// Drops the bytes held, and leaves the text of the blocks that were whole.
+    /// Discards the held bytes. The text of the completed blocks stays.
     pub fn abandon(self)
         ensures { string_bytes self.exit.1.0.now ≡ written self.entry }
     {

@@ -26,7 +26,7 @@ pub(crate) const MOST_SYMBOLS: u8 = 64;
 // The number of ASCII characters; a text has no others.
 pub(crate) const ASCII: u8 = 128;
 
-/// An encoding: how data is written as text, and which texts mean data.
+/// A base encoding: it determines the text of data, and the data that a text means.
 #[derive(Debug, Drop)]
 pub struct Encoding {
     pub(crate) fields: PlainFields,
@@ -50,9 +50,11 @@ impl Model for Encoding {
         (plain_tables encoding.fields encoding.separator.items) };
 }
 
-/// An encoding by reference: its tables are in an [`Encoding`], in a
-/// [`PlainEncoding`](crate::PlainEncoding) or, for a predefined encoding, in the program. It is two
-/// references, and nothing is copied to make one.
+/// A reference to an encoding.
+///
+/// The tables of the encoding are in an [`Encoding`], in a [`PlainEncoding`](crate::PlainEncoding)
+/// or, for a predefined encoding, in the program. The type has two references, and making one
+/// copies nothing.
 #[derive(Debug, Drop)]
 pub struct EncodingRef<'a> {
     pub(crate) fields: &'a PlainFields,
@@ -88,7 +90,7 @@ impl EncodingRef<'_> {
         }
     }
 
-    /// Returns the number of bits of a symbol, from 1 to 6.
+    /// Like [`Encoding::bit_width`].
     #[inline(always)]
     pub fn bit_width(&self) -> usize
         ensures { IsBitWidth self.now result }
@@ -96,7 +98,7 @@ impl EncodingRef<'_> {
         self.fields.width as usize
     }
 
-    /// Returns the number of bytes in a whole group: 1, 3 or 5.
+    /// Like [`Encoding::group_bytes`].
     #[inline]
     pub fn group_bytes(&self) -> usize
         ensures { IsGroupBytes self.now result }
@@ -104,8 +106,7 @@ impl EncodingRef<'_> {
         group_bytes(self.fields.width) as usize
     }
 
-    /// Whether texts are whole groups, so that fewer symbols than a whole group mean no byte: texts
-    /// are padded, or a whole group is one byte.
+    /// Like [`Encoding::completes_groups`].
     #[inline]
     pub fn completes_groups(&self) -> bool
         ensures value { result ≡ (is_padded self.now || group_bytes self.now.width == 1) }
@@ -114,8 +115,7 @@ impl EncodingRef<'_> {
         self.fields.is_padded() || self.group_bytes() == 1
     }
 
-    /// Returns the number of symbols in a whole group, the fewest whose bits are whole bytes: 2, 4
-    /// or 8.
+    /// Like [`Encoding::group_len`].
     #[inline(always)]
     pub fn group_len(&self) -> usize
         ensures { IsGroupLen self.now result }
@@ -123,7 +123,7 @@ impl EncodingRef<'_> {
         group_symbols(self.fields.width) as usize
     }
 
-    /// Whether some byte is ignored.
+    /// Like [`Encoding::ignores_bytes`].
     #[inline(always)]
     pub fn ignores_bytes(&self) -> bool
         ensures { result ≡ ignores_some self.now }
@@ -131,7 +131,7 @@ impl EncodingRef<'_> {
         self.fields.ignores
     }
 
-    /// Whether a text may continue after a padded group. Without padding every text may.
+    /// Like [`Encoding::concatenates`].
     #[inline(always)]
     pub fn concatenates(&self) -> bool
         ensures { result ≡ self.now.concatenates }
@@ -139,7 +139,7 @@ impl EncodingRef<'_> {
         self.fields.concatenates
     }
 
-    /// Whether texts have padding.
+    /// Like [`Encoding::is_padded`].
     #[inline(always)]
     pub fn is_padded(&self) -> bool
         ensures { result ≡ is_padded self.now }
@@ -147,7 +147,7 @@ impl EncodingRef<'_> {
         self.fields.is_padded()
     }
 
-    /// Whether bits left after the last byte must be zeros.
+    /// Like [`Encoding::checks_trailing_bits`].
     #[inline(always)]
     pub fn checks_trailing_bits(&self) -> bool
         ensures { result ≡ self.now.checks_trailing_bits }
@@ -155,7 +155,7 @@ impl EncodingRef<'_> {
         self.fields.checks_trailing_bits
     }
 
-    /// Returns what a byte means in a text.
+    /// Like [`Encoding::interpret_byte`].
     pub fn interpret_byte(&self, byte: u8) -> Character
         ensures { result ≡ meaning self.now byte }
     {
@@ -175,7 +175,7 @@ impl EncodingRef<'_> {
 }
 
 impl Encoding {
-    /// Returns the encoding by reference.
+    /// Returns a reference to the encoding.
     #[inline(always)]
     pub fn by_ref(&self) -> EncodingRef<'_>
         ensures { result ≡ self.now }
@@ -193,23 +193,25 @@ impl Encoding {
         self.by_ref().bit_width()
     }
 
-    /// Returns the number of symbols in a whole group, the fewest whose bits are whole bytes: 2, 4
-    /// or 8.
+    /// Returns the number of symbols in a whole group: 2, 4 or 8.
+    ///
+    /// It is the least number of symbols with bits that are whole bytes.
     pub fn group_len(&self) -> usize
         ensures { IsGroupLen self.now result }
     {
         self.by_ref().group_len()
     }
 
-    /// Returns the number of bytes in a whole group: 1, 3 or 5.
+    /// Returns the number of bytes of data in a whole group: 1, 3 or 5.
     pub fn group_bytes(&self) -> usize
         ensures { IsGroupBytes self.now result }
     {
         self.by_ref().group_bytes()
     }
 
-    /// Whether texts are whole groups, so that fewer symbols than a whole group mean no byte: texts
-    /// are padded, or a whole group is one byte.
+    /// Returns `true` if fewer symbols than a whole group mean no byte.
+    ///
+    /// This is the case if texts are padded, or if a whole group is one byte.
     pub fn completes_groups(&self) -> bool
         ensures value { result ≡ (is_padded self.now || group_bytes self.now.width == 1) }
         ensures none { result ≡ (most_bytes self.now (group_symbols self.now.width - 1) == 0) }
@@ -217,35 +219,36 @@ impl Encoding {
         self.by_ref().completes_groups()
     }
 
-    /// Whether some byte is ignored.
+    /// Returns `true` if some byte is ignored.
     pub fn ignores_bytes(&self) -> bool
         ensures { result ≡ ignores_some self.now }
     {
         self.by_ref().ignores_bytes()
     }
 
-    /// Whether a text may continue after a padded group. Without padding every text may.
+    /// Returns `true` if a text may continue after a padded group. Without padding the result is
+    /// `true`.
     pub fn concatenates(&self) -> bool
         ensures { result ≡ self.now.concatenates }
     {
         self.by_ref().concatenates()
     }
 
-    /// Whether texts have padding.
+    /// Returns `true` if texts are padded.
     pub fn is_padded(&self) -> bool
         ensures { result ≡ is_padded self.now }
     {
         self.by_ref().is_padded()
     }
 
-    /// Whether bits left after the last byte must be zeros.
+    /// Returns `true` if the trailing bits of a text must be zeros.
     pub fn checks_trailing_bits(&self) -> bool
         ensures { result ≡ self.now.checks_trailing_bits }
     {
         self.by_ref().checks_trailing_bits()
     }
 
-    /// Returns what a byte means in a text.
+    /// Returns the meaning of `byte` in a text.
     pub fn interpret_byte(&self, byte: u8) -> Character
         ensures { result ≡ meaning self.now byte }
     {

@@ -1,4 +1,4 @@
-//! Faults of texts: what is wrong, and at which position.
+//! Faults of texts: their kinds and their positions.
 
 pub use data_encoding_meaning::error::{
     DecodeError, DecodeFault, DecodeKind, DecodePartial, GroupFault,

@@ -1,4 +1,4 @@
-//! Data that is encoded piece by piece: what is kept between the pieces, and how one is read.
+//! Data that is encoded piece by piece: the state between the pieces, and the encoding of a piece.
 
 ghost use Rattle.std.specs.Prelude.{◌≡◌, ℕ, ◌+◌, ◌<◌, ◌≤◌, List, ◌++◌, All, length};
 ghost use Rattle.data_encoding.specs.KeptData.{after_blocks, held_data, piece_text, IsDue};
@@ -9,27 +9,27 @@ ghost use Rattle.data_encoding_meaning.specs.text.Text.{text_of};
 use crate::encode::ENCODE_LIMIT;
 use crate::encoding::EncodingRef;
 
-/// What is kept of data between its pieces: plain numbers, from which encoding continues.
+/// The state of an encoder between two pieces of data, as plain numbers.
 #[repr(C)]
 #[derive(Clone, Copy, Debug, Drop)]
 pub struct KeptData {
-    /// How many bytes of an unfinished block are held.
+    /// The number of held bytes of an unfinished block.
     pub count: usize,
 
-    /// The bytes held.
+    /// The held bytes are the first `count` of these.
     pub bytes: [u8; 189],
 }
 
-/// The lengths of the text of the blocks that a piece completes, and of these blocks, in bytes.
+/// The lengths, in bytes, of the text that a piece completes, and of its blocks.
 #[derive(Clone, Copy, Debug, Drop)]
 pub struct DueLen {
     /// The length of the text of one block, or 0 if no block is completed.
     pub block: usize,
 
-    /// The length of the text of all blocks that are completed.
+    /// The length of the text of all completed blocks.
     pub total: usize,
 
-    /// How many bytes of the piece are whole blocks after the first one.
+    /// The length of the piece's whole blocks after the first completed one.
     pub whole: usize,
 }
 
@@ -47,9 +47,11 @@ impl KeptData {
 }
 
 impl EncodingRef<'_> {
-    /// Returns the lengths of the text that a piece of `len` bytes, at most `ENCODE_LIMIT`,
-    /// completes after what is kept. A block is `block_len` bytes, as many as `encode_align`
-    /// returns, and fewer are held.
+    /// Returns the lengths of the text that a piece of `len` bytes completes after the bytes that
+    /// `kept` holds.
+    ///
+    /// `len` must be at most `ENCODE_LIMIT`. `block_len` must be the length of a block, as
+    /// `encode_align` returns it, and `kept` must hold fewer bytes.
     #[inline(always)]
     pub fn due_len(&self, block_len: usize, kept: &KeptData, len: usize) -> DueLen
         requires limit { len ≤ ENCODE_LIMIT }
@@ -79,11 +81,12 @@ impl EncodingRef<'_> {
         }
     }
 
-    /// Reads a piece, of at most `ENCODE_LIMIT` bytes: writes the text of the blocks that it
-    /// completes to `output`, and holds the bytes after them. A piece that completes none is held.
+    /// Encodes `piece`: writes the text of the blocks that it completes to `output`, and holds the
+    /// other bytes in `kept`.
     ///
-    /// A block is `block_len` bytes, as many as `encode_align` returns, and fewer are held. `due`
-    /// is what `due_len` returns for the piece, and `output` has its total length.
+    /// `piece` must have at most `ENCODE_LIMIT` bytes. `block_len` must be the length of a block,
+    /// as `encode_align` returns it, and `kept` must hold fewer bytes. `due` must be the result of
+    /// `due_len` for the piece, and `output` must have `due.total` bytes.
     #[inline(always)]
     pub fn read_piece(
         &self,

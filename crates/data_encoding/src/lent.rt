@@ -1,4 +1,4 @@
-//! An encoding by reference, as a type that can be copied.
+//! A reference to an encoding, as a type that can be copied.
 
 ghost use Rattle.std.specs.Prelude.{◌≡◌};
 ghost use Rattle.data_encoding.specs.Encoding.{KeepsRules};
@@ -7,8 +7,10 @@ ghost use Rattle.data_encoding.specs.PlainTables.{plain_tables};
 use crate::encoding::EncodingRef;
 use crate::plain::PlainFields;
 
-/// An encoding by reference that can be copied: the two references of an [`EncodingRef`], which has
-/// the calls. A type that borrows an encoding holds this if it is to be `Copy`.
+/// A reference to an encoding that can be copied.
+///
+/// It has the two references of an [`EncodingRef`], which has the calls. A type that borrows an
+/// encoding holds this if it is to be `Copy`.
 #[derive(Clone, Copy, Debug, Drop)]
 pub struct LentEncoding<'a> {
     pub(crate) fields: &'a PlainFields,
@@ -22,7 +24,7 @@ pub struct LentEncoding<'a> {
 impl<'a> LentEncoding<'a> {
     ghost use Rattle.data_encoding.specs.Lent.{base_of_lent};
 
-    /// Returns the encoding by reference.
+    /// Returns the reference to the encoding, with its calls.
     #[inline(always)]
     #[tactic(auto, unfolding(crate::specs::Lent::base_of_lent))]
     pub fn by_ref(&self) -> EncodingRef<'a>
@@ -38,7 +40,7 @@ impl<'a> LentEncoding<'a> {
 impl<'a> EncodingRef<'a> {
     ghost use Rattle.data_encoding.specs.Lent.{base_of_lent};
 
-    /// Returns the encoding by reference, as a type that can be copied.
+    /// Returns the reference to the encoding as a type that can be copied.
     #[inline(always)]
     #[tactic(auto, unfolding(crate::specs::Lent::base_of_lent))]
     pub fn lend(&self) -> LentEncoding<'a>

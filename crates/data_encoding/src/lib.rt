@@ -1,8 +1,8 @@
 //! Base encodings with proofs: data as text over an alphabet of symbols, and back.
 //!
-//! The definitions of `specs/` state what an encoding means: `text_of` is the text of data, `Means`
-//! says which texts mean which data, and `fault_of` is the one fault of any other text. The
-//! contracts of the public calls compare with them.
+//! The definitions in `specs/` state the meaning of an encoding: `text_of` is the text of data,
+//! `Means` relates a text to the data that it means, and `fault_of` is the fault of a text that
+//! means no data. The contracts of the public calls refer to them.
 #![tactic(auto)]
 
 mod decode;

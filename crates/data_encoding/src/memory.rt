@@ -1,4 +1,4 @@
-//! Memory for a result.
+//! Allocation of the memory for a result.
 
 ghost use Rattle.std.specs.Prelude.{◌≡◌, replicate, IfOk, IsOk};
 

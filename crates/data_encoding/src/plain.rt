@@ -75,7 +75,7 @@ pub(crate) fn padding_of(entry: u8) -> Option<u8>
     if entry < 128 { Some(entry) } else { None }
 }
 
-/// An encoding as plain data.
+/// An encoding as plain data, which can be passed to C.
 #[repr(C)]
 #[derive(Clone, Copy, Debug, Drop)]
 pub struct PlainEncoding {
@@ -91,7 +91,7 @@ pub struct PlainEncoding {
 impl PlainEncoding {
     ghost use Rattle.data_encoding.specs.Plain.{base_of_plain};
 
-    /// Returns the encoding by reference.
+    /// Returns a reference to the encoding.
     #[inline(always)]
     pub fn by_ref(&self) -> EncodingRef<'_>
         ensures { result ≡ base_of_plain self.now }
@@ -113,7 +113,7 @@ impl PlainEncoding {
 impl Encoding {
     ghost use Rattle.data_encoding.specs.Plain.{base_of_plain};
 
-    /// Returns the encoding as plain data.
+    /// Returns a copy of the encoding as plain data.
     pub fn to_plain(&self) -> PlainEncoding
         ensures { base_of_plain result ≡ self.now }
     {

@@ -1,4 +1,4 @@
-//! Specifications of encodings, and the reasons why one is refused.
+//! Specifications of encodings, and the reasons to refuse one.
 
 pub(crate) mod builder;
 pub(crate) mod bytes;
@@ -26,65 +26,66 @@ use std::alloc::{AllocError, Global};
 use std::error::Error;
 use std::fmt;
 
-/// A translation: each byte of `from` means what the byte of `to` at its position means.
+/// A translation: each byte of `from` means the same as the byte of `to` at the same index.
 #[derive(Debug, Drop)]
 pub struct Translate {
     /// The bytes that are translated.
     pub from: String,
 
-    /// What each of them is translated to.
+    /// The byte for each of them, in the same order.
     pub to: String,
 }
 
-/// Lines of text.
+/// The lines of a text.
 #[derive(Debug, Drop)]
 pub struct Wrap {
-    /// The number of characters of a line, or 0 if the text is not cut into lines.
+    /// The number of characters of a line. If it is 0, texts have no lines.
     pub width: usize,
 
-    /// The separator that follows each line, or nothing if the text is not cut into lines.
+    /// The separator that follows each line. If it is empty, texts have no lines.
     pub separator: String,
 }
 
-/// A specification, from which an encoding is built.
+/// A specification: the parameters from which an encoding is built.
 #[derive(Debug, Drop)]
 pub struct Specification {
     /// The symbols, in order of value: 2, 4, 8, 16, 32 or 64 ASCII characters.
     pub symbols: String,
 
-    /// Which bit of a byte comes first.
+    /// The order of the bits of a byte.
     pub bit_order: BitOrder,
 
-    /// Whether bits left after the last byte must be zeros.
+    /// `true` if the trailing bits of a text must be zeros.
     pub check_trailing_bits: bool,
 
-    /// Whether concatenated padded texts are decoded as one. If not, a text ends with its first
+    /// `true` if concatenated padded texts are decoded as one. Otherwise a text ends with its first
     /// padded group. Without padding this has no effect.
     pub concatenate: bool,
 
     /// The character that fills the last group of a text.
     pub padding: Option<char>,
 
-    /// Bytes that may be anywhere in a text and mean nothing.
+    /// The ignored bytes: they may be anywhere in a text, and have no meaning.
     pub ignore: String,
 
     /// The lines of a text.
     pub wrap: Wrap,
 
-    /// Bytes that are translated to others.
+    /// The bytes that are translated to others.
     pub translate: Translate,
 }
 
-/// The reason why no encoding is built from a specification.
+/// The reason why a specification is refused.
 #[derive(Clone, Copy, Debug)]
 pub struct SpecificationError {
     pub(crate) refusal: Refusal,
 }
 
 impl Specification {
-    /// Returns a specification with no symbols, the most significant bit first, trailing bits
-    /// checked, and texts concatenated: no padding, nothing ignored, no lines and no translation.
-    /// Nothing is allocated.
+    /// Returns a specification without symbols, padding, ignored bytes, lines and translations.
+    ///
+    /// The most significant bit comes first, trailing bits are checked, and texts may be
+    /// concatenated. Nothing is allocated.
     pub fn new(alloc: Global) -> Specification
         ensures { specified result ≡ no_fields }
     {
@@ -106,11 +107,11 @@ impl Specification {
         }
     }
 
-    /// Returns the encoding that is asked for, or the first reason why there is none.
+    /// Returns the encoding that the specification describes, or the first reason to refuse it.
     ///
-    /// Nothing is allocated. The number of symbols, the symbols, the padding, the ignored bytes,
-    /// the lines if there are any, and the translations are judged in this order; each translation
-    /// may use what an earlier one defined. If eight bits are whole symbols, trailing bits are
+    /// Nothing is allocated. The checks are, in this order: the number of symbols, the symbols, the
+    /// padding, the ignored bytes, the lines if there are any, and the translations. A translation
+    /// may use the result of an earlier one. If eight bits are whole symbols, trailing bits are
     /// always checked.
     pub fn encoding(&self) -> Result<Encoding, SpecificationError>
         ensures is_built { IfOk result (λ base. base_of (specified self.now) ≡ Ok base) }
@@ -150,7 +151,7 @@ impl Specification {
 }
 
 impl SpecificationError {
-    /// Returns the first judgement that failed, with the byte or the number that shows it.
+    /// Returns the first check that failed, with the byte or the number that is the cause.
     pub fn refusal(&self) -> Refusal
         ensures { result ≡ refusal_of self.now }
     {
@@ -159,11 +160,12 @@ impl SpecificationError {
 }
 
 impl Encoding {
-    /// Returns a specification from which the encoding can be built again. Returns an error only if
-    /// memory runs out.
+    /// Returns a specification from which the encoding can be built again.
     ///
-    /// Its ignored bytes are in order. So are its translations, one for each byte that means a
-    /// symbol or padding and is another byte.
+    /// Its ignored bytes and its translations are in ascending order. It has a translation for each
+    /// byte that means a symbol or padding and is not itself that character.
+    ///
+    /// Returns an error only if memory runs out.
     pub fn specification(&self, alloc: Global) -> Result<Specification, AllocError>
         ensures { IfOk result (λ specification. specified specification ≡ fields_of self.now) }
     {
@@ -172,11 +174,7 @@ impl Encoding {
 }
 
 impl EncodingRef<'_> {
-    /// Returns a specification from which the encoding can be built again. Returns an error only if
-    /// memory runs out.
-    ///
-    /// Its ignored bytes are in order. So are its translations, one for each byte that means a
-    /// symbol or padding and is another byte.
+    /// Like [`Encoding::specification`].
     pub fn specification(&self, alloc: Global) -> Result<Specification, AllocError>
         ensures { IfOk result (λ specification. specified specification ≡ fields_of self.now) }
     {
@@ -236,7 +234,7 @@ fn ascii_text(alloc: Global, bytes: &[u8]) -> Result<String, AllocError>
 }
 
 impl Translate {
-    /// Returns a copy with the same texts. Returns an error only if memory runs out.
+    /// Returns a copy of the translation. Returns an error only if memory runs out.
     pub fn try_clone(&self) -> Result<Translate, AllocError>
         ensures { IfOk result (λ copy. SameTranslate copy self.now) }
     {
@@ -248,7 +246,7 @@ impl Translate {
 }
 
 impl Wrap {
-    /// Returns a copy with the same width and separator. Returns an error only if memory runs out.
+    /// Returns a copy of the line settings. Returns an error only if memory runs out.
     pub fn try_clone(&self) -> Result<Wrap, AllocError>
         ensures { IfOk result (λ copy. SameWrap copy self.now) }
     {

@@ -1,4 +1,4 @@
-//! From data to text that is written or formatted.
+//! Encoding to a writer or a formatter.
 
 ghost use Rattle.std.specs.Prelude.{◌≡◌, ◌⊎◌, ◌%◌, ◌<◌, ◌≤◌, ℕ, List, length, Some, IsOk, OnOk};
 ghost use Rattle.std.specs.Fmt.{DisplaysOnOk, WritesInCalls};
@@ -14,14 +14,14 @@ use std::fmt;
 use std::fmt::Write;
 
 impl Encoding {
-    /// Writes the text of the data through a buffer of at least 510 bytes. The buffer or the data
-    /// has at most `ENCODE_LIMIT` bytes.
+    /// Writes the text of the data `input` to the writer `output`, through `buffer`.
     ///
-    /// Each call of the writer gets the text of as many whole groups, or whole lines, as fit the
-    /// buffer, and the last call gets that of the rest. For no data the writer is not called.
+    /// `buffer` must have at least 510 bytes. `buffer` or `input` must have at most `ENCODE_LIMIT`
+    /// bytes. Each call of the writer gets the text of as many whole groups, or whole lines, as fit
+    /// `buffer`. The last call gets the rest. If `input` is empty, the writer is not called.
     ///
-    /// Returns an error only if a call of the writer fails. That is then the last call, and what
-    /// the calls before it wrote stays written. The contents of the buffer are unspecified
+    /// Returns an error only if a call of the writer fails. That is then the last call, and the
+    /// text of the calls before it stays written. The contents of `buffer` are unspecified
     /// afterwards.
     pub fn encode_write_buffer<W: fmt::Write>(
         &self,
@@ -38,8 +38,11 @@ impl Encoding {
         self.by_ref().encode_write_buffer(input, output, buffer)
     }
 
-    /// The same as `encode_write_buffer` with a buffer of 1,024 bytes on the stack, for data of any
-    /// length.
+    /// Writes the text of the data `input` to the writer `output`, like
+    /// [`encode_write_buffer`](Encoding::encode_write_buffer) with a buffer of 1,024 bytes on the
+    /// stack.
+    ///
+    /// `input` may have any length.
     pub fn encode_write<W: fmt::Write>(&self, input: &[u8], output: &mut W) -> fmt::Result
         ensures written { OnOk result
             (WritesInCalls W.write_str_gives output.old (text_of self.now input.now) output.new) }
@@ -48,10 +51,12 @@ impl Encoding {
         self.by_ref().encode_write(input, output)
     }
 
-    /// Returns how many bytes of data, in whole groups or whole lines, have a text that surely fits
-    /// an output of `output_len` bytes, which is at least 510. The text of fewer bytes fits too.
+    /// Returns the number of bytes of data, in whole groups or whole lines, with a text that fits
+    /// an output of `output_len` bytes.
     ///
-    /// The texts of pieces of this length, and of a last piece of any length, may be joined.
+    /// `output_len` must be at least 510. The text of fewer bytes fits, too. If data is cut into
+    /// pieces of this length and a last piece of any length, the texts of the pieces, joined, are
+    /// the text of the data.
     pub fn encode_piece_len(&self, output_len: usize) -> usize
         requires room { 510 ≤ output_len }
         ensures { IsPieceLen self.now output_len result }
@@ -59,7 +64,9 @@ impl Encoding {
         self.by_ref().encode_piece_len(output_len)
     }
 
-    /// Returns a value that prints the text of the data, by the same calls as `encode_write`.
+    /// Returns a value that prints the text of the data `input`.
+    ///
+    /// It makes the same calls as [`encode_write`](Encoding::encode_write).
     pub fn encode_display<'a>(&'a self, input: &'a [u8]) -> Display<'a>
         ensures text { shown_text result ≡ text_of self.now input.now }
         ensures data { shown_data result ≡ input.now }
@@ -69,15 +76,7 @@ impl Encoding {
 }
 
 impl<'a> EncodingRef<'a> {
-    /// Writes the text of the data through a buffer of at least 510 bytes. The buffer or the data
-    /// has at most `ENCODE_LIMIT` bytes.
-    ///
-    /// Each call of the writer gets the text of as many whole groups, or whole lines, as fit the
-    /// buffer, and the last call gets that of the rest. For no data the writer is not called.
-    ///
-    /// Returns an error only if a call of the writer fails. That is then the last call, and what
-    /// the calls before it wrote stays written. The contents of the buffer are unspecified
-    /// afterwards.
+    /// Like [`Encoding::encode_write_buffer`].
     pub fn encode_write_buffer<W: fmt::Write>(
         &self,
         input: &[u8],
@@ -103,8 +102,7 @@ impl<'a> EncodingRef<'a> {
         self.write_piece(rest, output, buffer)
     }
 
-    /// The same as `encode_write_buffer` with a buffer of 1,024 bytes on the stack, for data of any
-    /// length.
+    /// Like [`Encoding::encode_write`].
     pub fn encode_write<W: fmt::Write>(&self, input: &[u8], output: &mut W) -> fmt::Result
         ensures written { OnOk result
             (WritesInCalls W.write_str_gives output.old (text_of self.now input.now) output.new) }
@@ -114,10 +112,7 @@ impl<'a> EncodingRef<'a> {
         self.encode_write_buffer(input, output, &mut buffer)
     }
 
-    /// Returns how many bytes of data, in whole groups or whole lines, have a text that surely fits
-    /// an output of `output_len` bytes, which is at least 510. The text of fewer bytes fits too.
-    ///
-    /// The texts of pieces of this length, and of a last piece of any length, may be joined.
+    /// Like [`Encoding::encode_piece_len`].
     pub fn encode_piece_len(&self, output_len: usize) -> usize
         requires room { 510 ≤ output_len }
         ensures { IsPieceLen self.now output_len result }
@@ -125,7 +120,7 @@ impl<'a> EncodingRef<'a> {
         output_len / self.block_len() * self.encode_align()
     }
 
-    /// Returns a value that prints the text of the data, by the same calls as `encode_write`.
+    /// Like [`Encoding::encode_display`].
     pub fn encode_display(&self, input: &'a [u8]) -> Display<'a>
         ensures text { shown_text result ≡ text_of self.now input.now }
         ensures data { shown_data result ≡ input.now }
@@ -167,8 +162,10 @@ impl<'a> EncodingRef<'a> {
     }
 }
 
-/// Data that prints as its text, whatever width and fill the format asks for. For no data nothing
-/// is printed, and that never fails.
+/// Data that prints as its text.
+///
+/// The width and the fill of the format have no effect. For empty data nothing is printed, and that
+/// never fails.
 #[derive(Debug, Drop)]
 pub struct Display<'a> {
     encoding: EncodingRef<'a>,

@@ -1,5 +1,4 @@
-//! Decoding by blocks: the bytes of a part of a text that are not ignored are packed, and decoded
-//! from there.
+//! Decoding by blocks: the kept bytes of a part of a text are packed, and decoded from there.
 
 ghost use Rattle.std.specs.Prelude.{◌≡◌, ℕ, List, ◌+◌, ◌-◌, ◌*◌, ◌<◌, ◌≤◌, length, take, drop};
 ghost use Rattle.data_encoding_meaning.specs.text.Base.{Base};
@@ -30,7 +29,7 @@ const BLOCK_LEN: usize = 512;
 // before it, and for bytes that a turn loads after those that are packed.
 const SLACK: usize = 72;
 
-// Blocks go on if at least one of this many bytes is in a sixteen that has an ignored one.
+// Blocks go on while at least one chunk of 16 bytes in this many bytes has an ignored byte.
 const MIXED: usize = 96;
 
 // How far a text was packed from where packing began, and how far its output is written. The bytes

@@ -1,4 +1,4 @@
-//! The judgement of one group of a text: its bytes, or its fault.
+//! Validation of one group of a text: its bytes, or its fault.
 
 ghost use Rattle.std.specs.Prelude.{◌≡◌, ℕ, ◌*◌, ◌/◌, ◌<◌, ◌≤◌, ◌==◌, not, true, false, length, map, IsTrue, slice_index, IfOk, IfErr};
 ghost use Rattle.std.specs.List.{list_any};
@@ -14,8 +14,9 @@ use data_encoding_kernel::words::{decode_symbols, symbol_position};
 use data_encoding_meaning::error::{DecodeKind, GroupFault};
 
 impl EncodingRef<'_> {
-    /// Decodes a group to the start of the output, and returns how many symbols it has. Every fault
-    /// of a group is found here, except that it follows a final group.
+    /// Decodes a group to the start of `output`, and returns its number of symbols.
+    ///
+    /// Finds every fault of a group, except that it follows a final group.
     #[inline(always)]
     pub(crate) fn decode_group<G: GroupSize>(
         &self,

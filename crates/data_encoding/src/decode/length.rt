@@ -1,4 +1,4 @@
-//! The lengths of texts, and how many bytes they may mean.
+//! The lengths of texts, and the greatest lengths of their data.
 
 ghost use Rattle.std.specs.Prelude.{◌≡◌, ◌/◌, false, ◌<◌, ◌≤◌};
 ghost use Rattle.data_encoding.specs.Calls.{IsDecodeLen};
@@ -10,11 +10,11 @@ use crate::encoding::{Encoding, EncodingRef, group_bytes, group_symbols};
 use crate::error::{DecodeError, DecodeKind};
 
 impl Encoding {
-    /// Returns the greatest number of bytes that a text of `len` bytes, at most `DECODE_LIMIT`, may
-    /// mean.
+    /// Returns the greatest number of bytes that a text of `len` bytes may mean.
     ///
-    /// If no byte is ignored and no text has this length, returns a `Length` fault at the greatest
-    /// length below it that a text may have. The texts of a padded encoding are whole groups.
+    /// `len` must be at most `DECODE_LIMIT`. If no byte is ignored and no text has this length,
+    /// returns a `Length` fault. Its position is the longest valid length below `len`. The texts of
+    /// a padded encoding are whole groups.
     pub fn decode_len(&self, len: usize) -> Result<usize, DecodeError>
         requires limit { len ≤ DECODE_LIMIT }
         ensures { IsDecodeLen self.now len result }
@@ -24,11 +24,7 @@ impl Encoding {
 }
 
 impl EncodingRef<'_> {
-    /// Returns the greatest number of bytes that a text of `len` bytes, at most `DECODE_LIMIT`, may
-    /// mean.
-    ///
-    /// If no byte is ignored and no text has this length, returns a `Length` fault at the greatest
-    /// length below it that a text may have. The texts of a padded encoding are whole groups.
+    /// Like [`Encoding::decode_len`].
     #[inline(always)]
     pub fn decode_len(&self, len: usize) -> Result<usize, DecodeError>
         requires limit { len ≤ DECODE_LIMIT }

@@ -1,4 +1,4 @@
-//! The next group of a text: the bytes that are not ignored.
+//! The next group of a text: its next bytes that are not ignored.
 
 ghost use Rattle.std.specs.Prelude.{◌≡◌, ◌-◌, ◌<◌, ◌≤◌, false, length, slice_index, take, drop, IsTrue};
 ghost use Rattle.data_encoding_meaning.specs.text.Base.{Base, ignores_some, is_ignored, meaning};

@@ -1,4 +1,4 @@
-//! Padded groups one after another, as short padded texts that are joined have them.
+//! Padded groups one after another, as in joined short padded texts.
 
 ghost use Rattle.std.specs.Prelude.{◌+◌, ◌≤◌, length, IsTrue};
 ghost use Rattle.data_encoding_kernel.specs.Tables.{Reads};

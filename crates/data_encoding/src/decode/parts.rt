@@ -1,4 +1,4 @@
-//! Parts of a text from behind: where they end before their last bytes that are not ignored.
+//! Parts of a text without their last bytes that are not ignored.
 
 ghost use Rattle.std.specs.Prelude.{◌≡◌, ◌+◌, ◌-◌, ◌≤◌, length, take};
 ghost use Rattle.data_encoding_meaning.specs.text.Base.{Base};
@@ -10,8 +10,10 @@ ghost use Rattle.data_encoding.specs.Blocks.{EndsBefore};
 use crate::encoding::IGNORED;
 use data_encoding_kernel::ignore::IgnoredBytes;
 
-/// Returns the length of a part without its last bytes that are not ignored, as many as these, and
-/// without the ignored bytes before and after them.
+/// Returns the end of the byte before the last `last` bytes of `part`, where ignored bytes do not
+/// count.
+///
+/// Returns 0 if there is no such byte.
 #[inline(always)]
 pub(crate) fn span_before(
     ignored: &IgnoredBytes,

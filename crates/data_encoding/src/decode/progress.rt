@@ -1,4 +1,4 @@
-//! How far a text is decoded.
+//! The progress of a decoding.
 
 ghost use Rattle.std.specs.Prelude.{◌≡◌, ◌+◌, ◌*◌, ◌/◌, ◌<◌, ◌≤◌, length, drop};
 ghost use Rattle.data_encoding_meaning.specs.text.Base.{Base};

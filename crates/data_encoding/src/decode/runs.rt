@@ -1,4 +1,4 @@
-//! Runs of whole groups of symbols only, decoded where they stand.
+//! Decoding of runs in place: whole groups of symbols only.
 
 ghost use Rattle.std.specs.Prelude.{◌≡◌, ◌-◌, ◌+◌, ◌*◌, ◌%◌, ◌<◌, ◌≤◌, length};
 ghost use Rattle.data_encoding.specs.Progress.{GoesOn, HasReached, ReadsBy};
@@ -16,10 +16,10 @@ use data_encoding_kernel::platform::has_lanes;
 use data_encoding_kernel::words::{entry_of, symbol_position};
 
 impl EncodingRef<'_> {
-    /// Decodes runs of whole groups of symbols only, with ignored bytes between them, where they
-    /// stand, and says whether the run that follows is short, so that blocks may take less time. If
-    /// it was short before, a block came before this run, and had its first part: then it counts as
-    /// long.
+    /// Decodes runs in place, with ignored bytes between them.
+    ///
+    /// Sets `is_short` if decoding should continue in blocks. A run directly after a block is never
+    /// counted as short, because the block decoded its first part.
     #[inline(always)]
     pub(crate) fn decode_runs<L: LookUp, O: ConstantOrder, G: GroupSize>(
         &self,
@@ -248,9 +248,11 @@ pub(crate) fn is_run_next<G: GroupSize>(values: &[u8; 256], at: Progress, input:
     rest.len() >= count && symbol_position(values, &rest[..count]) == count
 }
 
-/// Returns whether blocks may take less time than runs like this one, of this many symbols, after
-/// which the text goes on. Near the start a group that does not end soon is judged by itself, so
-/// that a fault in it does not cost a block.
+/// Returns `true` if blocks may take less time than runs of `len` symbols, the length of the run
+/// just decoded.
+///
+/// If the run ended within a group, the bytes that follow decide. Near the start, a group that does
+/// not end soon is decoded by itself, so that a fault in it does not cost a block.
 #[inline(always)]
 pub(crate) fn is_short_run<G: GroupSize>(
     values: &[u8; 256],

@@ -1,4 +1,4 @@
-//! Texts that are appended to a string.
+//! Encoding at the end of a string.
 
 ghost use Rattle.std.specs.Prelude.{◌≡◌, ℕ, ◌+◌, ◌<◌, ◌≤◌, ◌++◌, List, length, IsOk, OnErr, OnOk};
 ghost use Rattle.std.specs.String.{string_bytes, string_capacity, string_len};
@@ -16,10 +16,12 @@ use std::alloc::{AllocError, Allocator};
 use std::mem;
 
 impl Encoding {
-    /// Appends the text of the data, of at most `ENCODE_LIMIT` bytes, to `output`.
+    /// Appends the text of the data `input` to `output`.
     ///
-    /// Returns an error only if memory runs out, and never for no data. The bytes and the capacity
-    /// of `output` are then unchanged.
+    /// `input` must have at most `ENCODE_LIMIT` bytes.
+    ///
+    /// Returns an error only if memory runs out, and never if `input` is empty. The bytes and the
+    /// capacity of `output` are then unchanged.
     pub fn encode_append(&self, input: &[u8], output: &mut String) -> Result<(), AllocError>
         requires limit { length input.now ≤ ENCODE_LIMIT }
         ensures { AppendsText self.now input.now output.old output.new result }
@@ -29,10 +31,7 @@ impl Encoding {
 }
 
 impl EncodingRef<'_> {
-    /// Appends the text of the data, of at most `ENCODE_LIMIT` bytes, to `output`.
-    ///
-    /// Returns an error only if memory runs out, and never for no data. The bytes and the capacity
-    /// of `output` are then unchanged.
+    /// Like [`Encoding::encode_append`].
     pub fn encode_append(&self, input: &[u8], output: &mut String) -> Result<(), AllocError>
         requires limit { length input.now ≤ ENCODE_LIMIT }
         ensures { AppendsText self.now input.now output.old output.new result }

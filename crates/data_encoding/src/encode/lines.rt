@@ -1,4 +1,4 @@
-//! Texts in lines.
+//! Encoding in lines.
 
 ghost use Rattle.std.specs.Prelude.{◌≡◌, ◌+◌, ◌*◌, ◌<◌, ◌≤◌, ◌++◌, length, flat_map, IsSome, IsTrue};
 ghost use Rattle.data_encoding.specs.Texts.{FitsText};
@@ -15,8 +15,8 @@ use std::simd::prelude::*;
 // lines.
 const BLOCK_LEN: usize = 1024;
 
-// No turn loads more bytes after its groups: with fewer after the first line, none is encoded in
-// lanes where it stands.
+// The most bytes that a SIMD iteration reads past its groups. Input with fewer bytes after its
+// first line uses the path for short lines.
 const MOST_AHEAD: usize = 8;
 
 // Up to this many lines, line by line takes less time.

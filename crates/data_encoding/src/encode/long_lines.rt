@@ -1,4 +1,4 @@
-//! Texts in lines of at least eight groups.
+//! Encoding in lines of at least eight groups.
 
 ghost use Rattle.std.specs.Prelude.{◌≡◌, ◌+◌, ◌-◌, ◌*◌, ◌/◌, ◌≤◌, length, take, IsSome};
 ghost use Rattle.data_encoding_kernel.specs.OffsetAlphabet.{HoldsOffsetAlphabet};

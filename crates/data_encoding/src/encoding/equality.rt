@@ -1,4 +1,4 @@
-//! Copies of encodings, and whether two are equal.
+//! Copies of encodings, and their equality.
 
 ghost use Rattle.std.specs.Prelude.{◌≡◌, MatchResult};
 

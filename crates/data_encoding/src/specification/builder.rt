@@ -1,5 +1,5 @@
-//! How an encoding is built from a specification: the bytes are given their meanings one after
-//! another.
+//! The construction of an encoding from a specification. It gives the bytes their meanings one
+//! after another.
 
 ghost use Rattle.std.specs.Prelude.{◌≡◌, ◌/◌, ◌%◌, ◌^◌, ◌==◌, ◌||◌, ◌<◌, [], length, replicate, take, if◌then◌else◌, is_none, IfOk, IfErr, IfSome, IsTrue, Ok, Err, Some, None};
 ghost use Rattle.std.specs.List.{concat};

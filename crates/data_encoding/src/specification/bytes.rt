@@ -1,4 +1,4 @@
-//! The specification of an encoding that holds its texts as bytes, and does not allocate.
+//! The specification of an encoding as bytes, without allocation.
 
 ghost use Rattle.std.specs.Prelude.{◌≡◌};
 ghost use Rattle.data_encoding_meaning.specs.specification.Layout.{fields_of};
@@ -9,43 +9,43 @@ use crate::specification::parts::SpecificationParts;
 use crate::specification::tables::character;
 use arrayvec::ArrayVec;
 
-/// A specification of an encoding, as [`Specification`](crate::Specification) is, that holds its
-/// texts as ASCII bytes.
+/// A specification of an encoding, like [`Specification`](crate::Specification), with texts as
+/// ASCII bytes.
 #[derive(Debug, Drop)]
 pub struct SpecificationBytes {
     /// The symbols, in order of value.
     pub symbols: ArrayVec<u8, 64>,
 
-    /// Which bit of a byte comes first.
+    /// The order of the bits of a byte.
     pub bit_order: BitOrder,
 
-    /// Whether bits left after the last byte must be zeros.
+    /// `true` if the trailing bits of a text must be zeros.
     pub check_trailing_bits: bool,
 
-    /// Whether concatenated padded texts are decoded as one.
+    /// `true` if concatenated padded texts are decoded as one.
     pub concatenate: bool,
 
     /// The character that fills the last group of a text.
     pub padding: Option<u8>,
 
-    /// Bytes that may be anywhere in a text and mean nothing.
+    /// The ignored bytes: they may be anywhere in a text, and have no meaning.
     pub ignore: ArrayVec<u8, 128>,
 
-    /// The number of characters of a line, or 0 if the text is not cut into lines.
+    /// The number of characters of a line. If it is 0, texts have no lines.
     pub wrap_width: usize,
 
-    /// The separator that follows each line, or nothing if the text is not cut into lines.
+    /// The separator that follows each line. If it is empty, texts have no lines.
     pub wrap_separator: ArrayVec<u8, 255>,
 
     /// The bytes that are translated.
     pub translate_from: ArrayVec<u8, 128>,
 
-    /// What each of them is translated to.
+    /// The byte for each of them, in the same order.
     pub translate_to: ArrayVec<u8, 128>,
 }
 
 impl SpecificationBytes {
-    /// Returns the specification by reference, from which an encoding is built.
+    /// Returns the specification by reference. An encoding can be built from it.
     pub fn parts(&self) -> SpecificationParts<'_>
         ensures { fields_of_parts result ≡ fields_of_bytes self.now }
     {
@@ -65,8 +65,8 @@ impl SpecificationBytes {
 }
 
 impl Encoding {
-    /// Returns the specification of the encoding, as [`specification`](Encoding::specification)
-    /// does, but does not allocate. The encoding can be built from it again.
+    /// Returns the specification of the encoding, like [`specification`](Encoding::specification),
+    /// without allocation.
     pub fn specification_bytes(&self) -> SpecificationBytes
         ensures { fields_of_bytes result ≡ fields_of self.now }
     {
@@ -75,8 +75,7 @@ impl Encoding {
 }
 
 impl EncodingRef<'_> {
-    /// Returns the specification of the encoding, as [`Encoding::specification`] does, but does not
-    /// allocate. The encoding can be built from it again.
+    /// Like [`Encoding::specification_bytes`].
     pub fn specification_bytes(&self) -> SpecificationBytes
         ensures { fields_of_bytes result ≡ fields_of self.now }
     {

@@ -1,4 +1,4 @@
-//! Whether data has one text only.
+//! Canonical encodings: those in which data has only one text.
 
 ghost use Rattle.std.specs.Prelude.{◌≡◌, ◌==◌, ◌&&◌, ◌↔◌, IsTrue, length, not};
 ghost use Rattle.data_encoding_meaning.specs.text.Base.{ignores_some, is_padded};
@@ -9,10 +9,10 @@ ghost use Rattle.data_encoding_meaning.specs.specification.Layout.{translated_by
 use crate::encoding::{Encoding, EncodingRef};
 
 impl Encoding {
-    /// Whether no two different texts decode to the same data.
+    /// Returns `true` if no two different texts mean the same data.
     ///
-    /// This is so if trailing bits are checked, no byte is ignored or translated, and padded texts
-    /// may not be concatenated.
+    /// This is the case if and only if trailing bits are checked, no byte is ignored or translated,
+    /// and padded texts may not be concatenated.
     pub fn is_canonical(&self) -> bool
         ensures canonical { IsTrue result ↔ IsCanonical self.now }
         ensures causes { result ≡ has_one_text self.now }
@@ -22,10 +22,7 @@ impl Encoding {
 }
 
 impl EncodingRef<'_> {
-    /// Whether no two different texts decode to the same data.
-    ///
-    /// This is so if trailing bits are checked, no byte is ignored or translated, and padded texts
-    /// may not be concatenated.
+    /// Like [`Encoding::is_canonical`].
     pub fn is_canonical(&self) -> bool
         ensures canonical { IsTrue result ↔ IsCanonical self.now }
         ensures causes { result ≡ has_one_text self.now }

@@ -15,7 +15,7 @@ use crate::specification::tables::{Tables, alphabet_len, character};
 use arrayvec::ArrayVec;
 
 impl Encoding {
-    /// Returns the encoding with this layout, or `None` if no specification asks for one.
+    /// Returns the encoding with the layout `implementation`, or `None` if there is none.
     ///
     /// [`internal_implementation`](Encoding::internal_implementation) describes layouts. The bytes
     /// are copied, and nothing is allocated.
@@ -36,16 +36,19 @@ impl Encoding {
         }
     }
 
-    /// Returns the layout: 514 to 770 bytes from which [`internal_new`](Encoding::internal_new)
-    /// makes the encoding again. Nothing is allocated.
+    /// Returns the layout of the encoding: 514 to 770 bytes from which
+    /// [`internal_new`](Encoding::internal_new) builds it again.
     ///
-    /// Bytes 0 to 255 are the symbols, repeated. Bytes 256 to 511 are what each of the 256 bytes
-    /// means: the value of a symbol, 128 for invalid, 129 for ignored, or 130 for padding. Byte 512
-    /// is the padding character, or 128 if there is none. Byte 513 is a sum: the number of bits of
-    /// a symbol, 8 if the most significant bit comes first, 16 if trailing bits are checked, and 32
-    /// if texts may not be concatenated. With lines, the number of characters of a line and the
-    /// separator follow. Without lines, one 0 follows if some byte is ignored, and nothing
-    /// otherwise.
+    /// Nothing is allocated. The bytes are:
+    ///
+    /// - 0 to 255: the symbols, repeated.
+    /// - 256 to 511: the meaning of each of the 256 bytes. It is the value of a symbol, 128 for
+    ///   invalid, 129 for ignored, or 130 for padding.
+    /// - 512: the padding character, or 128 if there is none.
+    /// - 513: the sum of the number of bits of a symbol, 8 if the most significant bit comes first,
+    ///   16 if trailing bits are checked, and 32 if texts may not be concatenated.
+    /// - From 514 on: with lines, the number of characters of a line and the separator. Without
+    ///   lines, one 0 if some byte is ignored, and otherwise nothing.
     pub fn internal_implementation(&self) -> ArrayVec<u8, 770>
         ensures { result.items ≡ layout self.now }
     {
@@ -54,16 +57,7 @@ impl Encoding {
 }
 
 impl EncodingRef<'_> {
-    /// Returns the layout: 514 to 770 bytes from which [`internal_new`](Encoding::internal_new)
-    /// makes the encoding again. Nothing is allocated.
-    ///
-    /// Bytes 0 to 255 are the symbols, repeated. Bytes 256 to 511 are what each of the 256 bytes
-    /// means: the value of a symbol, 128 for invalid, 129 for ignored, or 130 for padding. Byte 512
-    /// is the padding character, or 128 if there is none. Byte 513 is a sum: the number of bits of
-    /// a symbol, 8 if the most significant bit comes first, 16 if trailing bits are checked, and 32
-    /// if texts may not be concatenated. With lines, the number of characters of a line and the
-    /// separator follow. Without lines, one 0 follows if some byte is ignored, and nothing
-    /// otherwise.
+    /// Like [`Encoding::internal_implementation`].
     pub fn internal_implementation(&self) -> ArrayVec<u8, 770>
         ensures { result.items ≡ layout self.now }
     {

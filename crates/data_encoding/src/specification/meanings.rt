@@ -1,4 +1,4 @@
-//! What each byte means while a specification is judged.
+//! The meanings of bytes, as a specification defines them.
 
 ghost use Rattle.std.specs.Prelude.{◌≡◌, ◌/◌, ◌%◌, ◌==◌, ◌||◌, ◌<◌, ◌≤◌, List, length, take, map, slice_index_or, OnOk, IfErr, IsTrue, Ok, Err, Some};
 ghost use Rattle.std.specs.List.{list_any};

@@ -1,4 +1,4 @@
-//! What the tables of an encoding say: which bytes are ignored, and which are translated.
+//! The ignored and the translated bytes of an encoding, from its tables.
 
 ghost use Rattle.std.specs.Prelude.{◌≡◌, ◌^◌, ◌<◌, ◌≤◌, length, map, is_some, IfSome};
 ghost use Rattle.data_encoding_meaning.specs.text.Base.{Base, meaning};

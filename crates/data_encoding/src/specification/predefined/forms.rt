@@ -1,5 +1,6 @@
-//! The affine forms of the predefined encodings: what `ValueTable::new` finds for their tables. The
-//! check refuses a form that does not agree with its table.
+//! The affine forms of the predefined encodings, as `ValueTable::new` finds them for their tables.
+//!
+//! The prover refuses a form that does not agree with its table.
 
 use data_encoding_kernel::lanes::affine::PlainAffine;
 

@@ -84,14 +84,14 @@ static HEXUPPER_PERMISSIVE: PlainFields = PlainFields {
     ..HEXUPPER
 };
 
-/// Hexadecimal with the letters `a` to `f`: RFC 4648, section 8, in lower case.
+/// Returns hexadecimal with the letters `a` to `f`: RFC 4648, section 8, in lower case.
 pub fn hexlower() -> Encoding
     ensures { base_of hexlower_fields ≡ Ok result }
 {
     hexlower_ref().encoding()
 }
 
-/// [`hexlower`] by reference.
+/// Returns a reference to [`hexlower`].
 #[inline(always)]
 pub fn hexlower_ref() -> EncodingRef<'static>
     ensures { base_of hexlower_fields ≡ Ok result }
@@ -102,14 +102,14 @@ pub fn hexlower_ref() -> EncodingRef<'static>
     }
 }
 
-/// Hexadecimal with the letters `a` to `f`; `A` to `F` are decoded as these.
+/// Returns hexadecimal with the letters `a` to `f`. Texts may have `A` to `F` in their place.
 pub fn hexlower_permissive() -> Encoding
     ensures { base_of hexlower_permissive_fields ≡ Ok result }
 {
     hexlower_permissive_ref().encoding()
 }
 
-/// [`hexlower_permissive`] by reference.
+/// Returns a reference to [`hexlower_permissive`].
 #[inline(always)]
 pub fn hexlower_permissive_ref() -> EncodingRef<'static>
     ensures { base_of hexlower_permissive_fields ≡ Ok result }
@@ -120,14 +120,14 @@ pub fn hexlower_permissive_ref() -> EncodingRef<'static>
     }
 }
 
-/// Hexadecimal with the letters `A` to `F`: RFC 4648, section 8.
+/// Returns hexadecimal with the letters `A` to `F`: RFC 4648, section 8.
 pub fn hexupper() -> Encoding
     ensures { base_of hexupper_fields ≡ Ok result }
 {
     hexupper_ref().encoding()
 }
 
-/// [`hexupper`] by reference.
+/// Returns a reference to [`hexupper`].
 #[inline(always)]
 pub fn hexupper_ref() -> EncodingRef<'static>
     ensures { base_of hexupper_fields ≡ Ok result }
@@ -138,14 +138,14 @@ pub fn hexupper_ref() -> EncodingRef<'static>
     }
 }
 
-/// Hexadecimal with the letters `A` to `F`; `a` to `f` are decoded as these.
+/// Returns hexadecimal with the letters `A` to `F`. Texts may have `a` to `f` in their place.
 pub fn hexupper_permissive() -> Encoding
     ensures { base_of hexupper_permissive_fields ≡ Ok result }
 {
     hexupper_permissive_ref().encoding()
 }
 
-/// [`hexupper_permissive`] by reference.
+/// Returns a reference to [`hexupper_permissive`].
 #[inline(always)]
 pub fn hexupper_permissive_ref() -> EncodingRef<'static>
     ensures { base_of hexupper_permissive_fields ≡ Ok result }

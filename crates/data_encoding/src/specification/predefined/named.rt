@@ -1,4 +1,4 @@
-//! The predefined encodings by name and by number, in one table.
+//! The predefined encodings by name and by number.
 
 ghost use Rattle.std.specs.Prelude.{◌≡◌, ◌≤◌, ◌↔◌, length, IfSome, None, Some};
 ghost use Rattle.data_encoding_meaning.specs.specification.Named.{fields_named, fields_numbered, listing, name_numbered, number_named, IsNamed, IsNumbered};
@@ -76,8 +76,10 @@ macro_rules! list {
     };
 }
 
-/// Returns the predefined encoding with this name, such as `BASE64_MIME`, if it is one of the
-/// eighteen, in upper case.
+/// Returns the predefined encoding with the given name, such as `BASE64_MIME`, or `None` if there
+/// is none.
+///
+/// Names are in upper case.
 pub fn predefined(name: &str) -> Option<EncodingRef<'static>>
     ensures known { IfSome result (IsNamed name.now) }
     ensures unknown { (result ≡ None) ↔ (fields_named name.now ≡ None) }
@@ -88,8 +90,10 @@ pub fn predefined(name: &str) -> Option<EncodingRef<'static>>
     }
 }
 
-/// Returns the predefined encoding with this number, from 0 to 17, in the order of
-/// `predefined_names`, or `None` for any other number.
+/// Returns the predefined encoding with the given number, from 0 to 17, or `None` for any other
+/// number.
+///
+/// The numbers are in the order of `predefined_names`.
 pub fn predefined_numbered(number: u32) -> Option<EncodingRef<'static>>
     ensures known { IfSome result (IsNumbered number) }
     ensures unknown { (result ≡ None) ↔ (fields_numbered number ≡ None) }
@@ -97,8 +101,9 @@ pub fn predefined_numbered(number: u32) -> Option<EncodingRef<'static>>
     with_predefined!(encoding_at, number)
 }
 
-/// Returns the name of the predefined encoding with this number, or `None` if there is none. A name
-/// has at most 22 bytes.
+/// Returns the name of the predefined encoding with the given number, or `None` if there is none.
+///
+/// A name has at most 22 bytes.
 pub fn predefined_name(number: u32) -> Option<&'static str>
     ensures known { IfSome result (λ name. name_numbered number ≡ Some name.now) }
     ensures unknown { result ≡ None → name_numbered number ≡ None }
@@ -107,7 +112,7 @@ pub fn predefined_name(number: u32) -> Option<&'static str>
     with_predefined!(name_at, number)
 }
 
-/// Returns the number of the predefined encoding with this name, if it is known.
+/// Returns the number of the predefined encoding with the given name, or `None` if there is none.
 pub fn predefined_number(name: &str) -> Option<u32>
     ensures { result ≡ number_named name.now }
 {

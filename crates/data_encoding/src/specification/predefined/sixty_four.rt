@@ -104,15 +104,15 @@ static BASE64URL: PlainFields = PlainFields {
     ..BASE64URL_NOPAD
 };
 
-/// Base64 with the letters `A` to `Z` and `a` to `z`, the digits, `+` and `/`, padded with `=`: RFC
-/// 4648, section 4.
+/// Returns base64 with the letters `A` to `Z` and `a` to `z`, the digits, `+` and `/`, padded with
+/// `=`: RFC 4648, section 4.
 pub fn base64() -> Encoding
     ensures { base_of base64_fields ≡ Ok result }
 {
     base64_ref().encoding()
 }
 
-/// [`base64`] by reference.
+/// Returns a reference to [`base64`].
 #[inline(always)]
 pub fn base64_ref() -> EncodingRef<'static>
     ensures { base_of base64_fields ≡ Ok result }
@@ -123,14 +123,14 @@ pub fn base64_ref() -> EncodingRef<'static>
     }
 }
 
-/// [`base64`] without padding.
+/// Returns [`base64`] without padding.
 pub fn base64_nopad() -> Encoding
     ensures { base_of base64_nopad_fields ≡ Ok result }
 {
     base64_nopad_ref().encoding()
 }
 
-/// [`base64_nopad`] by reference.
+/// Returns a reference to [`base64_nopad`].
 #[inline(always)]
 pub fn base64_nopad_ref() -> EncodingRef<'static>
     ensures { base_of base64_nopad_fields ≡ Ok result }
@@ -141,10 +141,10 @@ pub fn base64_nopad_ref() -> EncodingRef<'static>
     }
 }
 
-/// [`base64`] in lines of 76 characters, each followed by CR LF, the last too: RFC 2045, section
-/// 6.8.
+/// Returns [`base64`] in lines of 76 characters, each followed by CR LF, the last too: RFC 2045,
+/// section 6.8.
 ///
-/// CR and LF are ignored anywhere. Any other byte that is no symbol is a fault, although the RFC
+/// CR and LF are ignored anywhere. Any other byte that is not a symbol is a fault, although the RFC
 /// ignores it. No header is written.
 pub fn base64_mime() -> Encoding
     ensures { base_of base64_mime_fields ≡ Ok result }
@@ -152,7 +152,7 @@ pub fn base64_mime() -> Encoding
     base64_mime_ref().encoding()
 }
 
-/// [`base64_mime`] by reference.
+/// Returns a reference to [`base64_mime`].
 #[inline(always)]
 pub fn base64_mime_ref() -> EncodingRef<'static>
     ensures { base_of base64_mime_fields ≡ Ok result }
@@ -163,14 +163,14 @@ pub fn base64_mime_ref() -> EncodingRef<'static>
     }
 }
 
-/// [`base64_mime`] without a check of the trailing bits.
+/// Returns [`base64_mime`] without the check of trailing bits.
 pub fn base64_mime_permissive() -> Encoding
     ensures { base_of base64_mime_permissive_fields ≡ Ok result }
 {
     base64_mime_permissive_ref().encoding()
 }
 
-/// [`base64_mime_permissive`] by reference.
+/// Returns a reference to [`base64_mime_permissive`].
 #[inline(always)]
 pub fn base64_mime_permissive_ref() -> EncodingRef<'static>
     ensures { base_of base64_mime_permissive_fields ≡ Ok result }
@@ -181,14 +181,14 @@ pub fn base64_mime_permissive_ref() -> EncodingRef<'static>
     }
 }
 
-/// [`base64`] with `-` and `_` instead of `+` and `/`: RFC 4648, section 5.
+/// Returns [`base64`] with `-` and `_` in place of `+` and `/`: RFC 4648, section 5.
 pub fn base64url() -> Encoding
     ensures { base_of base64url_fields ≡ Ok result }
 {
     base64url_ref().encoding()
 }
 
-/// [`base64url`] by reference.
+/// Returns a reference to [`base64url`].
 #[inline(always)]
 pub fn base64url_ref() -> EncodingRef<'static>
     ensures { base_of base64url_fields ≡ Ok result }
@@ -199,14 +199,14 @@ pub fn base64url_ref() -> EncodingRef<'static>
     }
 }
 
-/// [`base64url`] without padding.
+/// Returns [`base64url`] without padding.
 pub fn base64url_nopad() -> Encoding
     ensures { base_of base64url_nopad_fields ≡ Ok result }
 {
     base64url_nopad_ref().encoding()
 }
 
-/// [`base64url_nopad`] by reference.
+/// Returns a reference to [`base64url_nopad`].
 #[inline(always)]
 pub fn base64url_nopad_ref() -> EncodingRef<'static>
     ensures { base_of base64url_nopad_fields ≡ Ok result }

@@ -164,7 +164,7 @@ static BASE32_DNSCURVE: PlainFields = PlainFields {
     ..BASE32_NOPAD
 };
 
-/// Base32 with the letters `A` to `Z` and the digits `2` to `7`, padded with `=`: RFC 4648,
+/// Returns base32 with the letters `A` to `Z` and the digits `2` to `7`, padded with `=`: RFC 4648,
 /// section 6.
 pub fn base32() -> Encoding
     ensures { base_of base32_fields ≡ Ok result }
@@ -172,7 +172,7 @@ pub fn base32() -> Encoding
     base32_ref().encoding()
 }
 
-/// [`base32`] by reference.
+/// Returns a reference to [`base32`].
 #[inline(always)]
 pub fn base32_ref() -> EncodingRef<'static>
     ensures { base_of base32_fields ≡ Ok result }
@@ -183,14 +183,14 @@ pub fn base32_ref() -> EncodingRef<'static>
     }
 }
 
-/// [`base32`] without padding.
+/// Returns [`base32`] without padding.
 pub fn base32_nopad() -> Encoding
     ensures { base_of base32_nopad_fields ≡ Ok result }
 {
     base32_nopad_ref().encoding()
 }
 
-/// [`base32_nopad`] by reference.
+/// Returns a reference to [`base32_nopad`].
 #[inline(always)]
 pub fn base32_nopad_ref() -> EncodingRef<'static>
     ensures { base_of base32_nopad_fields ≡ Ok result }
@@ -201,14 +201,14 @@ pub fn base32_nopad_ref() -> EncodingRef<'static>
     }
 }
 
-/// [`base32_nopad`]; `a` to `z` are decoded as upper case.
+/// Returns [`base32_nopad`]. Texts may have `a` to `z` in place of `A` to `Z`.
 pub fn base32_nopad_nocase() -> Encoding
     ensures { base_of base32_nopad_nocase_fields ≡ Ok result }
 {
     base32_nopad_nocase_ref().encoding()
 }
 
-/// [`base32_nopad_nocase`] by reference.
+/// Returns a reference to [`base32_nopad_nocase`].
 #[inline(always)]
 pub fn base32_nopad_nocase_ref() -> EncodingRef<'static>
     ensures { base_of base32_nopad_nocase_fields ≡ Ok result }
@@ -219,15 +219,15 @@ pub fn base32_nopad_nocase_ref() -> EncodingRef<'static>
     }
 }
 
-/// [`base32_nopad`]; characters that look like a symbol are decoded as that symbol: `0` as `O`, `1`
-/// and `l` as `I`, and `8` as `B`.
+/// Returns [`base32_nopad`]. Texts may have similar characters in place of symbols: `0` decodes as
+/// `O`, `1` and `l` as `I`, and `8` as `B`.
 pub fn base32_nopad_visual() -> Encoding
     ensures { base_of base32_nopad_visual_fields ≡ Ok result }
 {
     base32_nopad_visual_ref().encoding()
 }
 
-/// [`base32_nopad_visual`] by reference.
+/// Returns a reference to [`base32_nopad_visual`].
 #[inline(always)]
 pub fn base32_nopad_visual_ref() -> EncodingRef<'static>
     ensures { base_of base32_nopad_visual_fields ≡ Ok result }
@@ -238,15 +238,15 @@ pub fn base32_nopad_visual_ref() -> EncodingRef<'static>
     }
 }
 
-/// Base32 with the digits, followed by the letters `A` to `V`, padded with `=`: RFC 4648, section
-/// 7.
+/// Returns base32 with the digits, followed by the letters `A` to `V`, padded with `=`: RFC 4648,
+/// section 7.
 pub fn base32hex() -> Encoding
     ensures { base_of base32hex_fields ≡ Ok result }
 {
     base32hex_ref().encoding()
 }
 
-/// [`base32hex`] by reference.
+/// Returns a reference to [`base32hex`].
 #[inline(always)]
 pub fn base32hex_ref() -> EncodingRef<'static>
     ensures { base_of base32hex_fields ≡ Ok result }
@@ -257,14 +257,14 @@ pub fn base32hex_ref() -> EncodingRef<'static>
     }
 }
 
-/// [`base32hex`] without padding.
+/// Returns [`base32hex`] without padding.
 pub fn base32hex_nopad() -> Encoding
     ensures { base_of base32hex_nopad_fields ≡ Ok result }
 {
     base32hex_nopad_ref().encoding()
 }
 
-/// [`base32hex_nopad`] by reference.
+/// Returns a reference to [`base32hex_nopad`].
 #[inline(always)]
 pub fn base32hex_nopad_ref() -> EncodingRef<'static>
     ensures { base_of base32hex_nopad_fields ≡ Ok result }
@@ -275,15 +275,17 @@ pub fn base32hex_nopad_ref() -> EncodingRef<'static>
     }
 }
 
-/// [`base32hex_nopad`] with the letters `a` to `v`; `A` to `V` are decoded as these. This is the
-/// base32 of RFC 5155 (DNSSEC), in lower case.
+/// Returns [`base32hex_nopad`] with the letters `a` to `v`: the base32 of RFC 5155 (DNSSEC), in
+/// lower case.
+///
+/// Texts may have `A` to `V` in place of the letters.
 pub fn base32_dnssec() -> Encoding
     ensures { base_of base32_dnssec_fields ≡ Ok result }
 {
     base32_dnssec_ref().encoding()
 }
 
-/// [`base32_dnssec`] by reference.
+/// Returns a reference to [`base32_dnssec`].
 #[inline(always)]
 pub fn base32_dnssec_ref() -> EncodingRef<'static>
     ensures { base_of base32_dnssec_fields ≡ Ok result }
@@ -294,16 +296,17 @@ pub fn base32_dnssec_ref() -> EncodingRef<'static>
     }
 }
 
-/// The base32 of DNSCurve: the bit of weight 1 first, with the digits, followed by the lower-case
-/// letters except `a`, `e`, `i` and `o`. Upper-case letters are decoded as lower case. There is no
-/// padding.
+/// Returns the base32 of DNSCurve: the bit of weight 1 first, without padding.
+///
+/// The symbols are the digits, followed by the lower-case letters except `a`, `e`, `i` and `o`.
+/// Texts may have upper-case letters in their place.
 pub fn base32_dnscurve() -> Encoding
     ensures { base_of base32_dnscurve_fields ≡ Ok result }
 {
     base32_dnscurve_ref().encoding()
 }
 
-/// [`base32_dnscurve`] by reference.
+/// Returns a reference to [`base32_dnscurve`].
 #[inline(always)]
 pub fn base32_dnscurve_ref() -> EncodingRef<'static>
     ensures { base_of base32_dnscurve_fields ≡ Ok result }
