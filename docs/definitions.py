@@ -4,8 +4,6 @@
 usage: docs/definitions.py           writes the page
        docs/definitions.py --check   writes nothing; status 1 if the page isn't what would be written,
                                      or a definition has no comment, or no worked row
-       docs/definitions.py --size    prints the number of definitions, lines and files that the
-                                     definitions of `CORE` reach, and that all contracts reach
 
 A contract reaches a definition if one of its clauses names it, or a definition that it reaches does. A
 worked row of a definition is an entry of proofs/**/vectors/ or proofs/Vectors.antt that names it.
@@ -20,11 +18,6 @@ from calls import IMPORTS, KNOWN, all_calls
 from sources import HEAD, TOP, names_in, parts_of
 
 PAGE = TOP / "docs/DEFINITIONS.md"
-
-# The definitions on which the theorem about all encodings rests.
-CORE = [("data_encoding_meaning", *it) for it in (
-    ("Text", "text_of"), ("Grammar", "Means"), ("Fault", "fault_of"), ("Fields", "base_of"),
-    ("Canonical", "IsCanonical"))]
 
 # Definitions without a worked row, and the reason.
 EXCUSED = {
@@ -140,17 +133,7 @@ def page(head, wrong):
     return re.sub(r"\n{3,}", "\n\n", "\n".join(lines)) + "\n"
 
 
-def size(keys):
-    """How many definitions these are, in how many lines with their comments, and in how many files."""
-    lines = sum(len(KNOWN[key].comment) + len(KNOWN[key].lines) for key in keys)
-    return len(keys), lines, len({KNOWN[key].path for key in keys})
-
-
 def main():
-    if "--size" in sys.argv[1:]:
-        for title, keys in (("core", IMPORTS.reach(CORE)), ("all contracts", reached())):
-            print("{}: {} definitions, {} lines, {} files".format(title, *size(keys)))
-        return 0
     wrong, old = [], PAGE.read_text()
     new = page(old.partition("\n## ")[0], wrong)
     if "--check" not in sys.argv[1:]:
