@@ -7,8 +7,8 @@
 # - `antt`: is part of the callers' proofs, word for word;
 # - `sh`: is run as it is, except that `rt run` runs the program that is tried.
 #
-# tests/interop.sh runs those of docs/SCALE.md, tests/contracts.sh has those of docs/CONTRACTS.md,
-# and release/check runs those of README.md that use a file of a release. Of docs/LIBRARY.md,
+# tests/interop.sh runs those of docs/SCALE.md, tests/contracts.sh has those of docs/CONTRACTS*.md and
+# docs/PROVED.md, and release/check runs those of README.md that use a file of a release. Of docs/LIBRARY.md,
 # docs/C.md, docs/RUST.md, docs/PYTHON.md and docs/JAVASCRIPT.md the tests of these names run the
 # programs, and those of the same languages in README.md, which have at most eight lines each.
 #
@@ -79,7 +79,8 @@ try_block() {
     is "$1: a block of at most eight lines: $3" 0 $?
     case $1:$2 in
     README.md:rust | README.md:python | README.md:c | README.md:js) ;;
-    docs/SCALE.md:sh | docs/LIBRARY.md:sh | docs/CONTRACTS.md:rust) ;;
+    docs/SCALE.md:sh | docs/LIBRARY.md:sh) ;;
+    docs/CONTRACTS*.md:rust | docs/PROVED.md:rust | docs/PROVED.md:antt) ;;
     docs/C.md:* | docs/RUST.md:* | docs/PYTHON.md:* | docs/JAVASCRIPT.md:*) ;;
     *:text) try_examples "$1" "$3" ;;
     README.md:sh)
@@ -127,26 +128,6 @@ while IFS= read -r -d '' block; do
 done < <(sed -n '/^\.EX$/,/^\.EE$/ { s/\\-/-/g; s/\\e/\\/g; s/^\.EE$/\x00/; /^\.EX$/d; p }' \
     crates/basecode/basecode.1)
 
-# caller_rows: the callers, each with its file and how many lines its proof has.
-caller_rows() {
-    local file name folder
-    for file in crates/conformance/src/callers.rt crates/conformance/src/callers/*.rt; do
-        folder=crates/conformance/proofs/${file#crates/conformance/src/}
-        sed -nE 's/^pub fn ([a-z_0-9]+).*/\1/p' "$file" | while read -r name; do
-            echo "../$file $name $(cat "${folder%.rt}/$name"/*.antt 2>/dev/null | wc -l)"
-        done
-    done
-}
-
-# page_rows: those that docs/EXAMPLES.md lists below the links to the files.
-page_rows() {
-    sed -nE 's/^### \[.*\]\((.*)\)$/\1/p; s/^\| `([a-z_0-9]+)` \| .* \| ([0-9]+) \|$/\1 \2/p' \
-        docs/EXAMPLES.md | awk '/^\.\./ { file = $0; next } { print file, $0 }'
-}
-
-is 'callers that docs/EXAMPLES.md lists otherwise' '' \
-    "$(comm -3 <(caller_rows | sort) <(page_rows | sort))"
-
 # anchors PAGE: those of its headings.
 anchors() {
     sed -nE 's/\]\([^)]*\)//g; s/^#+ (.*)/\1/p' "$1" | tr 'A-Z ' 'a-z-' | sed 's/[^a-z0-9_-]//g'
@@ -168,8 +149,6 @@ for page in *.md docs/*.md; do
 done >"$room/lost"
 is 'links that lead nowhere' '' "$(cat "$room/lost")"
 
-[ "$(wc -w <README.md)" -le 1200 ]
-is 'README.md has at most 1,200 words' 0 $?
 # Of docs/SPEED.md, the medians for 1,024 bytes of the encodings that README.md has.
 is 'the table of speed of README.md' \
     "$(sed -n '/ encode 16 /,/^$/p' docs/SPEED.md | grep -v DNSCURVE |
