@@ -52,7 +52,7 @@ quietly() {
     }
 }
 
-is 'the version of the package' "$(sed -n 's/^## //p' "$OLDPWD/CHANGELOG.md" | head -n 1)" \
+is 'the version of the package' "$version" \
     "$(sed -n 's/^  "version": "\(.*\)",$/\1/p' package/package.json)"
 
 # By words: by lanes, which are taken apart, the module has over a million bytes.
