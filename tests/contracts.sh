@@ -1,7 +1,7 @@
 #!/usr/bin/env bash
 # Fails if docs/CONTRACTS.md is not what docs/contracts.py makes of the sources, docs/PROVED.md not what
 # docs/proved.py makes of that page, or a picture not what docs/pictures.py draws, and if a change would
-# not be found. Other pages have to agree: docs/COMING_FROM.md names no call that is not there,
+# not be found. Other pages have to agree: docs/LIBRARY.md names no call that is not there,
 # docs/ARCHITECTURE.md names each file and has the ways that docs/ways.py counts, and
 # docs/DEFINITIONS.md names each module.
 . "$(dirname "$0")/common.bash" || exit 1
@@ -72,7 +72,7 @@ differs 'a clause that one twin lacks' $encode '        ensures ascii .*' ''
 differs 'a clause that has other words at one twin' docs/CONTRACTS.md ': It is at most 189' ': At most 189'
 
 # Calls of the last column are named as the page names them.
-unknown=$(sed -n '/^## The Rust crate/,$ s/^| .* | //p' docs/COMING_FROM.md |
+unknown=$(sed -n '/^## Differences from the Rust crate/,$ s/^| .* | //p' docs/LIBRARY.md |
     grep -oE '\b[A-Z][A-Za-z]+::[a-z_]+\(' | tr -d '(' | sort -u |
     while read -r call; do grep -qF "### \`$call\`" docs/CONTRACTS.md || echo "$call"; done)
 is 'calls that are unknown' '' "$unknown"
