@@ -10,14 +10,14 @@ export BAMSTURK
 
 mkdir "$room/mine"
 cd "$room/mine" || exit 1
-# One line a unit that was checked, and all of them say so.
 for page in README.md:Rattle docs/LIBRARY.md:Setup; do
     bash -e -c "$(script "$BAMSTURK/${page%:*}" "${page#*:}"); cd ${PWD@Q}/crates/hello; rt run" \
-        >../output 2>../log
+        >>../output 2>>../log
     is "the commands of $page" 0 $?
     is "what they print, $page" SGVsbG8= "$(tail -n 1 ../output)"
-    is "they prove it, $page" logic=proved "$(cat ../output ../log | grep -o '^logic=[a-z]*' | sort -u)"
 done
+# One line a unit that was checked, and all of them say so.
+is 'it is proved' logic=proved "$(cat ../output ../log | grep -o '^logic=[a-z]*' | sort -u)"
 is 'the crates there' 'data_encoding data_encoding_kernel data_encoding_meaning encoding_stream hello' \
     "$(sed 's/:.*//' crates.txt | sort | paste -sd ' ')"
 
