@@ -5,6 +5,7 @@
 #   prints, on standard output or standard error;
 # - `rust`: is part of the callers or of crates/examples, word for word;
 # - `antt`: is part of the callers' proofs, word for word;
+# - `edit`: is an edit of a folder must-fail;
 # - `sh`: is run as it is, except that `rt run` runs the program that is tried.
 #
 # tests/interop.sh runs those of docs/SCALE.md, and tests/contracts.sh has those of docs/CONTRACTS.md.
@@ -97,6 +98,10 @@ try_block() {
     *:rust)
         [[ "$callers"$'\n'"$library" == *"$3"* ]]
         is "$1: its function is in the sources" 0 $?
+        ;;
+    *:edit)
+        is "$1: its edit is in the sources" 1 "$(cat crates/*/must-fail/*.edit | tr '\n' '\t' |
+            grep -cF "$(tr '\n' '\t' <<<"$3")")"
         ;;
     *:antt)
         [[ "$proofs" == *"$3"* ]]
