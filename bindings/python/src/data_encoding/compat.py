@@ -4,7 +4,7 @@ encodings of this package: the same arguments, results and types of errors.
     from data_encoding import compat as base64
 
 A text that is refused is a `binascii.Error`. Its `__cause__` is the DecodeError with the position,
-unless the padding was wrong without `validate`. docs/COMING_FROM.md lists what differs.
+unless the padding was wrong without `validate`. docs/PYTHON.md lists the differences.
 """
 
 import binascii
