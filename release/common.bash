@@ -9,7 +9,7 @@ export LC_ALL=C TZ=UTC
 room=$(mktemp -d)
 trap 'rm -rf "$room"' EXIT
 
-version=$(sed -n 's/^## //p' CHANGELOG.md | head -n 1)
+version=$(sed -nE 's/^## ([0-9.]+).*/\1/p' CHANGELOG.md | head -n 1)
 # All files of a release are from the day that the manual page has: a build is the same on each day.
 day=$(sed -nE '1s/^\.TH BASECODE 1 ([0-9-]+) .*/\1/p' crates/basecode/basecode.1)
 SOURCE_DATE_EPOCH=$(date -d "$day" +%s)

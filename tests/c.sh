@@ -148,7 +148,6 @@ de_encoder_new' "$(awk '
     /^de_status / && marks !~ /DE_NODISCARD/ { sub(/\(.*/, ""); print $2 }
     { marks = $0 }' "$lib/data_encoding.h")"
 
-version=$(sed -n 's/^## //p' CHANGELOG.md | head -n 1)
 macros=$(echo 'DE_VERSION_MAJOR.DE_VERSION_MINOR.DE_VERSION_PATCH DE_VERSION' |
     cat "$lib/data_encoding.h" - | "$cc" -E -P -x c - | tail -n 1 | sed 's/ *\. */./g')
 is 'the version of the header' "$version \"$version\"" "$macros"

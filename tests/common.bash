@@ -13,6 +13,9 @@ passed=0
 failed=0
 skipped=0
 
+# The version that CHANGELOG.md begins with, released or not.
+version=$(sed -nE 's/^## ([0-9.]+).*/\1/p' CHANGELOG.md | head -n 1)
+
 pass() {
     passed=$((passed + 1))
 }
@@ -94,6 +97,28 @@ block() {
         }
         inside
         !fenced && /^#+ / { under = $0; sub(/^#+ /, "", under) }' "$1"
+}
+
+# script PAGE HEADING: the blocks below that heading as one script of bash. A block of `sh` is in it as it
+# is. Any other, except of `text`, is written to the file that the line before it names, such as
+# `hello.c`:
+script() {
+    awk -v heading="$2" '
+        /^```/ && fenced {
+            if (inside && kind != "sh") print "END_OF_FILE"
+            fenced = inside = 0
+            next
+        }
+        /^```/ {
+            fenced = 1
+            kind = substr($0, 4)
+            inside = heading == under && kind != "text"
+            if (inside && kind != "sh") print "cat >" file " <<\047END_OF_FILE\047"
+            next
+        }
+        inside
+        !fenced && /^#+ / { under = $0; sub(/^#+ /, "", under) }
+        !fenced && match($0, /`[^` ]+`:$/) { file = substr($0, RSTART + 1, RLENGTH - 3) }' "$1"
 }
 
 # printed: what docs/FORMATS.md says is printed of each fault of a text and of each refusal of a

@@ -1,7 +1,8 @@
 #!/usr/bin/env bash
 # Fails if a generated page is not what its script makes of the sources, and if a change would not be
 # found: docs/CONTRACTS*.md (docs/contracts.py), docs/PROVED.md (docs/proved.py) and the picture of the
-# crates (docs/pictures.py). tests/definitions.sh does the same for docs/DEFINITIONS.md.
+# crates (docs/pictures.py). docs/LIBRARY.md may name no call that is not there. tests/definitions.sh does
+# the same for docs/DEFINITIONS.md.
 . "$(dirname "$0")/common.bash" || exit 1
 
 # check FOLDER: whether the pages there are what the sources there make.
@@ -86,5 +87,11 @@ planted crates/data_encoding/src/write.rt '{ 510 ≤ output_len }' '{ 511 ≤ ou
 is 'words that are dropped' '`Encoding::encode_piece_len`, room' \
     "$("$room/copy/docs/contracts.py" | sed -n 's/.*words dropped at data_encoding: //p')"
 is 'words after one was dropped' $((words - 1)) "$(grep -c '^- \*' "$room/copy/docs/CONTRACTS.md")"
+
+# Calls of the last column are named as the page names them.
+unknown=$(sed -n '/^## Differences from the Rust crate/,$ s/^| .* | //p' docs/LIBRARY.md |
+    grep -oE '\b[A-Z][A-Za-z]+::[a-z_]+\(' | tr -d '(' | sort -u |
+    while read -r call; do grep -qF "### \`$call\`" docs/CONTRACTS.md || echo "$call"; done)
+is 'calls that are unknown' '' "$unknown"
 
 finish

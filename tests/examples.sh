@@ -5,12 +5,14 @@
 #   prints, on standard output or standard error;
 # - `rust`: is part of the callers or of crates/examples, word for word;
 # - `antt`: is part of the callers' proofs, word for word;
+# - `edit`: is an edit of a folder must-fail;
 # - `sh`: is run as it is, except that `rt run` runs the program that is tried.
 #
-# tests/interop.sh runs those of docs/SCALE.md, tests/contracts.sh has those of docs/CONTRACTS*.md and
-# docs/PROVED.md, and release/check runs those of README.md that use a file of a release. Of docs/LIBRARY.md,
-# docs/C.md, docs/RUST.md, docs/PYTHON.md and docs/JAVASCRIPT.md the tests of these names run the
-# programs, and those of the same languages in README.md, which have at most eight lines each.
+# tests/interop.sh runs those of docs/SCALE.md, and tests/contracts.sh has those of docs/CONTRACTS*.md and
+# docs/PROVED.md. Of docs/LIBRARY.md, docs/C.md, docs/RUST.md, docs/PYTHON.md and docs/JAVASCRIPT.md the
+# tests of these names run the programs. release/check runs those below "Use it from" in README.md, and
+# those of docs/INSTALL.md that use a file of a release, and tests/library.sh those of Rattle in README.md.
+# The programs there have at most eight lines each.
 #
 # usage: tests/examples.sh [PROGRAM]
 . "$(dirname "$0")/common.bash" || exit 1
@@ -46,17 +48,22 @@ try_examples() {
 # Replaces `rt run -- WORD..` in a block that is run, which would prove the program once more.
 rt() {
     case $* in
-    version) command rt version ;;
+    version | 'try '*) command rt "$@" ;;
     'run -- '*) basecode "${@:3}" ;;
-    'try -- '*) command rt "$@" ;;
     *) return 2 ;;
     esac
 }
 export -f rt
 
+# The blocks of README.md that release/check and tests/library.sh run.
+followed=$(for heading in 'Command line' Rust Python C JavaScript Rattle; do
+    script README.md "$heading"
+done)
+
 # try_commands PAGE BLOCK: runs it, and looks at what it did.
 try_commands() {
     local given
+    if [ "$1" = README.md ] && [[ "$followed" == *"$2"* ]]; then return; fi
     case $2 in
     '(cd crates/basecode && rt run -- list)'*'crates/basecode/install.sh ~/.local')
         given=$(HOME=$room/home bash -e -c "$2" 2>&1 |
@@ -65,10 +72,15 @@ try_commands() {
         given=$("$room/home/.local/bin/basecode" canonical HEXLOWER 2>&1)
         is "$1: what $2 installs" true "$given"
         ;;
-    '(cd crates/basecode && printf Hello | rt try -- encode HEXLOWER)')
+    '(cd crates/basecode && printf Hello | rt '*' -- encode HEXLOWER)')
         given=$(bash -e -c "$2" 2>"$room/said")
         is "$1: $2" 48656c6c6f "$given"
         ;;
+    '(cd crates/basecode && rt try --test)') holds "$1: $2" quietly bash -e -c "$2" ;;
+    # It runs this test.
+    'tests/setup && tests/all') holds "$1: $2" [ -x tests/setup -a -x tests/all ] ;;
+    # They use a file of a release.
+    'sha256sum --check SHA256SUMS' | 'basecode-0.1.0-x86_64-linux/install.sh --remove ~/.local') ;;
     *) is "$1: a block of sh" 'one that is known here' "$2" ;;
     esac
 }
@@ -83,16 +95,14 @@ try_block() {
     docs/CONTRACTS*.md:rust | docs/PROVED.md:rust | docs/PROVED.md:antt) ;;
     docs/C.md:* | docs/RUST.md:* | docs/PYTHON.md:* | docs/JAVASCRIPT.md:*) ;;
     *:text) try_examples "$1" "$3" ;;
-    README.md:sh)
-        case $3 in
-        'tar -xf '* | 'pip install '* | 'npm install '*) ;;
-        *) try_commands "$1" "$3" ;;
-        esac
-        ;;
     *:sh) try_commands "$1" "$3" ;;
     *:rust)
         [[ "$callers"$'\n'"$library" == *"$3"* ]]
         is "$1: its function is in the sources" 0 $?
+        ;;
+    *:edit)
+        is "$1: its edit is in the sources" 1 "$(cat crates/*/must-fail/*.edit | tr '\n' '\t' |
+            grep -cF "$(tr '\n' '\t' <<<"$3")")"
         ;;
     *:antt)
         [[ "$proofs" == *"$3"* ]]
@@ -149,16 +159,25 @@ for page in *.md docs/*.md; do
 done >"$room/lost"
 is 'links that lead nowhere' '' "$(cat "$room/lost")"
 
-# Of docs/SPEED.md, the medians for 1,024 bytes of the encodings that README.md has.
+# cell PAGE ROW COLUMN: that cell of the first such row of the page, without its bounds.
+cell() {
+    sed -nE "s/^\| $2 \| (.*) \|$/\1/p" "docs/$1.md" | head -n 1 | cut -d '|' -f "$3" | sed -E 's/ |\(.*//g'
+}
+
 is 'the table of speed of README.md' \
-    "$(sed -n '/ encode 16 /,/^$/p' docs/SPEED.md | grep -v DNSCURVE |
-        sed -nE 's/^\| ([A-Z0-9_]+) \| [^|]* \| [^|]* \| ([0-9.]+)\(.* ([0-9.]+)\([^|]* \|$/| \1 | \2 | \3 |/p')" \
-    "$(grep -E '^\| [A-Z0-9_]+ \| 0\.[0-9]+ \| 0\.[0-9]+ \|$' README.md)"
-is 'the table of README.md has each encoding, canonical or not' \
+    "$(cell SPEED BASE64 3) $(cell SPEED BASE64 6)
+$(cell RUST BASE64 3) $(cell RUST BASE64 7)
+$(cell PYTHON '`BASE64.encode`, of `base64.b64encode`' 3) $(cell PYTHON '`BASE64.decode`, of `base64.b64decode`' 3)
+$(cell JAVASCRIPT '`encode`' 3) $(cell JAVASCRIPT '`decode`' 3)
+$(cell SPEED 'encode BASE64' 2) $(cell SPEED 'decode BASE64' 2)" \
+    "$(sed -nE 's/^\| .* \| ([0-9.]+) \| ([0-9.]+) \|$/\1 \2/p' README.md)"
+is 'the table of README.md has each encoding' "$(basecode list | sort)" \
+    "$(sed -n '/^## Encodings/,/^## /p' README.md | grep '^|' | grep -oE '\b(HEX|BASE)[A-Z0-9_]+' | sort)"
+is 'the table of docs/FORMATS.md has each encoding, canonical or not' \
     "$(for name in $(basecode list); do
         echo "$name $(basecode canonical "$name" | sed 's/true/yes/; s/false/no/')"
     done)" \
-    "$(sed -n 's/^| \([A-Z0-9_]*\) | .* | \(yes\|no\) | [a-z]* *| [0-9]*\(, lowercase\)\? *|$/\1 \2/p' README.md)"
+    "$(sed -n 's/^| \([A-Z0-9_]*\) | .* | \(yes\|no\) | .*/\1 \2/p' docs/FORMATS.md)"
 
 [ "$passed" -ge 20 ] || fail 'the pages have fewer than 20 examples'
 finish

@@ -5,8 +5,7 @@
 
 program=$(tests/find-program) || exit 1
 install=$(realpath crates/basecode/install.sh)
-changes=$(realpath CHANGELOG.md)
-fpath=$(grep -o 'fpath=([^)]*)' README.md)
+fpath=$(grep -o 'fpath=([^)]*)' docs/INSTALL.md)
 cd "$room" || exit 1
 
 files() {
@@ -53,7 +52,7 @@ if command -v man >/dev/null && man --version >/dev/null 2>&1; then
 else
     skip 'the page by man: no man'
 fi
-is 'the version in its footer' "basecode $(sed -n 's/^## //p' "$changes" | head -n 1)" \
+is 'the version in its footer' "basecode $version" \
     "$(sed -nE '1s/^\.TH BASECODE 1 [0-9]{4}-[0-9]{2}-[0-9]{2} "([^"]*)" .*/\1/p' "$page")"
 is 'the page has each name' '' \
     "$(for name in $names; do grep -qw "$name" "$page" || echo "$name"; done)"
@@ -130,7 +129,7 @@ os.waitpid(child, 0)
 }
 
 # Each shell in which completion is tried: what starts it, and what it is told at first. To zsh this
-# is the line of README.md, for a home that has the folder.
+# is the line of docs/INSTALL.md, for a home that has the folder.
 share=prefix/share
 ln -s prefix .local
 shells="bash --norc --noprofile -i|. $share/bash-completion/completions/basecode

@@ -1,5 +1,5 @@
 #!/usr/bin/env bash
-# Compares the built program with the tools of docs/COMING_FROM.md, line by line, with the Rust crate
+# Compares the built program with the tools of docs/CLI.md, line by line, with the Rust crate
 # `data-encoding`, if Debian's package of it is here, and with itself in parts, as docs/SCALE.md cuts
 # them. Of the program of that crate, which is no package, tests/original.rs takes the place.
 #
@@ -7,7 +7,7 @@
 . "$(dirname "$0")/common.bash" || exit 1
 
 program=$(tests/find-program "$@") || exit 1
-tables=$(realpath docs/COMING_FROM.md)
+tables=$(realpath docs/CLI.md)
 scale=$(realpath docs/SCALE.md)
 name_program "$program"
 original=$(compgen -G '/usr/share/cargo/registry/data-encoding-[0-9]*/src/lib.rs' | tail -n 1)

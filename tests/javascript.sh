@@ -52,7 +52,7 @@ quietly() {
     }
 }
 
-is 'the version of the package' "$(sed -n 's/^## //p' "$OLDPWD/CHANGELOG.md" | head -n 1)" \
+is 'the version of the package' "$version" \
     "$(sed -n 's/^  "version": "\(.*\)",$/\1/p' package/package.json)"
 
 # By words: by lanes, which are taken apart, the module has over a million bytes.
@@ -204,7 +204,7 @@ else
 fi
 
 mkdir program
-echo '{ "name": "program", "private": true, "type": "module" }' >program/package.json
+echo '{ "name": "program", "private": true }' >program/package.json
 commands=$(block "$page" sh)
 is 'the first command of docs/JAVASCRIPT.md' 'bindings/javascript/build.sh package' \
     "${commands%%$'\n'*}"
@@ -230,9 +230,9 @@ else
     cp -r package program/node_modules/data-encoding
 fi
 
-block "$page" js >program/hello.js
-is 'the program of docs/JAVASCRIPT.md' "$(block "$page" text)" "$(node "${flags[@]}" program/hello.js 2>&1)"
-block "$readme" js >program/hello.js
-is 'the program of README.md' SGVsbG8= "$(node "${flags[@]}" program/hello.js 2>&1)"
+block "$page" js >program/calls.mjs
+is 'the program of docs/JAVASCRIPT.md' "$(block "$page" text)" "$(node "${flags[@]}" program/calls.mjs 2>&1)"
+block "$readme" js >program/hello.mjs
+is 'the program of README.md' SGVsbG8= "$(node "${flags[@]}" program/hello.mjs 2>&1)"
 
 finish

@@ -1,6 +1,6 @@
 #!/usr/bin/env bash
-# Follows the way in of docs/LIBRARY.md, from an empty folder, and runs the program of
-# crates/examples over streams that fail. tests/examples.sh compares the other blocks of that page.
+# Follows README.md and docs/LIBRARY.md from an empty folder, and runs the program of crates/examples over
+# streams that fail. tests/examples.sh compares the other blocks of that page.
 . "$(dirname "$0")/common.bash" || exit 1
 
 tests/find-program >/dev/null || exit 1
@@ -8,33 +8,31 @@ program=$(CRATE=examples tests/find-program) || exit 1
 BAMSTURK=$PWD
 export BAMSTURK
 
-# The block of sh on the page.
-way=$(block docs/LIBRARY.md sh)
-is 'the page has one block of sh' 1 "$(grep -c '^```sh$' docs/LIBRARY.md)"
-
 mkdir "$room/mine"
 cd "$room/mine" || exit 1
-bash -e -c "$way" >../output 2>../log
-is 'the way in' 0 $?
-is 'what it prints' "$(grep -o '`SGVsbG8=`' "$BAMSTURK/docs/LIBRARY.md" | tr -d '`')" \
-    "$(tail -n 1 ../output)"
-is 'the program of README.md' "$(cat crates/greeting/src/main.rt)" \
-    "$(block "$BAMSTURK/README.md" rust Rattle)"
+for page in README.md:Rattle docs/LIBRARY.md:Setup; do
+    bash -e -c "$(script "$BAMSTURK/${page%:*}" "${page#*:}"); cd ${PWD@Q}/crates/hello; rt run" \
+        >>../output 2>>../log
+    is "the commands of $page" 0 $?
+    is "what they print, $page" SGVsbG8= "$(tail -n 1 ../output)"
+done
 # One line a unit that was checked, and all of them say so.
 is 'it is proved' logic=proved "$(cat ../output ../log | grep -o '^logic=[a-z]*' | sort -u)"
+is 'the crates there' 'data_encoding data_encoding_kernel data_encoding_meaning encoding_stream hello' \
+    "$(sed 's/:.*//' crates.txt | sort | paste -sd ' ')"
 
 # What the page says is not proved.
 form='let mut out = [0; 8]; base64().encode_mut(b"Hello", &mut out)'
 is 'the page names the form' 1 "$(grep -cF "\`$form\`" "$BAMSTURK/docs/LIBRARY.md")"
-sed -i "/println/a ${form//&/\\&};" crates/greeting/src/main.rt
-(cd crates/greeting && rt check) >../output 2>&1
+sed -i "/println/a ${form//&/\\&};" crates/hello/src/main.rt
+(cd crates/hello && rt check) >../output 2>&1
 is 'a length that is not worked out' 1 \
     "$(grep -c '^note: .*it is not proved that what `encode_mut` requires holds' ../output)"
 
 # is_let_go NAME LINE NUMBER: a program that lets an encoder go in this line, its tenth, does not
 # compile, and the check names the line of the number.
 is_let_go() {
-    cat >crates/greeting/src/main.rt <<END
+    cat >crates/hello/src/main.rt <<END
 #![tactic(auto)]
 
 use anyhow::Result;
@@ -47,7 +45,7 @@ fn main(rt: HostRuntime) -> Result<()> {
     $2
 }
 END
-    (cd crates/greeting && rt check) >../output 2>&1
+    (cd crates/hello && rt check) >../output 2>&1
     is "$1: it does not compile" 1 $?
     is "$1: the line" "src/main.rt:$3" \
         "$(sed -n 's/^\(src[^:]*:[0-9]*\):.*error\[linear-value-let-go\].*`Encoder<&Encoding>` is not `Drop`.*/\1/p' \

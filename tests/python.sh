@@ -36,7 +36,6 @@ if [ -z "$python" ]; then
 fi
 
 find_library "$@"
-version=$(sed -n 's/^## //p' CHANGELOG.md | head -n 1)
 words=$(printed)
 mkdir "$room/bindings"
 cp -r bindings/python "$room/bindings"

@@ -5,11 +5,10 @@
 # usage: tests/release.sh
 . "$(dirname "$0")/common.bash" || exit 1
 
-version=$(sed -n 's/^## //p' CHANGELOG.md | head -n 1)
 # Names of files with a version.
 named='[a-z_]+[-_]0\.[0-9]+\.[0-9]+[-_./a-z0-9]*'
 is 'the versions in names of files' '' \
-    "$(grep -hoE "$named" README.md docs/{RELEASES,RUST,JAVASCRIPT}.md |
+    "$(grep -hoE "$named" README.md docs/*.md |
         grep -vE "[a-z][-_]${version//./\\.}" | sort -u)"
 is 'the versions of the crate that links' "$version $version" \
     "$(sed -n 's/^version = "\(.*\)"$/\1/p' bindings/rust/sys/Cargo.toml) \
@@ -37,10 +36,15 @@ export GIT_COMMITTER_NAME=A GIT_COMMITTER_EMAIL=a@b.example
 parts='program c rust python javascript'
 mkdir "$room/few" "$room/tagged"
 cp -r release CHANGELOG.md "$room/tagged"
+sed -i "1,/^## /s/^## .*/## $version (unreleased)/" "$room/tagged/CHANGELOG.md"
 in_tagged init --quiet
 in_tagged add .
-in_tagged commit --quiet --message=one
+in_tagged commit --quiet --message=none
 touch "$room/few/"{one,other}
+list $parts
+is 'a version that is unreleased' "release/tag: CHANGELOG.md has $version as unreleased" "$(tag_in)"
+sed -i "s/^## $version .*/## $version/" "$room/tagged/CHANGELOG.md"
+in_tagged commit --quiet --all --message=one
 list $parts
 is 'the message of the tag' "Bamsturk $version
 

@@ -63,10 +63,7 @@ digests=()
 if has 'data-encoding-c-*' && ! lacks 'the library for C' cc gcc &&
     ! lacks 'the library for C' pkg-config pkg-config; then
     try_c x86_64 cc env
-    mkdir C
-    cp hello.c C
-    holds 'the commands of README.md, in C' quietly follow C
-    is 'what they build' SGVsbG8= "$(C/hello)"
+    prints C
     digests+=("$(DE_CPU=baseline ./digest)")
     if ! lacks 'the library for C, aarch64' aarch64-linux-gnu-gcc gcc-aarch64-linux-gnu &&
         ! lacks 'the library for C, aarch64' qemu-aarch64 qemu-user; then

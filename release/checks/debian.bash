@@ -1,15 +1,5 @@
 # The packages for Debian, each installed below a folder of its own with a database of its own.
 
-# install_debs FOLDER FILE..
-install_debs() {
-    local root=$room/$1
-    shift
-    mkdir -p "$root/var/lib/dpkg/updates" "$root/var/lib/dpkg/info"
-    touch "$root/var/lib/dpkg/status"
-    dpkg "--root=$root" --force-architecture --force-depends --force-not-root \
-        --force-script-chrootless --force-bad-path --install "$@"
-}
-
 if has '*.deb' && ! lacks 'the packages for Debian' dpkg dpkg; then
     if has 'basecode_*.deb'; then
         holds 'the package of the program' quietly install_debs debian-program \

@@ -1,31 +1,26 @@
 # The package for JavaScript, and the page.
 if has 'data-encoding-*.tgz' && ! lacks 'the package for JavaScript' node nodejs; then
-    mkdir JavaScript
-    ln -s JavaScript script
-    echo '{ "name": "script", "private": true, "type": "module" }' >script/package.json
     export npm_config_offline=true npm_config_update_notifier=false npm_config_cache=$room/cache
     if command -v npm >/dev/null; then
-        holds 'the commands of README.md, in JavaScript' quietly follow JavaScript
+        prints JavaScript
     else
-        skip 'npm install: no npm (npm)'
-        mkdir -p script/node_modules
-        tar -C script/node_modules -xf "$files/data-encoding-$version.tgz"
-        mv script/node_modules/package script/node_modules/data-encoding
+        skip 'the commands of README.md, JavaScript: no npm (npm)'
+        mkdir -p JavaScript/node_modules
+        tar -C JavaScript/node_modules -xf "$files/data-encoding-$version.tgz"
+        mv JavaScript/node_modules/package JavaScript/node_modules/data-encoding
     fi
-    block "$pages/README.md" js >script/hello.js
-    is 'the program of README.md, in JavaScript' SGVsbG8= "$(node script/hello.js 2>&1)"
-    block "$pages/docs/JAVASCRIPT.md" js >script/hello.js
+    block "$pages/docs/JAVASCRIPT.md" js >JavaScript/calls.mjs
     is 'the program of docs/JAVASCRIPT.md' "$(block "$pages/docs/JAVASCRIPT.md" text)" \
-        "$(node script/hello.js 2>&1)"
+        "$(node JavaScript/calls.mjs 2>&1)"
     # As a package that is unpacked: its tests import ../src.
     tar -xf "$files/data-encoding-$version.tgz"
     cp -r "$pages/bindings/javascript/tests" package
     holds 'the tests of the package for JavaScript' quietly node --test package/tests/*.test.js
     flag=--experimental-wasm-memory64
     if node $flag -e 0 2>/dev/null; then
-        sed 's:"data-encoding":"data-encoding/memory64":' script/hello.js >script/hello64.js
+        sed 's:"data-encoding":"data-encoding/memory64":' JavaScript/calls.mjs >JavaScript/calls64.mjs
         is 'the same, with 64-bit memory' "$(block "$pages/docs/JAVASCRIPT.md" text)" \
-            "$(node $flag script/hello64.js 2>&1)"
+            "$(node $flag JavaScript/calls64.mjs 2>&1)"
     fi
 fi
 if has basecode.html; then

@@ -23,9 +23,19 @@ install.sh' "$(cd "$name" && find . -type f | sed 's:^\./::' | sort)"
         "$("$name/install.sh" --cpu x86-64 "$room/prefix" 2>&1)"
     holds 'removes' "$name/install.sh" --remove "$room/prefix"
     is 'what is left' '' "$(find prefix -type f)"
-    holds 'the commands of README.md' quietly follow 'Command line'
-    is 'the program that they install' SGVsbG8= \
-        "$(printf Hello | 'Command line/.local/bin/basecode' encode BASE64)"
+    # The package for Debian is installed below a folder of its own.
+    sudo() {
+        [ "$1 $2" = 'dpkg -i' ] && install_debs by-hand "$PWD/$3"
+    }
+    export room
+    export -f sudo install_debs
+    if ! lacks 'the commands of README.md, Command line' dpkg dpkg; then
+        prints 'Command line' 'printf Hello | basecode encode BASE64'
+        is 'the package that they install' SGVsbG8= \
+            "$(printf Hello | by-hand/usr/bin/basecode encode BASE64)"
+        is 'the program that they install' "$room/Command line/.local/bin/basecode" \
+            "$(find "$room/Command line/.local" -name basecode -perm -1)"
+    fi
     [ "$(printf '%s\n' "$(newest_glibc "$name"/bin/*)" 2.34 | sort -V | tail -n 1)" = 2.34 ]
-    is 'the program needs no newer glibc than README.md says' 0 $?
+    is 'the program needs no newer glibc than docs/INSTALL.md says' 0 $?
 fi

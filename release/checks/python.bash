@@ -45,8 +45,11 @@ python ['Requires-Python: >=3.9']" "$(wheel_facts \
             "$files/data_encoding-$version-cp311-abi3-manylinux_2_17_x86_64.whl"
         is 'the program of README.md, in Python' SGVsbG8= "$(environment/bin/python3 hello.py 2>&1)"
         export PIP_NO_INDEX=1 PIP_BREAK_SYSTEM_PACKAGES=1
-        PIP_TARGET=$room/Python/site holds 'the commands of README.md, in Python' quietly follow Python
-        is 'what they install' SGVsbG8= "$(PYTHONPATH=$room/Python/site python3 hello.py 2>&1)"
+        if python3 -c 'import ensurepip' 2>/dev/null; then
+            prints Python
+        else
+            skip 'the commands of README.md, Python: no ensurepip (python3-venv)'
+        fi
         holds 'the tests of the package' quietly environment/bin/python3 \
             "$pages/bindings/python/tests/test_data_encoding.py"
         sdist=$files/data_encoding-$version.tar.gz

@@ -32,14 +32,12 @@ data-encoding = { package = "$name", path = "../$name-$version" }
 $name-sys = { path = "../$name-sys-$version" }
 END
     is 'a program with the crate' SGVsbG8= "$(cargo_in crates/by-path run --quiet 2>&1)"
-    new_program Rust </dev/null
     cargo() {
         "$CARGO" "$@"
     }
     export CARGO "RUSTUP_HOME=$HOME/.rustup" "CARGO_HOME=$HOME/.cargo"
     export -f cargo
-    holds 'the commands of README.md, in Rust' quietly follow Rust
-    is 'a program with the crate by its path' SGVsbG8= "$(cargo_in Rust run --quiet 2>&1)"
+    prints Rust
     new_program crates/by-patch <<END
 [dependencies]
 data-encoding = "2"

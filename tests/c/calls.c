@@ -354,7 +354,7 @@ static void own(void) {
     is("no bytes at null", DE_OK, de_encoding_encode(&encoding, NULL, 0, NULL, 0, &size));
 }
 
-/* What docs/COMING_FROM.md says of base64 without concatenated texts. */
+/* Base64 without concatenated texts, as docs/C.md describes it. */
 static void one_text(void) {
     de_specification asked;
     de_encoding encoding;

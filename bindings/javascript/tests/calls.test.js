@@ -30,8 +30,8 @@ test("the vectors of RFC 4648", () => {
   }
 });
 
-/** What docs/COMING_FROM.md says of these texts; `null` is an error of `atob`. */
-const COMING_FROM = [
+/** The table of docs/JAVASCRIPT.md; `null` is an error of `atob`. */
+const OTHER_TEXTS = [
   ["AA==AAA=", null, "\0", [0, 0, 0], "padding at 4"],
   ["SGl=", "Hi", "Hi", "trailing at 2", "trailing at 2"],
   ["SGk", "Hi", "Hi", "length at 0", "length at 0"],
@@ -40,7 +40,7 @@ const COMING_FROM = [
 
 test("where atob and Buffer decode otherwise", () => {
   const single = new Encoding({ ...BASE64.specification(), concatenate: false });
-  for (const [text, byAtob, byBuffer, here, alone] of COMING_FROM) {
+  for (const [text, byAtob, byBuffer, here, alone] of OTHER_TEXTS) {
     if (byAtob === null) {
       assert.throws(() => atob(text), { name: "InvalidCharacterError" });
     } else {
@@ -52,7 +52,7 @@ test("where atob and Buffer decode otherwise", () => {
   }
 });
 
-/** Those of the rows of docs/COMING_FROM.md on `Uint8Array.fromBase64`, which Node 20 has not. */
+/** As `Uint8Array.fromBase64` is specified, which Node 20 lacks. docs/JAVASCRIPT.md has the first. */
 test("what fromBase64 decodes by alphabet and lastChunkHandling", () => {
   const asked = { ...BASE64.specification(), concatenate: false, ignore: " \t\n\f\r" };
   const strict = new Encoding(asked);

@@ -158,7 +158,7 @@ class Same(unittest.TestCase):
         self.assertEqual((cause.kind, cause.position), ("symbol", 3))
 
     def test_differences(self) -> None:
-        """What docs/COMING_FROM.md says."""
+        """The differences that docs/PYTHON.md lists."""
         self.assertRaises(binascii.Error, compat.b64decode, "Zm9v=", validate=True)
         self.assertRaises(binascii.Error, compat.b64decode, "Zm8==", validate=True)
         if sys.version_info < (3, 13):

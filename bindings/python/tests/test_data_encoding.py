@@ -89,8 +89,8 @@ class Calls(unittest.TestCase):
             elif text != "Zm9vYg==Zm9v":
                 self.assertRaises(DecodeError, BASE64.decode, text)
 
-    def test_coming_from(self) -> None:
-        """What docs/COMING_FROM.md says of these texts."""
+    def test_other_texts(self) -> None:
+        """The table of docs/PYTHON.md."""
         asked = BASE64.specification()
         asked["concatenate"] = False
         single = Encoding(**asked)
