@@ -1,5 +1,5 @@
-//! Small callers, each proved from the clauses of what it calls. They show what users can conclude
-//! from these.
+//! Small callers, each proved from the clauses of its calls. They show the conclusions that users
+//! can draw.
 
 ghost use Rattle.std.specs.Prelude.{◌≡◌, ◌≢◌, ◌-◌, ◌^◌, ◌+◌, ◌++◌, ◌<◌, ◌≤◌, ◌↔◌, ℕ, List, [], ◌∷◌, codes, length, string_bytes, take, IfOk, IfSome, IsSome, IsTrue, None, OnOk, false};
 ghost use Rattle.std.specs.Io.KnownBytes.{Keeps};
@@ -19,7 +19,8 @@ use encoding_stream::Watch;
 use std::alloc::{AllocError, Global};
 use std::io::Read;
 
-/// A run over bytes in memory: its exit status, what it did not read, and what its output has.
+/// The result of a run over bytes in memory: its exit status, the rest of the input, and the
+/// output.
 #[derive(Debug, Drop)]
 struct Outcome<'a> {
     status: u8,

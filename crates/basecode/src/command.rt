@@ -1,4 +1,4 @@
-//! What the arguments of a command line ask for.
+//! The request that the arguments of a command line make.
 
 ghost use Rattle.std.specs.Prelude.{◌≡◌, ◌↔◌, [], ◌∷◌, IfErr, IfOk, IsErr, None};
 ghost use Rattle.basecode.specs.Words.{AreRequest, Asks, IsWrong, ask_of, request_of, texts};
@@ -6,43 +6,43 @@ ghost use Rattle.basecode.specs.Words.{AreRequest, Asks, IsWrong, ask_of, reques
 use crate::fault::WordFault;
 use data_encoding::{Encoding, predefined};
 
-/// What is done with an input.
+/// A conversion.
 #[derive(Clone, Copy, Debug, PartialEq, Eq)]
 pub enum Verb {
-    /// Its text is written.
+    /// Encode the input.
     Encode,
 
-    /// The bytes that it means are written.
+    /// Decode the input.
     Decode,
 }
 
-/// What an argument asks about an encoding.
+/// The request of a verb.
 #[derive(Clone, Copy, Debug, PartialEq, Eq)]
 pub enum Ask {
-    /// To convert an input.
+    /// Convert the input.
     Conversion(Verb),
 
-    /// Whether data has one text only.
+    /// Report if the encoding is canonical.
     Question,
 }
 
-/// What is asked about an encoding.
+/// A request about an encoding.
 #[derive(Debug, Drop)]
 pub struct Task {
-    /// What is asked.
+    /// The request.
     pub ask: Ask,
 
-    /// The encoding that it is asked about.
+    /// The encoding.
     pub encoding: Encoding,
 }
 
-/// What the arguments ask for.
+/// The request of a command line.
 #[derive(Debug, Drop)]
 pub enum Request {
-    /// The names of the encodings.
+    /// List the names of the encodings.
     List,
 
-    /// Something about an encoding.
+    /// Do a task with an encoding.
     Of(Task),
 }
 
@@ -58,9 +58,9 @@ fn ask_named(word: &str) -> Option<Ask>
     }
 }
 
-/// Returns what the arguments ask for.
+/// Returns the request that the arguments `words` make, or their fault.
 ///
-/// Their number and the first of them are judged before the name.
+/// The number of the arguments and the first of them are checked before the name.
 pub fn request_named(words: &[String]) -> Result<Request, WordFault<'_>>
     ensures asked { IfOk result (AreRequest (texts words.now)) }
     ensures wrong { IsErr result ↔ (request_of (texts words.now) ≡ None) }

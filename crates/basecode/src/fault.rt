@@ -14,13 +14,13 @@ use std::{fmt, io};
 // with others.
 const LINE_LIMIT: usize = 4096;
 
-/// What is wrong with the arguments of a command line.
+/// The fault of the arguments of a command line.
 #[derive(Clone, Copy, Debug)]
 pub enum WordFault<'a> {
     /// Their number is wrong, or the first is not a verb.
     Usage,
 
-    /// No encoding has this name.
+    /// No encoding has the given name.
     UnknownName(&'a str),
 }
 
@@ -37,8 +37,10 @@ impl fmt::Display for WordFault<'_> {
     }
 }
 
-/// Returns the exit status of a conversion that ends with this fault: 1 if the text has a fault or
-/// the input is too long, and 3 if a read, a write or a flush failed.
+/// Returns the exit status of a conversion that ends with `fault`.
+///
+/// It is 1 if the text has a fault or the input is too long, and 3 if a read, a write or a flush
+/// failed.
 pub fn exit_status(fault: StreamFault) -> u8
     ensures { result ≡ status_of fault }
 {
@@ -48,9 +50,10 @@ pub fn exit_status(fault: StreamFault) -> u8
     }
 }
 
-/// Prints a line about a fault: in one write if it has at most 4096 bytes, and in several
-/// otherwise. Nothing is allocated. If an error is returned, a prefix of the line may have been
-/// printed.
+/// Prints a line about `fault` to `faults`.
+///
+/// A line of at most 4,096 bytes is printed in one write, and a longer line in several. Nothing is
+/// allocated. If an error is returned, a prefix of the line may have been printed.
 pub fn tell<F: Write, D: fmt::Display>(faults: &mut F, fault: &D) -> io::Result<()>
     ensures { OnOk result (IfSome (D.output fault.now) (λ text.
         Appends (F.contents faults.old) (F.contents faults.new) (line_of text))) }

@@ -1,12 +1,12 @@
-//! `basecode`: standard input as text over an alphabet of symbols, and back.
+//! `basecode`: encodes standard input as text over an alphabet of symbols, and decodes such text.
 //!
-//! `basecode encode NAME` reads bytes and writes their text, and `basecode decode NAME` reads a
-//! text and writes the bytes that it means, in the encoding with that name: one of the eighteen
-//! predefined encodings of `data_encoding`, in upper case, such as `BASE64_MIME`. `basecode list`
-//! writes these names, each on a line, and `basecode canonical NAME` writes `true` if data has one
-//! text only, and `false` otherwise. The exit status is 0 if that was done, 1 if the input has a
-//! fault or is too long, 2 if the usage is wrong, 3 if a read, a write or a flush failed, and 4 if
-//! memory ran out for the arguments.
+//! `basecode encode NAME` reads data and writes its text. `basecode decode NAME` reads a text and
+//! writes the data that it means. `NAME` is one of the predefined encodings of `data_encoding`, in
+//! upper case, such as `BASE64_MIME`. `basecode list` writes these names, each on a line. `basecode
+//! canonical NAME` writes `true` if no two different texts mean the same data, and `false`
+//! otherwise. The exit status is 0 on success, 1 if the input has a fault or is too long, 2 if the
+//! usage is wrong, 3 if a read, a write or a flush failed, and 4 if memory ran out for the
+//! arguments.
 #![tactic(auto)]
 
 mod callers;

@@ -15,21 +15,25 @@ use encoding_stream::{StreamFault, Watch, decode_stream, encode_stream};
 use std::alloc::Global;
 use std::io::{Read, Write};
 
-/// Does what the arguments ask for, and returns the exit status. Nothing is allocated: the
-/// allocator is not used.
+/// Does the request of the arguments `words`, and returns the exit status.
 ///
-/// `list` writes the names of the encodings, each followed by LF. `canonical NAME` writes whether
-/// data has one text only in an encoding, as `true` or `false` and LF. Neither reads anything.
-/// `encode NAME` and `decode NAME` read the input to its end and write, as it comes, its text or
-/// the bytes that it means. What is written is flushed once, and the status is 0.
+/// Nothing is allocated: the allocator is not used. No call of `reader` or `writer` may have failed
+/// before.
 ///
-/// A text with a fault is read to its end too, the bytes of the groups before the first faulty one
-/// are written and flushed, and the status is 1. An input with more bytes than the limit of its
-/// verb, `u64::MAX` or `DECODE_LIMIT`, also has status 1; it is not read to its end, and nothing is
+/// `list` writes the names of the encodings, each followed by LF. `canonical NAME` writes `true` if
+/// data has only one text in an encoding, and `false` otherwise, followed by LF. Neither reads
+/// anything. `encode NAME` reads the input to its end and writes its text. `decode NAME` reads the
+/// input to its end and writes the data that it means. The output is flushed once, and the status
+/// is 0.
+///
+/// A text with a fault is read to its end, too. The bytes of the groups before the first faulty one
+/// are written and flushed, and the status is 1. An input above the limit, `u64::MAX` bytes of data
+/// or `DECODE_LIMIT` bytes of text, also has status 1. It is not read to its end, and nothing is
 /// flushed. If the usage is wrong, the status is 2, and nothing is read or written. A read, a write
-/// or a flush that fails ends the run with status 3. Unless the usage is wrong, a prefix of what
-/// was asked for is written in every case. A line about the fault is printed to `faults`; a failure
-/// to print it has no effect.
+/// or a flush that fails ends the run with status 3.
+///
+/// Unless the usage is wrong, a prefix of the requested output is written in every case. A line
+/// about the fault is printed to `faults`. A failure to print it has no effect.
 pub fn run<R: Read, W: Write, F: Write>(
     _alloc: Global,
     words: &[String],

@@ -10,9 +10,11 @@ use std::fmt::Write;
 // The size of the first buffer for an argument.
 const FIRST_LEN: usize = 256;
 
-/// Returns the arguments of the command line, without the name of the program. In an argument that
-/// is not UTF-8, each byte that belongs to no character is written as `\x` and its two hexadecimal
-/// digits; no verb and no name has a backslash.
+/// Returns the arguments of the command line, without the name of the program.
+///
+/// In an argument that is not UTF-8, each byte that belongs to no character is written as `\x` and
+/// its two hexadecimal digits. No verb and no name has a backslash. Returns an error only if memory
+/// runs out.
 pub fn words_of(rt: &HostRuntime) -> Result<Vec<String>, AllocError> {
     let mut words = Vec::new(rt.alloc());
     for index in 1..usize::MAX {

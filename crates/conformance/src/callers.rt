@@ -1,4 +1,4 @@
-//! Small functions of a user, each proved from the contracts of the calls that it makes.
+//! Small functions of a user, each proved from the contracts of its calls.
 
 ghost use Rattle.std.specs.Prelude.{◌≡◌, ◌⊎◌, ◌↔◌, ◌<◌, ◌≤◌, ◌++◌, length, is_some, is_ok, Err, Ok, IsTrue, IfErr, IfOk, IfSome, OnErr, OnOk};
 ghost use Rattle.std.specs.String.{string_bytes};
@@ -30,7 +30,7 @@ pub mod runs;
 pub mod stored;
 pub mod streamed;
 
-/// The reason why data did not come back.
+/// The reason why data was not returned.
 #[derive(Debug, Drop)]
 pub enum Trouble {
     /// No encoding is built from the specification.
@@ -57,7 +57,7 @@ impl From<AllocError> for Trouble {
     }
 }
 
-/// Returns the data again, by way of its text.
+/// Returns `input` again: it is encoded, and its text decoded.
 pub fn there_and_back(
     alloc: Global,
     specification: &Specification,
@@ -89,7 +89,7 @@ pub fn there_and_back(
     }
 }
 
-/// Decodes a text with a byte that is no symbol, at position 1.
+/// Decodes a text with a byte that is not a symbol, at position 1.
 pub fn no_symbol(alloc: Global) -> Result<Vec<u8>, DecodeFault>
     ensures { (result ≡ Err (fault_at 1 DecodeKind.Symbol))
         ⊎ (result ≡ Err DecodeFault.OutOfMemory) }
@@ -97,15 +97,16 @@ pub fn no_symbol(alloc: Global) -> Result<Vec<u8>, DecodeFault>
     hexlower().decode(alloc, b"4G")
 }
 
-/// Decodes a text of an odd length, which is judged before memory is allocated.
+/// Decodes a text of odd length. Its fault is found before memory is allocated.
 pub fn odd_length(alloc: Global) -> Result<Vec<u8>, DecodeFault>
     ensures { result ≡ Err (fault_at 2 DecodeKind.Length) }
 {
     hexlower().decode(alloc, b"4G4")
 }
 
-/// Returns the symbols of the encoding that is asked for, if there is one: they are those that were
-/// asked for.
+/// Returns the symbols of the encoding that `specification` describes, or `None` if it is refused.
+///
+/// They are the symbols of the specification.
 pub fn symbols_of(
     alloc: Global,
     specification: &Specification,
@@ -121,8 +122,9 @@ pub fn symbols_of(
     }
 }
 
-/// Whether `decode_len` refuses the length of the text and `decode` the text with the same fault:
-/// they do if the length has one.
+/// Returns `true` if `decode_len` and `decode` return the same fault for the length of `text`.
+///
+/// This is so if and only if the length has a fault.
 pub fn is_refused_alike(alloc: Global, encoding: &Encoding, text: &[u8]) -> bool
     requires limit { length text.now ≤ DECODE_LIMIT }
     ensures { result ≡ is_some (length_fault encoding.now (length text.now)) }
@@ -137,8 +139,9 @@ pub fn is_refused_alike(alloc: Global, encoding: &Encoding, text: &[u8]) -> bool
     }
 }
 
-/// Whether the encoding that is built from the specification of the one is equal to the other: it
-/// is if the two are equal.
+/// Returns `true` if the encoding built from the specification of `encoding` is equal to `other`.
+///
+/// This is so if and only if the two encodings are equal.
 pub fn is_built_again(
     alloc: Global,
     encoding: &Encoding,
@@ -155,8 +158,10 @@ pub fn is_built_again(
     }
 }
 
-/// Whether an encoding is canonical and two texts decode to the same bytes: that is so exactly if
-/// the encoding is canonical and they are the same text. An error is that of decoding one of them.
+/// Returns `true` if an encoding is canonical and two texts decode to the same bytes.
+///
+/// This is so if and only if the encoding is canonical and the texts are equal. Returns an error if
+/// one of them cannot be decoded.
 pub fn is_one_text(
     alloc: Global,
     encoding: &Encoding,
@@ -180,9 +185,10 @@ pub fn is_one_text(
     Ok(bytes.as_slice() == others.as_slice())
 }
 
-/// Returns the data of a text that may be used instead of it, such as a token or a name: no other
-/// text has the same data. Returns `None` if the encoding is not canonical, or the text means no
-/// data.
+/// Returns the data of a text that may be compared in place of its data, such as a token or a name.
+///
+/// No other text has the same data. Returns `None` if the encoding is not canonical, or the text
+/// means no data.
 pub fn data_of_token(
     alloc: Global,
     encoding: &Encoding,
@@ -207,7 +213,7 @@ pub fn data_of_token(
     }
 }
 
-/// Appends the text of data that comes in two pieces: that of the pieces joined.
+/// Appends the text of data that comes in two pieces.
 ///
 /// If memory runs out, the text of some blocks may have been appended.
 pub fn encoded_in_two(

@@ -1,5 +1,6 @@
-//! What the libraries promise to their users: callers that are proved from public clauses only. The
-//! tests of public calls are in the crate `conformance_tests`.
+//! The promises of the libraries to their users: callers that are proved from public clauses only.
+//!
+//! The crate `conformance_tests` has the tests of public calls.
 #![tactic(auto)]
 
 pub mod callers;

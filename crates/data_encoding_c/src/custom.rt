@@ -1,4 +1,4 @@
-//! Calls with an encoding of the caller, which it holds as plain data.
+//! Calls with an encoding of the caller, as plain data.
 
 ghost use Rattle.data_encoding.specs.Fields.{base_of};
 ghost use Rattle.data_encoding.specs.Plain.{base_of_plain};
@@ -12,7 +12,7 @@ use data_encoding_calls::{
     custom_is_canonical, custom_layout, custom_new, custom_read,
 };
 
-/// Returns the encoding that is asked for, or the reason why there is none.
+/// Exports [`custom_new`].
 #[unsafe(no_mangle)]
 pub extern "C" fn de_custom_new(
     form: &Form,
@@ -28,7 +28,7 @@ pub extern "C" fn de_custom_new(
     custom_new(form, symbols, ignore, separator, from, to)
 }
 
-/// Writes the length of the text of `len` bytes to `text_len`.
+/// Exports [`custom_encode_len`].
 #[unsafe(no_mangle)]
 pub extern "C" fn de_custom_encode_len(
     held: &PlainEncoding,
@@ -40,7 +40,7 @@ pub extern "C" fn de_custom_encode_len(
     custom_encode_len(held, len, text_len)
 }
 
-/// Writes the text of data to the start of the output, and its length to `written`.
+/// Exports [`custom_encode`].
 #[unsafe(no_mangle)]
 pub extern "C" fn de_custom_encode(
     held: &PlainEncoding,
@@ -54,8 +54,7 @@ pub extern "C" fn de_custom_encode(
     custom_encode(held, input, output, written)
 }
 
-/// Writes the greatest number of bytes that a text of `len` bytes may mean to `most`, or the
-/// position of the fault of that length.
+/// Exports [`custom_decode_len`].
 #[unsafe(no_mangle)]
 pub extern "C" fn de_custom_decode_len(held: &PlainEncoding, len: usize, most: &mut usize) -> u32
     ensures { TellsMost (base_of_plain held.now) len most.old most.new result }
@@ -63,7 +62,7 @@ pub extern "C" fn de_custom_decode_len(held: &PlainEncoding, len: usize, most: &
     custom_decode_len(held, len, most)
 }
 
-/// Writes the data that a text means to the start of the output, or the data before its fault.
+/// Exports [`custom_decode`].
 #[unsafe(no_mangle)]
 pub extern "C" fn de_custom_decode(
     held: &PlainEncoding,
@@ -77,7 +76,7 @@ pub extern "C" fn de_custom_decode(
     custom_decode(held, input, output, decoded)
 }
 
-/// Sets `answer` to whether no two different texts decode to the same data.
+/// Exports [`custom_is_canonical`].
 #[unsafe(no_mangle)]
 pub extern "C" fn de_custom_is_canonical(held: &PlainEncoding, answer: &mut bool) -> u32
     ensures { TellsCanonical (base_of_plain held.now) answer.new result }
@@ -85,8 +84,7 @@ pub extern "C" fn de_custom_is_canonical(held: &PlainEncoding, answer: &mut bool
     custom_is_canonical(held, answer)
 }
 
-/// Writes the layout of the encoding to the start of the output, and its length, at most 770, to
-/// `written`.
+/// Exports [`custom_layout`].
 #[unsafe(no_mangle)]
 pub extern "C" fn de_custom_layout(
     held: &PlainEncoding,
@@ -99,7 +97,7 @@ pub extern "C" fn de_custom_layout(
     custom_layout(held, output, written)
 }
 
-/// Returns the encoding with this layout, if the bytes are one.
+/// Exports [`custom_read`].
 #[unsafe(no_mangle)]
 pub extern "C" fn de_custom_read(bytes: &[u8]) -> Made
     ensures { MakesOfLayout bytes.now result }

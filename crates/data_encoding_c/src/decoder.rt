@@ -15,7 +15,7 @@ use data_encoding_calls::{
     numbered_decoder_finish, numbered_decoder_most, numbered_decoder_read, plain_decoder_new,
 };
 
-/// Sets what is kept of the empty text, for every encoding.
+/// Exports [`plain_decoder_new`].
 #[unsafe(no_mangle)]
 pub extern "C" fn de_plain_decoder_new(decoder: &mut PlainKept)
     ensures { (base : Base) → IsSpecified base → HasConsumed base decoder.new [] }
@@ -23,7 +23,7 @@ pub extern "C" fn de_plain_decoder_new(decoder: &mut PlainKept)
     plain_decoder_new(decoder);
 }
 
-/// Writes the greatest number of bytes that `len` more bytes of the text may complete to `most`.
+/// Exports [`numbered_decoder_most`].
 #[unsafe(no_mangle)]
 pub extern "C" fn de_numbered_decoder_most(
     number: u32,
@@ -37,8 +37,7 @@ pub extern "C" fn de_numbered_decoder_most(
     numbered_decoder_most(number, decoder, len, most)
 }
 
-/// Reads a piece, and writes the bytes of the groups that are then whole to the start of the
-/// output, and their number to `written`.
+/// Exports [`numbered_decoder_read`].
 #[unsafe(no_mangle)]
 pub extern "C" fn de_numbered_decoder_read(
     number: u32,
@@ -53,8 +52,7 @@ pub extern "C" fn de_numbered_decoder_read(
     numbered_decoder_read(number, decoder, piece, output, written)
 }
 
-/// Ends the text: writes the bytes of a last group to the start of the output, and returns the
-/// verdict on the whole text.
+/// Exports [`numbered_decoder_finish`].
 #[unsafe(no_mangle)]
 pub extern "C" fn de_numbered_decoder_finish(
     number: u32,
@@ -68,7 +66,7 @@ pub extern "C" fn de_numbered_decoder_finish(
     numbered_decoder_finish(number, decoder, output, decoded)
 }
 
-/// Writes the greatest number of bytes that `len` more bytes of the text may complete to `most`.
+/// Exports [`custom_decoder_most`].
 #[unsafe(no_mangle)]
 pub extern "C" fn de_custom_decoder_most(
     held: &PlainEncoding,
@@ -81,8 +79,7 @@ pub extern "C" fn de_custom_decoder_most(
     custom_decoder_most(held, decoder, len, most)
 }
 
-/// Reads a piece, and writes the bytes of the groups that are then whole to the start of the
-/// output, and their number to `written`.
+/// Exports [`custom_decoder_read`].
 #[unsafe(no_mangle)]
 pub extern "C" fn de_custom_decoder_read(
     held: &PlainEncoding,
@@ -97,8 +94,7 @@ pub extern "C" fn de_custom_decoder_read(
     custom_decoder_read(held, decoder, piece, output, written)
 }
 
-/// Ends the text: writes the bytes of a last group to the start of the output, and returns the
-/// verdict on the whole text.
+/// Exports [`custom_decoder_finish`].
 #[unsafe(no_mangle)]
 pub extern "C" fn de_custom_decoder_finish(
     held: &PlainEncoding,

@@ -17,7 +17,7 @@ use data_encoding_calls::{
 };
 use encoding_stream::KeptData;
 
-/// Sets what is kept of no data, for every encoding.
+/// Exports [`plain_encoder_new`].
 #[unsafe(no_mangle)]
 pub extern "C" fn de_plain_encoder_new(encoder: &mut KeptData)
     ensures { (base : Base) → IsSpecified base → HasWritten base encoder.new [] [] }
@@ -25,7 +25,7 @@ pub extern "C" fn de_plain_encoder_new(encoder: &mut KeptData)
     plain_encoder_new(encoder);
 }
 
-/// Writes the length of the text that `len` more bytes of the data complete to `most`.
+/// Exports [`numbered_encoder_most`].
 #[unsafe(no_mangle)]
 pub extern "C" fn de_numbered_encoder_most(
     number: u32,
@@ -39,8 +39,7 @@ pub extern "C" fn de_numbered_encoder_most(
     numbered_encoder_most(number, encoder, len, most)
 }
 
-/// Reads a piece, and writes the text of the blocks that are then whole to the start of the output,
-/// and its length to `written`.
+/// Exports [`numbered_encoder_read`].
 #[unsafe(no_mangle)]
 pub extern "C" fn de_numbered_encoder_read(
     number: u32,
@@ -55,8 +54,7 @@ pub extern "C" fn de_numbered_encoder_read(
     numbered_encoder_read(number, encoder, piece, output, written)
 }
 
-/// Ends the data: writes the text of the bytes held to the start of the output, and its length to
-/// `written`.
+/// Exports [`numbered_encoder_finish`].
 #[unsafe(no_mangle)]
 pub extern "C" fn de_numbered_encoder_finish(
     number: u32,
@@ -70,7 +68,7 @@ pub extern "C" fn de_numbered_encoder_finish(
     numbered_encoder_finish(number, encoder, output, written)
 }
 
-/// Writes the length of the text that `len` more bytes of the data complete to `most`.
+/// Exports [`custom_encoder_most`].
 #[unsafe(no_mangle)]
 pub extern "C" fn de_custom_encoder_most(
     held: &PlainEncoding,
@@ -83,8 +81,7 @@ pub extern "C" fn de_custom_encoder_most(
     custom_encoder_most(held, encoder, len, most)
 }
 
-/// Reads a piece, and writes the text of the blocks that are then whole to the start of the output,
-/// and its length to `written`.
+/// Exports [`custom_encoder_read`].
 #[unsafe(no_mangle)]
 pub extern "C" fn de_custom_encoder_read(
     held: &PlainEncoding,
@@ -99,8 +96,7 @@ pub extern "C" fn de_custom_encoder_read(
     custom_encoder_read(held, encoder, piece, output, written)
 }
 
-/// Ends the data: writes the text of the bytes held to the start of the output, and its length to
-/// `written`.
+/// Exports [`custom_encoder_finish`].
 #[unsafe(no_mangle)]
 pub extern "C" fn de_custom_encoder_finish(
     held: &PlainEncoding,

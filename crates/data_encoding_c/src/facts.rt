@@ -1,4 +1,4 @@
-//! Facts about an encoding, and a specification from which it can be built.
+//! Properties of an encoding, and a specification from which it can be built again.
 
 ghost use Rattle.std.specs.Prelude.{◌≡◌};
 ghost use Rattle.data_encoding.specs.Plain.{base_of_plain};
@@ -12,8 +12,7 @@ use data_encoding_calls::{
     numbered_bit_width, numbered_encode_align, numbered_specification,
 };
 
-/// Writes the number of bytes in a block, which is a whole group of symbols or a whole line, to
-/// `align`.
+/// Exports [`numbered_encode_align`].
 #[unsafe(no_mangle)]
 pub extern "C" fn de_numbered_encode_align(number: u32, align: &mut usize) -> u32
     ensures { ByNumber number result (align.new ≡ align.old)
@@ -22,8 +21,7 @@ pub extern "C" fn de_numbered_encode_align(number: u32, align: &mut usize) -> u3
     numbered_encode_align(number, align)
 }
 
-/// Writes the number of bytes in a block, which is a whole group of symbols or a whole line, to
-/// `align`.
+/// Exports [`custom_encode_align`].
 #[unsafe(no_mangle)]
 pub extern "C" fn de_custom_encode_align(held: &PlainEncoding, align: &mut usize) -> u32
     ensures { TellsAlignment (base_of_plain held.now) align.new result }
@@ -31,7 +29,7 @@ pub extern "C" fn de_custom_encode_align(held: &PlainEncoding, align: &mut usize
     custom_encode_align(held, align)
 }
 
-/// Writes the number of bits of a symbol to `width`.
+/// Exports [`numbered_bit_width`].
 #[unsafe(no_mangle)]
 pub extern "C" fn de_numbered_bit_width(number: u32, width: &mut usize) -> u32
     ensures { ByNumber number result (width.new ≡ width.old)
@@ -40,7 +38,7 @@ pub extern "C" fn de_numbered_bit_width(number: u32, width: &mut usize) -> u32
     numbered_bit_width(number, width)
 }
 
-/// Writes the number of bits of a symbol to `width`.
+/// Exports [`custom_bit_width`].
 #[unsafe(no_mangle)]
 pub extern "C" fn de_custom_bit_width(held: &PlainEncoding, width: &mut usize) -> u32
     ensures { TellsWidth (base_of_plain held.now) width.new result }
@@ -48,8 +46,7 @@ pub extern "C" fn de_custom_bit_width(held: &PlainEncoding, width: &mut usize) -
     custom_bit_width(held, width)
 }
 
-/// Writes the specification of the encoding: its texts one after another to the start of the
-/// output, their lengths, and its numbers.
+/// Exports [`numbered_specification`].
 #[unsafe(no_mangle)]
 pub extern "C" fn de_numbered_specification(
     number: u32,
@@ -63,8 +60,7 @@ pub extern "C" fn de_numbered_specification(
     numbered_specification(number, form, lengths, texts)
 }
 
-/// Writes the specification of the encoding: its texts one after another to the start of the
-/// output, their lengths, and its numbers.
+/// Exports [`custom_specification`].
 #[unsafe(no_mangle)]
 pub extern "C" fn de_custom_specification(
     held: &PlainEncoding,

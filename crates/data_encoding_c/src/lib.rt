@@ -1,5 +1,5 @@
 //! The encodings for programs in C: one export for each call of `data_encoding_calls`, with its
-//! clause.
+//! clauses.
 //!
 //! `include/data_encoding.h` states the conditions on pointers.
 #![tactic(auto)]

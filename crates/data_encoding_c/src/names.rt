@@ -4,8 +4,7 @@ ghost use Rattle.data_encoding_calls.specs.Names.{FindsNumber, WritesName};
 
 use data_encoding_calls::{named_number, numbered_name};
 
-/// Writes the name of an encoding to the start of the output, and its length, at most 22, to
-/// `written`.
+/// Exports [`numbered_name`].
 #[unsafe(no_mangle)]
 pub extern "C" fn de_numbered_name(number: u32, output: &mut [u8], written: &mut usize) -> u32
     ensures { WritesName number output.old output.new written.old written.new result }
@@ -13,7 +12,7 @@ pub extern "C" fn de_numbered_name(number: u32, output: &mut [u8], written: &mut
     numbered_name(number, output, written)
 }
 
-/// Writes the number of the encoding with this name to `number`.
+/// Exports [`named_number`].
 #[unsafe(no_mangle)]
 pub extern "C" fn de_named_number(name: &[u8], number: &mut u32) -> u32
     ensures { FindsNumber name.now number.old number.new result }

@@ -9,7 +9,7 @@ use data_encoding_calls::{
     numbered_is_canonical,
 };
 
-/// Writes the length of the text of `len` bytes to `text_len`.
+/// Exports [`numbered_encode_len`].
 #[unsafe(no_mangle)]
 pub extern "C" fn de_numbered_encode_len(number: u32, len: usize, text_len: &mut usize) -> u32
     ensures { ByNumber number result (text_len.new ≡ text_len.old)
@@ -18,7 +18,7 @@ pub extern "C" fn de_numbered_encode_len(number: u32, len: usize, text_len: &mut
     numbered_encode_len(number, len, text_len)
 }
 
-/// Writes the text of data to the start of the output, and its length to `written`.
+/// Exports [`numbered_encode`].
 #[unsafe(no_mangle)]
 pub extern "C" fn de_numbered_encode(
     number: u32,
@@ -32,8 +32,7 @@ pub extern "C" fn de_numbered_encode(
     numbered_encode(number, input, output, written)
 }
 
-/// Writes the greatest number of bytes that a text of `len` bytes may mean to `most`, or the
-/// position of the fault of that length.
+/// Exports [`numbered_decode_len`].
 #[unsafe(no_mangle)]
 pub extern "C" fn de_numbered_decode_len(number: u32, len: usize, most: &mut usize) -> u32
     ensures { ByNumber number result (most.new ≡ most.old)
@@ -42,7 +41,7 @@ pub extern "C" fn de_numbered_decode_len(number: u32, len: usize, most: &mut usi
     numbered_decode_len(number, len, most)
 }
 
-/// Writes the data that a text means to the start of the output, or the data before its fault.
+/// Exports [`numbered_decode`].
 #[unsafe(no_mangle)]
 pub extern "C" fn de_numbered_decode(
     number: u32,
@@ -56,7 +55,7 @@ pub extern "C" fn de_numbered_decode(
     numbered_decode(number, input, output, decoded)
 }
 
-/// Sets `answer` to whether no two different texts decode to the same data.
+/// Exports [`numbered_is_canonical`].
 #[unsafe(no_mangle)]
 pub extern "C" fn de_numbered_is_canonical(number: u32, answer: &mut bool) -> u32
     ensures { ByNumber number result (answer.new ≡ answer.old)

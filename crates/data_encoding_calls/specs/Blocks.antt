@@ -1,4 +1,4 @@
--- Data in pieces: what calls do with what a caller keeps of it.
+-- Data in pieces: the effect of calls on the state that a caller keeps.
 use Rattle.std.specs.Prelude.{◌≡◌, ℕ, nat_lt, List, ◌++◌, length, if◌then◌else◌}
 use Rattle.data_encoding.specs.Base.{Base}
 use Rattle.data_encoding.specs.Lengths.{alignment}
@@ -9,36 +9,38 @@ use Rattle.encoding_stream.specs.Blocks.{EncodesOn, EndsBlocks}
 use Rattle.data_encoding_calls.specs.Calls.{encode_len_status, front_status, over}
 use Rattle.data_encoding_calls.specs.Status.{ok, too_long, no_encoder}
 
--- the text of the bytes held
+-- The text of the held bytes.
 abbrev pub last_text : Base → KeptData → List ℕ
 last_text base kept = text_of base (held_data kept)
 
--- this status if less than a block is held, or that of numbers that no encoder keeps
+-- The status `status` if less than a block is held, or else the status for numbers that are not a
+-- state of an encoder.
 abbrev pub if_kept : Base → KeptData → ℕ → ℕ
 if_kept base kept status = if nat_lt kept.count (alignment base) then status else no_encoder
 
--- the status of a piece whose text has this much room
+-- The status of a piece, for an output of `room` bytes.
 abbrev pub piece_status : Base → KeptData → List ℕ → ℕ → ℕ
 piece_status base kept piece room =
     if nat_lt 36028797018963967 (length piece) then too_long
     else front_status (piece_text base kept piece) room
 
--- A call wrote the length of the text that this many more bytes complete, or refused.
+-- The call wrote the length of the text that `len` more bytes complete, or failed and changed
+-- nothing.
 pub record TellsDue (base : Base) (kept : KeptData) (len old new answer : ℕ) : Type 0 where
   pub status : answer ≡ if_kept base kept (encode_len_status len)
   pub value : answer ≡ ok → (piece : List ℕ) → length piece ≡ len
       → length (piece_text base kept piece) ≡ new
   pub refused : (answer ≡ ok → ⊥) → new ≡ old
 
--- What a call that reads a piece of data may change: the caller's encoder, the output, and the
+-- The places that a call with a piece of data may change: the caller's encoder, the output, and the
 -- number of bytes written.
 pub record DataPlaces : Type 0 where
   pub encoder : KeptData
   pub output : List ℕ
   pub written : ℕ
 
--- A call read a piece of data and wrote the text of the blocks that are then whole to the start of
--- the output, or refused and changed nothing.
+-- The call read a piece of data and wrote the text of the blocks that it completed to the start of
+-- the output, or failed and changed nothing.
 pub record EncodesPiece (base : Base) (piece : List ℕ) (old new : DataPlaces) (answer : ℕ)
     : Type 0 where
   pub status : answer
@@ -51,8 +53,8 @@ pub record EncodesPiece (base : Base) (piece : List ℕ) (old new : DataPlaces) 
       → EncodesOn base old.encoder new.encoder piece (piece_text base old.encoder piece)
   pub refused : (answer ≡ ok → ⊥) → new ≡ old
 
--- A call wrote the text of the bytes held to the start of the output, which completes the text of
--- the data, or refused and changed nothing.
+-- The call wrote the text of the held bytes, which ends the text of the data, to the start of the
+-- output, or failed and changed nothing.
 pub record EndsData (base : Base) (kept : KeptData) (output_old output_new : List ℕ)
     (written_old written_new answer : ℕ) : Type 0 where
   pub status : answer

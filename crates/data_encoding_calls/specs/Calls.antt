@@ -1,4 +1,4 @@
--- What calls return and write.
+-- The results and the effects of calls.
 use Rattle.std.specs.Prelude.{◌≡◌, ◌↔◌, ◌⊎◌, ℕ, ◌≤◌, nat_lt, Bool, List, ◌++◌, length, take, drop, if◌then◌else◌, Option, Some, None, Result, Ok, Err, IsTrue}
 use Rattle.data_encoding.specs.declared.error.DecodeError.{DecodeError}
 use Rattle.data_encoding.specs.declared.error.DecodePartial.{DecodePartial}
@@ -13,48 +13,49 @@ use Rattle.data_encoding.specs.Text.{text_of}
 use Rattle.data_encoding_calls.specs.declared.convert.Decoded.{Decoded}
 use Rattle.data_encoding_calls.specs.Status.{ok, unknown_encoding, too_long, short_buffer, status_of_kind, status_of_fault}
 
--- an output that starts with these bytes, followed by what it had there
+-- The output `old` with its start replaced by `bytes`.
 abbrev pub over : List ℕ → List ℕ → List ℕ
 over bytes old = bytes ++ drop (length bytes) old
 
--- the status of writing these bytes into this much room
+-- The status of writing `bytes` to an output of `room` bytes.
 abbrev pub front_status : List ℕ → ℕ → ℕ
 front_status bytes room = if nat_lt room (length bytes) then short_buffer else ok
 
--- the status of a length of data
+-- The status of `len` bytes of data.
 abbrev pub encode_len_status : ℕ → ℕ
 encode_len_status len = if nat_lt 36028797018963967 len then too_long else ok
 
--- the status of encoding into this much room
+-- The status of encoding to an output of `room` bytes.
 abbrev pub encode_status : Base → List ℕ → ℕ → ℕ
 encode_status base bytes room =
     if nat_lt 36028797018963967 (length bytes) then too_long
     else if nat_lt room (length (text_of base bytes)) then short_buffer
     else ok
 
--- the status of the length of a text, or of its fault
+-- The status of the length of a text: success, or the status of its fault.
 abbrev pub status_of_len : Result ℕ DecodeError → ℕ
 status_of_len (Ok most) = ok
 status_of_len (Err error) = status_of_kind error.kind
 
--- the status of the length of a text, within the limit or not
+-- The status of a text of `len` bytes, within the limit or not.
 abbrev pub decode_len_status : Base → ℕ → ℕ
 decode_len_status base len =
     if nat_lt 2305843009213693951 len then too_long else status_of_len (decoded_len base len)
 
--- the status of a text with this fault or none, by its length and the room for its bytes
+-- The status of a text with the given fault or none, from the result for its length and the room
+-- for its data.
 abbrev pub status_by_len : Result ℕ DecodeError → Option DecodeError → ℕ → ℕ
 status_by_len (Err error) fault room = status_of_kind error.kind
 status_by_len (Ok most) fault room =
     if nat_lt room most then short_buffer else status_of_fault fault
 
--- the status of decoding into this much room
+-- The status of decoding to an output of `room` bytes.
 abbrev pub decode_status : Base → List ℕ → ℕ → ℕ
 decode_status base text room =
     if nat_lt 2305843009213693951 (length text) then too_long
     else status_by_len (decoded_len base (length text)) (fault_of base text) room
 
--- A decoding stopped at a fault: what was read means what was written.
+-- The decoding stopped at a fault, and the bytes that were read mean the bytes that were written.
 pub record HasStopped (base : Base) (text output : List ℕ) (partial : DecodePartial)
     (decoded : Decoded) : Type 0 where
   pub read : decoded.read ≡ partial.read
@@ -62,7 +63,7 @@ pub record HasStopped (base : Base) (text output : List ℕ) (partial : DecodePa
   pub position : decoded.position ≡ partial.error.position
   pub means : Means base (take decoded.read text) (take decoded.written output)
 
--- A call wrote the bytes to the start of the output, or refused and changed nothing.
+-- The call wrote `bytes` to the start of the output, or failed and changed nothing.
 pub record WritesFront (bytes output_old output_new : List ℕ)
     (written_old written_new answer : ℕ) : Type 0 where
   pub status : answer ≡ front_status bytes (length output_old)
@@ -70,14 +71,14 @@ pub record WritesFront (bytes output_old output_new : List ℕ)
   pub written : answer ≡ ok → written_new ≡ length bytes
   pub refused : (answer ≡ ok → ⊥) → (output_new ≡ output_old) × (written_new ≡ written_old)
 
--- A call wrote the length of the text of this many bytes, or refused and changed nothing.
+-- The call wrote the length of the text of `len` bytes, or failed and changed nothing.
 pub record TellsTextLength (base : Base) (len old new answer : ℕ) : Type 0 where
   pub status : answer ≡ encode_len_status len
   pub text_length : answer ≡ ok → (bytes : List ℕ) → length bytes ≡ len
       → length (text_of base bytes) ≡ new
   pub refused : (answer ≡ ok → ⊥) → new ≡ old
 
--- A call wrote the text to the start of the output, or refused and changed nothing.
+-- The call wrote the text to the start of the output, or failed and changed nothing.
 pub record Encodes (base : Base) (bytes output_old output_new : List ℕ)
     (written_old written_new answer : ℕ) : Type 0 where
   pub status : answer ≡ encode_status base bytes (length output_old)
@@ -85,8 +86,8 @@ pub record Encodes (base : Base) (bytes output_old output_new : List ℕ)
   pub written : answer ≡ ok → written_new ≡ length (text_of base bytes)
   pub refused : (answer ≡ ok → ⊥) → (output_new ≡ output_old) × (written_new ≡ written_old)
 
--- A call wrote the most bytes that a text of this length may mean, or the position of the length's
--- fault, or refused and changed nothing.
+-- The call wrote the greatest number of bytes that a text of `len` bytes may mean, or the position
+-- of the fault of that length, or failed and changed nothing.
 pub record TellsMost (base : Base) (len old new answer : ℕ) : Type 0 where
   pub status : answer ≡ decode_len_status base len
   pub value : answer ≡ ok → decoded_len base len ≡ Ok new
@@ -94,8 +95,8 @@ pub record TellsMost (base : Base) (len old new answer : ℕ) : Type 0 where
       → (answer ≡ too_long → ⊥) → new ≡ error.position
   pub refused : answer ≡ too_long → new ≡ old
 
--- A call wrote the data of a text to the start of the output, or stopped at the fault of the text,
--- or refused and changed nothing.
+-- The call wrote the data of the text to the start of the output, or stopped at the fault of the
+-- text, or failed and changed nothing.
 pub record Decodes (base : Base) (text output_old output_new : List ℕ)
     (decoded_old decoded_new : Decoded) (answer : ℕ) : Type 0 where
   pub status : answer ≡ decode_status base text (length output_old)
@@ -116,13 +117,13 @@ pub record Decodes (base : Base) (text output_old output_new : List ℕ)
   pub after : (most : ℕ) → decoded_len base (length text) ≡ Ok most
       → drop most output_new ≡ drop most output_old
 
--- A call wrote whether an encoding is canonical.
+-- The call wrote `true` if the encoding is canonical, and `false` otherwise.
 pub record TellsCanonical (base : Base) (canonical : Bool) (answer : ℕ) : Type 0 where
   pub status : answer ≡ ok
   pub is_canonical : IsTrue canonical ↔ IsCanonical base
 
--- A call with this number did the same as one with the base of its encoding, or refused a number
--- that has none and changed nothing.
+-- The call does the same as a call with the encoding of the given number. If there is none, it
+-- fails and changes nothing.
 pub record ByNumber (number answer : ℕ) (Unchanged : Type 0) (Does : Base → Type 0) : Type 0 where
   pub known : (base : Base) → IsNumbered number base → Does base
   pub unknown : fields_numbered number ≡ None → (answer ≡ unknown_encoding) × Unchanged

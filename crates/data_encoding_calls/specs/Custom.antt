@@ -1,4 +1,4 @@
--- Encodings of the caller: the specification that is asked for, and what is made from it.
+-- Encodings of the caller: the specification, and the result of building an encoding.
 use Rattle.std.specs.Prelude.{◌≡◌, ℕ, Bool, List, Option, Some, None, if◌then◌else◌, Result, Ok, Err}
 use Rattle.data_encoding.specs.declared.encoding.BitOrder.{BitOrder}
 use Rattle.data_encoding.specs.declared.encoding.BitOrder.TheVariants.{MostSignificantFirst, LeastSignificantFirst}
@@ -11,15 +11,15 @@ use Rattle.data_encoding_calls.specs.declared.make.Form.{Form}
 use Rattle.data_encoding_calls.specs.declared.make.Made.{Made}
 use Rattle.data_encoding_calls.specs.Status.{ok, no_encoding, status_of_refusal, detail_of_refusal}
 
--- the order of bits that a caller asks for
+-- The order of bits that the caller's flag means.
 abbrev pub order_asked : Bool → BitOrder
 order_asked least = if least then LeastSignificantFirst else MostSignificantFirst
 
--- the padding that a caller asks for
+-- The padding that the caller's values mean.
 abbrev pub padding_asked : Bool → ℕ → Option ℕ
 padding_asked has byte = if has then Some byte else None
 
--- the specification that a caller asks for
+-- The specification that the caller's form and texts mean.
 abbrev pub fields_asked : Form → List ℕ → List ℕ → List ℕ → List ℕ → List ℕ → Fields
 fields_asked form symbols ignored separator from to = record {
   symbols = symbols;
@@ -34,14 +34,14 @@ fields_asked form symbols ignored separator from to = record {
   to = to;
 }
 
--- What was made from a specification: its encoding, or the status of its refusal.
+-- The result of building an encoding: its base, or the status of the refusal.
 abbrev pub Makes : Result Base Refusal → Made → Type 0
 Makes (Ok base) made = (made.status ≡ ok) × (base_of_plain made.held ≡ base)
 Makes (Err refusal) made =
     (made.status ≡ status_of_refusal refusal) × (made.detail ≡ detail_of_refusal refusal)
 
--- What was made from bytes: the encoding that has them as its layout, or the status for bytes that
--- are no layout.
+-- The result of reading bytes as a layout: the encoding with this layout, or the status for bytes
+-- that are not a layout.
 pub record MakesOfLayout (bytes : List ℕ) (made : Made) : Type 0 where
   pub known : (base : Base) → IsSpecified base → layout base ≡ bytes
       → (made.status ≡ ok) × (base_of_plain made.held ≡ base)

@@ -1,4 +1,4 @@
--- What calls write about an encoding.
+-- Calls that write properties of an encoding.
 use Rattle.std.specs.Prelude.{◌≡◌, ℕ, List, ◌++◌, length}
 use Rattle.data_encoding.specs.Base.{Base}
 use Rattle.data_encoding.specs.Fields.{Fields}
@@ -10,22 +10,22 @@ use Rattle.data_encoding_calls.specs.Calls.{front_status, over}
 use Rattle.data_encoding_calls.specs.Custom.{fields_asked}
 use Rattle.data_encoding_calls.specs.Status.{ok}
 
--- A call wrote the number of bytes of data in a block.
+-- The call wrote the number of bytes of data in a block.
 pub record TellsAlignment (base : Base) (new answer : ℕ) : Type 0 where
   pub status : answer ≡ ok
   pub value : new ≡ alignment base
 
--- A call wrote the number of bits of a symbol.
+-- The call wrote the number of bits of a symbol.
 pub record TellsWidth (base : Base) (new answer : ℕ) : Type 0 where
   pub status : answer ≡ ok
   pub value : new ≡ base.width
 
--- the texts of a specification, one after another
+-- The texts of a specification, one after another.
 abbrev pub texts_of : Fields → List ℕ
 texts_of f = f.symbols ++ (f.ignored ++ (f.separator ++ (f.from ++ f.to)))
 
--- The form, with the texts of these fields, asks for the fields, and these are the lengths of the
--- texts.
+-- The form, with the texts of `fields`, means the specification `fields`, and `lengths` has the
+-- lengths of the texts.
 pub record AsksFor (fields : Fields) (form : Form) (lengths : TextLengths) : Type 0 where
   pub fields_are : fields_asked form fields.symbols fields.ignored fields.separator fields.from
       fields.to ≡ fields
@@ -35,13 +35,13 @@ pub record AsksFor (fields : Fields) (form : Form) (lengths : TextLengths) : Typ
   pub from : lengths.translate_from ≡ length fields.from
   pub to : lengths.translate_to ≡ length fields.to
 
--- What a call that writes a specification may change.
+-- The places that a call for a specification may change.
 pub record SpecificationPlaces : Type 0 where
   pub form : Form
   pub lengths : TextLengths
   pub texts : List ℕ
 
--- A call wrote the specification of an encoding, or refused and changed nothing.
+-- The call wrote the specification of the encoding, or failed and changed nothing.
 pub record GivesBack (base : Base) (old new : SpecificationPlaces) (answer : ℕ) : Type 0 where
   pub status : answer ≡ front_status (texts_of (fields_of base)) (length old.texts)
   pub texts : answer ≡ ok → new.texts ≡ over (texts_of (fields_of base)) old.texts

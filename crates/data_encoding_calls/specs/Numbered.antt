@@ -1,4 +1,4 @@
--- What calls do by the number of an encoding, or by an encoding that a caller holds.
+-- The effects of calls with the number of an encoding, or with an encoding that the caller holds.
 use Rattle.std.specs.Prelude.{◌≡◌, ℕ, List}
 use Rattle.data_encoding.specs.declared.plain.PlainEncoding.{PlainEncoding}
 use Rattle.data_encoding.specs.Plain.{base_of_plain}
@@ -12,31 +12,31 @@ use Rattle.data_encoding_calls.specs.Calls.{ByNumber, Decodes, Encodes}
 use Rattle.data_encoding_calls.specs.Facts.{GivesBack}
 use Rattle.data_encoding_calls.specs.Pieces.{EndsText, ReadsPiece}
 
--- A call encoded by the encoding with this number, or refused the number.
+-- The call encoded with the encoding of the given number, or refused the number.
 abbrev pub EncodesByNumber : ℕ → List ℕ → List ℕ → List ℕ → ℕ → ℕ → ℕ → Type 0
 EncodesByNumber number bytes output_old output_new written_old written_new answer =
     ByNumber number answer ((output_new ≡ output_old) × (written_new ≡ written_old))
     (λ base. Encodes base bytes output_old output_new written_old written_new answer)
 
--- A call decoded by the encoding with this number, or refused the number.
+-- The call decoded with the encoding of the given number, or refused the number.
 abbrev pub DecodesByNumber : ℕ → List ℕ → List ℕ → List ℕ → Decoded → Decoded → ℕ → Type 0
 DecodesByNumber number text output_old output_new decoded_old decoded_new answer =
     ByNumber number answer ((output_new ≡ output_old) × (decoded_new ≡ decoded_old))
     (λ base. Decodes base text output_old output_new decoded_old decoded_new answer)
 
--- A call ended a text by the encoding with this number, or refused the number.
+-- The call ended a text with the encoding of the given number, or refused the number.
 abbrev pub EndsTextByNumber : ℕ → PlainKept → List ℕ → List ℕ → Decoded → Decoded → ℕ → Type 0
 EndsTextByNumber number plain output_old output_new decoded_old decoded_new answer =
     ByNumber number answer ((output_new ≡ output_old) × (decoded_new ≡ decoded_old))
     (λ base. EndsText base plain output_old output_new decoded_old decoded_new answer)
 
--- A call ended data by the encoding with this number, or refused the number.
+-- The call ended data with the encoding of the given number, or refused the number.
 abbrev pub EndsDataByNumber : ℕ → KeptData → List ℕ → List ℕ → ℕ → ℕ → ℕ → Type 0
 EndsDataByNumber number kept output_old output_new written_old written_new answer =
     ByNumber number answer ((output_new ≡ output_old) × (written_new ≡ written_old))
     (λ base. EndsData base kept output_old output_new written_old written_new answer)
 
--- A call read a piece of a text by the encoding that the caller holds.
+-- The call decoded a piece of a text with the encoding that the caller holds.
 abbrev pub ReadsPieceByCustom : PlainEncoding → List ℕ → PlainKept → PlainKept
     → List ℕ → List ℕ → ℕ → ℕ → ℕ → Type 0
 ReadsPieceByCustom held piece decoder_old decoder_new output_old output_new written_old written_new
@@ -45,7 +45,7 @@ ReadsPieceByCustom held piece decoder_old decoder_new output_old output_new writ
     (record { decoder = decoder_old; output = output_old; written = written_old })
     (record { decoder = decoder_new; output = output_new; written = written_new }) answer
 
--- A call read a piece of a text by the encoding with this number, or refused the number.
+-- The call decoded a piece of a text with the encoding of the given number, or refused the number.
 abbrev pub ReadsPieceByNumber : ℕ → List ℕ → PlainKept → PlainKept
     → List ℕ → List ℕ → ℕ → ℕ → ℕ → Type 0
 ReadsPieceByNumber number piece decoder_old decoder_new output_old output_new written_old
@@ -56,7 +56,7 @@ ReadsPieceByNumber number piece decoder_old decoder_new output_old output_new wr
     (record { decoder = decoder_old; output = output_old; written = written_old })
     (record { decoder = decoder_new; output = output_new; written = written_new }) answer)
 
--- A call read a piece of data by the encoding that the caller holds.
+-- The call encoded a piece of data with the encoding that the caller holds.
 abbrev pub EncodesPieceByCustom : PlainEncoding → List ℕ → KeptData → KeptData
     → List ℕ → List ℕ → ℕ → ℕ → ℕ → Type 0
 EncodesPieceByCustom held piece encoder_old encoder_new output_old output_new written_old
@@ -65,7 +65,7 @@ EncodesPieceByCustom held piece encoder_old encoder_new output_old output_new wr
     (record { encoder = encoder_old; output = output_old; written = written_old })
     (record { encoder = encoder_new; output = output_new; written = written_new }) answer
 
--- A call read a piece of data by the encoding with this number, or refused the number.
+-- The call encoded a piece of data with the encoding of the given number, or refused the number.
 abbrev pub EncodesPieceByNumber : ℕ → List ℕ → KeptData → KeptData
     → List ℕ → List ℕ → ℕ → ℕ → ℕ → Type 0
 EncodesPieceByNumber number piece encoder_old encoder_new output_old output_new written_old
@@ -76,7 +76,7 @@ EncodesPieceByNumber number piece encoder_old encoder_new output_old output_new 
     (record { encoder = encoder_old; output = output_old; written = written_old })
     (record { encoder = encoder_new; output = output_new; written = written_new }) answer)
 
--- A call wrote the specification of the encoding that the caller holds.
+-- The call wrote the specification of the encoding that the caller holds.
 abbrev pub GivesBackByCustom : PlainEncoding → Form → Form → TextLengths → TextLengths
     → List ℕ → List ℕ → ℕ → Type 0
 GivesBackByCustom held form_old form_new lengths_old lengths_new texts_old texts_new answer =
@@ -84,7 +84,7 @@ GivesBackByCustom held form_old form_new lengths_old lengths_new texts_old texts
     (record { form = form_old; lengths = lengths_old; texts = texts_old })
     (record { form = form_new; lengths = lengths_new; texts = texts_new }) answer
 
--- A call wrote the specification of the encoding with this number, or refused the number.
+-- The call wrote the specification of the encoding of the given number, or refused the number.
 abbrev pub GivesBackByNumber : ℕ → Form → Form → TextLengths → TextLengths
     → List ℕ → List ℕ → ℕ → Type 0
 GivesBackByNumber number form_old form_new lengths_old lengths_new texts_old texts_new answer =

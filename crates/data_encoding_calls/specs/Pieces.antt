@@ -1,4 +1,4 @@
--- Texts in pieces: what a caller keeps of one, and what calls do with it.
+-- Texts in pieces: the state that a caller keeps, and the effect of calls on it.
 use Rattle.std.specs.Prelude.{◌≡◌, ◌⊎◌, ℕ, ◌+◌, ◌<◌, ◌==◌, ◌≤◌, nat_lt, List, ◌++◌, length, take, drop, if◌then◌else◌, Option, Some, None, IsSome}
 use Rattle.data_encoding.specs.declared.error.DecodeError.{DecodeError}
 use Rattle.data_encoding.specs.declared.error.DecodeKind.{DecodeKind}
@@ -13,7 +13,7 @@ use Rattle.data_encoding_calls.specs.declared.convert.Decoded.{Decoded}
 use Rattle.data_encoding_calls.specs.declared.pieces.PlainKept.{PlainKept}
 use Rattle.data_encoding_calls.specs.Status.{ok, too_long, short_buffer, no_decoder, status_of_fault}
 
--- the kind of fault that has this status, if any
+-- The kind of fault with the given status, if there is one.
 abbrev pub kind_told : ℕ → Option DecodeKind
 kind_told status =
     if status == 6 then Some Length
@@ -22,18 +22,18 @@ kind_told status =
     else if status == 9 then Some Padding
     else None
 
--- the fault of this kind at this position, if the kind is known
+-- The fault of the given kind and position, if the kind is known.
 abbrev pub fault_at_position : ℕ → Option DecodeKind → Option (Option DecodeError)
 fault_at_position position None = None
 fault_at_position position (Some kind) = Some (Some (record { position = position; kind = kind }))
 
--- the fault that a status and a position describe, or that there is none; nothing if the status is
--- that of no fault
+-- The fault that a status and a position mean, or `Some None` for no fault. It is `None` if the
+-- status is neither 0 nor the status of a fault.
 abbrev pub fault_told : ℕ → ℕ → Option (Option DecodeError)
 fault_told status position =
     if status == 0 then Some None else fault_at_position position (kind_told status)
 
--- what plain numbers describe as kept, with this fault
+-- The state that the plain numbers mean, with the given fault.
 abbrev pub kept_with : PlainKept → Option (Option DecodeError) → Option Kept
 kept_with plain None = None
 kept_with plain (Some fault) = Some (record {
@@ -45,17 +45,17 @@ kept_with plain (Some fault) = Some (record {
   ended = plain.ended == 1;
 })
 
--- what plain numbers describe as kept, if their status is valid
+-- The state that the plain numbers mean, if their status is valid.
 abbrev pub kept_told : PlainKept → Option Kept
 kept_told plain = kept_with plain (fault_told plain.fault plain.fault_position)
 
--- The caller's numbers pass the tests of what a decoder may keep.
+-- The caller's numbers pass the checks of a state of a decoder.
 pub record MayBeGiven (base : Base) (plain : PlainKept) : Type 0 where
   pub kept : Kept
   pub told : kept_told plain ≡ Some kept
   pub passes : MayBeKept base kept
 
--- The caller's decoder was given this text.
+-- The caller's decoder was given `text`.
 pub record HasConsumed (base : Base) (plain : PlainKept) (text : List ℕ) : Type 0 where
   pub kept : Kept
   pub told : kept_told plain ≡ Some kept
@@ -63,18 +63,19 @@ pub record HasConsumed (base : Base) (plain : PlainKept) (text : List ℕ) : Typ
   pub limit : length text ≤ 2305843009213693951
   pub clear : IsSome kept.fault → kept.count ≡ 0
 
--- the status of this many more bytes
+-- The status of `len` more bytes.
 abbrev pub length_status : Kept → ℕ → ℕ
 length_status kept len = if nat_lt 2305843009213693951 (kept.len + len) then too_long else ok
 
--- the status of a piece of this length, with this much room
+-- The status of a piece of `len` bytes, for an output of `room` bytes.
 abbrev pub piece_status : Base → Kept → ℕ → ℕ → ℕ
 piece_status base kept len room =
     if nat_lt 2305843009213693951 (kept.len + len) then too_long
     else if nat_lt room (most_completed base kept len) then short_buffer
     else ok
 
--- A call wrote how many bytes this many more bytes of the text may complete, or refused.
+-- The call wrote the greatest number of bytes that `len` more bytes of the text may complete, or
+-- failed and changed nothing.
 pub record TellsRoom (base : Base) (plain : PlainKept) (len old new answer : ℕ) : Type 0 where
   pub status : (text : List ℕ) (stands : HasConsumed base plain text)
       → answer ≡ length_status stands.kept len
@@ -82,15 +83,15 @@ pub record TellsRoom (base : Base) (plain : PlainKept) (len old new answer : ℕ
       → new ≡ most_completed base stands.kept len
   pub refused : (answer ≡ ok → ⊥) → new ≡ old
 
--- What a call that reads a piece may change: the caller's decoder, the output, and the number of
--- bytes written.
+-- The places that a call with a piece may change: the caller's decoder, the output, and the number
+-- of bytes written.
 pub record Places : Type 0 where
   pub decoder : PlainKept
   pub output : List ℕ
   pub written : ℕ
 
--- A call read a piece and wrote the bytes of the groups that are then whole to the start of the
--- output, or refused and changed nothing.
+-- The call read a piece and wrote the bytes of the groups that it completed to the start of the
+-- output, or failed and changed nothing.
 pub record ReadsPiece (base : Base) (piece : List ℕ) (old new : Places) (answer : ℕ) : Type 0 where
   pub status : (text : List ℕ) (stands : HasConsumed base old.decoder text)
       → answer ≡ piece_status base stands.kept (length piece) (length old.output)
@@ -105,8 +106,8 @@ pub record ReadsPiece (base : Base) (piece : List ℕ) (old new : Places) (answe
   pub len : length new.output ≡ length old.output
   pub refused : (answer ≡ ok → ⊥) → new ≡ old
 
--- A call wrote the bytes of a last group to the start of the output and returned the verdict on the
--- text, or refused and changed nothing.
+-- The call wrote the bytes of the last group to the start of the output and returned the status of
+-- the text, or failed and changed nothing.
 pub record EndsText (base : Base) (plain : PlainKept) (output_old output_new : List ℕ)
     (decoded_old decoded_new : Decoded) (answer : ℕ) : Type 0 where
   pub verdict : (answer ≡ short_buffer → ⊥) → (text : List ℕ) → HasConsumed base plain text

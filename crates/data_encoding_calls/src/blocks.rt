@@ -1,4 +1,4 @@
-//! Data in pieces: what each call does with what a caller keeps of it between calls.
+//! Data in pieces: the effect of each call on the state that the caller keeps between calls.
 
 ghost use Rattle.data_encoding_calls.specs.Blocks.{EncodesPiece, EndsData, TellsDue};
 
@@ -6,7 +6,7 @@ use crate::status::{NO_ENCODER, OK, SHORT_BUFFER, TOO_LONG};
 use data_encoding::{ENCODE_LIMIT, EncodingRef};
 use encoding_stream::{BufferEncoder, KeptData};
 
-/// Writes the length of the text that `len` more bytes of the data complete to `most`.
+/// Writes the length of the text that `len` more bytes of data complete to `most`.
 pub(crate) fn due_by(
     encoding: &EncodingRef<'_>,
     kept: &KeptData,
@@ -25,7 +25,7 @@ pub(crate) fn due_by(
     OK
 }
 
-/// Reads a piece, and writes the text of the blocks that are then whole to the start of the output.
+/// Encodes a piece: writes the text of the blocks that it completes to the start of `output`.
 pub(crate) fn take_by(
     encoding: &EncodingRef<'_>,
     kept: &mut KeptData,
@@ -51,7 +51,7 @@ pub(crate) fn take_by(
     OK
 }
 
-/// Ends the data: writes the text of the bytes held to the start of the output.
+/// Ends the data: writes the text of the held bytes to the start of `output`.
 pub(crate) fn end_by(
     encoding: &EncodingRef<'_>,
     kept: &KeptData,

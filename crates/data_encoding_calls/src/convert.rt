@@ -1,4 +1,4 @@
-//! What each call does with an encoding, however the caller gave it.
+//! The effect of each call for an encoding, whether it is given by number or as plain data.
 
 ghost use Rattle.std.specs.Prelude.{◌≡◌, ◌↔◌, ◌≤◌, ◌⊎◌, ℕ, List, length, take, drop, IsTrue, Ok, Err, Some};
 ghost use Rattle.data_encoding.specs.Canonical.{IsCanonical};
@@ -25,7 +25,7 @@ pub(crate) fn encode_len_by(encoding: &EncodingRef<'_>, len: usize, text_len: &m
     OK
 }
 
-/// Writes the text of data to the start of the output.
+/// Writes the text of `input` to the start of `output`.
 #[inline(always)]
 pub(crate) fn encode_by(
     encoding: &EncodingRef<'_>,
@@ -52,17 +52,17 @@ pub(crate) fn encode_by(
     OK
 }
 
-/// What a decoding returns.
+/// The result of a decoding.
 #[repr(C)]
 #[derive(Clone, Copy, Drop)]
 pub struct Decoded {
-    /// How many bytes of the text were read.
+    /// The number of bytes of the text that were read.
     pub read: usize,
 
-    /// How many bytes of data they mean. These are at the start of the output.
+    /// The number of bytes of data that they mean. These are at the start of the output.
     pub written: usize,
 
-    /// The position of the fault of the text, or its length if it has none.
+    /// The position of the fault of the text, or the length of the text if it has none.
     pub position: usize,
 }
 
@@ -90,8 +90,9 @@ pub(crate) fn decode_len_by(encoding: &EncodingRef<'_>, len: usize, most: &mut u
     }
 }
 
-/// Writes the data that a text means to the start of the output, of which only as many bytes are
-/// used as the length of the text may mean.
+/// Writes the data that the text `input` means to the start of `output`.
+///
+/// Uses only as many bytes of `output` as a text of that length may mean.
 #[inline(always)]
 pub(crate) fn decode_by(
     encoding: &EncodingRef<'_>,
@@ -157,7 +158,7 @@ pub(crate) fn decode_by(
     }
 }
 
-/// Sets `answer` to whether no two different texts decode to the same data.
+/// Sets `answer` to `true` if no two different texts mean the same data, and to `false` otherwise.
 pub(crate) fn is_canonical_by(encoding: &EncodingRef<'_>, answer: &mut bool) -> u32
     ensures status { result ≡ OK }
     ensures canonical { IsTrue answer.new ↔ IsCanonical encoding.now }

@@ -1,5 +1,5 @@
-//! Encodings of the caller, which it holds as plain data. Their tables are in that data, so that a
-//! call neither builds nor copies them.
+//! Calls with an encoding of the caller, as plain data. A call neither builds nor copies its
+//! tables.
 
 ghost use Rattle.std.specs.Prelude.{◌≡◌};
 ghost use Rattle.data_encoding.specs.Plain.{base_of_plain};
@@ -10,14 +10,14 @@ use crate::convert::{
 };
 use data_encoding::PlainEncoding;
 
-/// Writes the length of the text of `len` bytes to `text_len`.
+/// Like `numbered_encode_len`, for an encoding of the caller.
 pub fn custom_encode_len(held: &PlainEncoding, len: usize, text_len: &mut usize) -> u32
     ensures { TellsTextLength (base_of_plain held.now) len text_len.old text_len.new result }
 {
     encode_len_by(&held.by_ref(), len, text_len)
 }
 
-/// Writes the text of data to the start of the output, and its length to `written`.
+/// Like `numbered_encode`, for an encoding of the caller.
 pub fn custom_encode(
     held: &PlainEncoding,
     input: &[u8],
@@ -30,15 +30,14 @@ pub fn custom_encode(
     encode_by(&held.by_ref(), input, output, written)
 }
 
-/// Writes the greatest number of bytes that a text of `len` bytes may mean to `most`, or the
-/// position of the fault of that length.
+/// Like `numbered_decode_len`, for an encoding of the caller.
 pub fn custom_decode_len(held: &PlainEncoding, len: usize, most: &mut usize) -> u32
     ensures { TellsMost (base_of_plain held.now) len most.old most.new result }
 {
     decode_len_by(&held.by_ref(), len, most)
 }
 
-/// Writes the data that a text means to the start of the output, or the data before its fault.
+/// Like `numbered_decode`, for an encoding of the caller.
 pub fn custom_decode(
     held: &PlainEncoding,
     input: &[u8],
@@ -51,7 +50,7 @@ pub fn custom_decode(
     decode_by(&held.by_ref(), input, output, decoded)
 }
 
-/// Sets `answer` to whether no two different texts decode to the same data.
+/// Like `numbered_is_canonical`, for an encoding of the caller.
 pub fn custom_is_canonical(held: &PlainEncoding, answer: &mut bool) -> u32
     ensures { TellsCanonical (base_of_plain held.now) answer.new result }
 {

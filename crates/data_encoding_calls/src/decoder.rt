@@ -15,7 +15,7 @@ use crate::status::UNKNOWN_ENCODING;
 use data_encoding::laws::steps::pieces;
 use data_encoding::{PlainEncoding, predefined_numbered};
 
-/// Sets what is kept of the empty text, for every encoding.
+/// Sets `decoder` to the state after the empty text, for every encoding.
 pub fn plain_decoder_new(decoder: &mut PlainKept)
     ensures { (base : Base) → IsSpecified base → HasConsumed base decoder.new [] }
 {
@@ -32,6 +32,8 @@ pub fn plain_decoder_new(decoder: &mut PlainKept)
 }
 
 /// Writes the greatest number of bytes that `len` more bytes of the text may complete to `most`.
+///
+/// If the status is not 0, `most` is unchanged.
 pub fn numbered_decoder_most(number: u32, decoder: &PlainKept, len: usize, most: &mut usize) -> u32
     ensures { ByNumber number result (most.new ≡ most.old)
         (λ base. TellsRoom base decoder.now len most.old most.new result) }
@@ -42,8 +44,10 @@ pub fn numbered_decoder_most(number: u32, decoder: &PlainKept, len: usize, most:
     most_by(&encoding, decoder, len, most)
 }
 
-/// Reads a piece, and writes the bytes of the groups that are then whole to the start of the
-/// output, and their number to `written`.
+/// Decodes `piece`: writes the bytes of the groups that it completes to the start of `output`, and
+/// their number to `written`.
+///
+/// If the status is not 0, `decoder`, `output` and `written` are unchanged.
 pub fn numbered_decoder_read(
     number: u32,
     decoder: &mut PlainKept,
@@ -60,8 +64,12 @@ pub fn numbered_decoder_read(
     read_by(&encoding, decoder, piece, output, written)
 }
 
-/// Ends the text: writes the bytes of a last group to the start of the output, and returns the
-/// verdict on the whole text.
+/// Ends the text: writes the bytes of its last group to the start of `output`, and returns the
+/// status of the whole text.
+///
+/// `decoded` gets the length of the text, the number of bytes written, and the position of the
+/// fault. If `number` is unknown, `decoder` is not a state of a decoder, or `output` is too short,
+/// `output` and `decoded` are unchanged.
 pub fn numbered_decoder_finish(
     number: u32,
     decoder: &PlainKept,
@@ -77,7 +85,7 @@ pub fn numbered_decoder_finish(
     finish_by(&encoding, decoder, output, decoded)
 }
 
-/// Writes the greatest number of bytes that `len` more bytes of the text may complete to `most`.
+/// Like `numbered_decoder_most`, for an encoding of the caller.
 pub fn custom_decoder_most(
     held: &PlainEncoding,
     decoder: &PlainKept,
@@ -89,8 +97,7 @@ pub fn custom_decoder_most(
     most_by(&held.by_ref(), decoder, len, most)
 }
 
-/// Reads a piece, and writes the bytes of the groups that are then whole to the start of the
-/// output, and their number to `written`.
+/// Like `numbered_decoder_read`, for an encoding of the caller.
 pub fn custom_decoder_read(
     held: &PlainEncoding,
     decoder: &mut PlainKept,
@@ -104,8 +111,7 @@ pub fn custom_decoder_read(
     read_by(&held.by_ref(), decoder, piece, output, written)
 }
 
-/// Ends the text: writes the bytes of a last group to the start of the output, and returns the
-/// verdict on the whole text.
+/// Like `numbered_decoder_finish`, for an encoding of the caller.
 pub fn custom_decoder_finish(
     held: &PlainEncoding,
     decoder: &PlainKept,

@@ -16,7 +16,7 @@ use data_encoding::laws::join_encode;
 use data_encoding::{PlainEncoding, predefined_numbered};
 use encoding_stream::KeptData;
 
-/// Sets what is kept of no data, for every encoding.
+/// Sets `encoder` to the state after no data, for every encoding.
 pub fn plain_encoder_new(encoder: &mut KeptData)
     ensures { (base : Base) → IsSpecified base → HasWritten base encoder.new [] [] }
 {
@@ -27,7 +27,9 @@ pub fn plain_encoder_new(encoder: &mut KeptData)
     };
 }
 
-/// Writes the length of the text that `len` more bytes of the data complete to `most`.
+/// Writes the length of the text that `len` more bytes of data complete to `most`.
+///
+/// If the status is not 0, `most` is unchanged.
 pub fn numbered_encoder_most(number: u32, encoder: &KeptData, len: usize, most: &mut usize) -> u32
     ensures { ByNumber number result (most.new ≡ most.old)
         (λ base. TellsDue base encoder.now len most.old most.new result) }
@@ -38,8 +40,10 @@ pub fn numbered_encoder_most(number: u32, encoder: &KeptData, len: usize, most: 
     due_by(&encoding, encoder, len, most)
 }
 
-/// Reads a piece, and writes the text of the blocks that are then whole to the start of the output,
-/// and its length to `written`.
+/// Encodes `piece`: writes the text of the blocks that it completes to the start of `output`, and
+/// the length of that text to `written`.
+///
+/// If the status is not 0, `encoder`, `output` and `written` are unchanged.
 pub fn numbered_encoder_read(
     number: u32,
     encoder: &mut KeptData,
@@ -56,8 +60,10 @@ pub fn numbered_encoder_read(
     take_by(&encoding, encoder, piece, output, written)
 }
 
-/// Ends the data: writes the text of the bytes held to the start of the output, and its length to
+/// Ends the data: writes the text of the held bytes to the start of `output`, and its length to
 /// `written`.
+///
+/// If the status is not 0, `output` and `written` are unchanged.
 pub fn numbered_encoder_finish(
     number: u32,
     encoder: &KeptData,
@@ -73,7 +79,7 @@ pub fn numbered_encoder_finish(
     end_by(&encoding, encoder, output, written)
 }
 
-/// Writes the length of the text that `len` more bytes of the data complete to `most`.
+/// Like `numbered_encoder_most`, for an encoding of the caller.
 pub fn custom_encoder_most(
     held: &PlainEncoding,
     encoder: &KeptData,
@@ -85,8 +91,7 @@ pub fn custom_encoder_most(
     due_by(&held.by_ref(), encoder, len, most)
 }
 
-/// Reads a piece, and writes the text of the blocks that are then whole to the start of the output,
-/// and its length to `written`.
+/// Like `numbered_encoder_read`, for an encoding of the caller.
 pub fn custom_encoder_read(
     held: &PlainEncoding,
     encoder: &mut KeptData,
@@ -100,8 +105,7 @@ pub fn custom_encoder_read(
     take_by(&held.by_ref(), encoder, piece, output, written)
 }
 
-/// Ends the data: writes the text of the bytes held to the start of the output, and its length to
-/// `written`.
+/// Like `numbered_encoder_finish`, for an encoding of the caller.
 pub fn custom_encoder_finish(
     held: &PlainEncoding,
     encoder: &KeptData,

@@ -1,5 +1,5 @@
-//! Facts about an encoding: its block, the bits of its symbols, and a specification from which it
-//! can be built.
+//! Properties of an encoding: its block, the bits of its symbols, and a specification from which it
+//! can be built again.
 
 ghost use Rattle.std.specs.Prelude.{◌≡◌};
 ghost use Rattle.data_encoding.specs.Plain.{base_of_plain};
@@ -16,11 +16,11 @@ use data_encoding::{
     BitOrder, EncodingRef, PlainEncoding, SpecificationBytes, predefined_numbered,
 };
 
-/// The lengths of the texts of a specification.
+/// The lengths in bytes of the texts of a specification.
 #[repr(C)]
 #[derive(Clone, Copy, Drop)]
 pub struct TextLengths {
-    /// The length of the symbols.
+    /// The number of symbols.
     pub symbols: usize,
 
     /// The number of ignored bytes.
@@ -32,12 +32,12 @@ pub struct TextLengths {
     /// The number of translated bytes.
     pub translate_from: usize,
 
-    /// The number of bytes that they are translated to.
+    /// The number of bytes to which they are translated.
     pub translate_to: usize,
 }
 
-/// Writes the number of bytes in a block, which is a whole group of symbols or a whole line, to
-/// `align`.
+/// Writes the number of bytes in a block to `align`. A block is a whole line, or a whole group if
+/// there are no lines.
 pub fn numbered_encode_align(number: u32, align: &mut usize) -> u32
     ensures { ByNumber number result (align.new ≡ align.old)
         (λ base. TellsAlignment base align.new result) }
@@ -49,8 +49,7 @@ pub fn numbered_encode_align(number: u32, align: &mut usize) -> u32
     OK
 }
 
-/// Writes the number of bytes in a block, which is a whole group of symbols or a whole line, to
-/// `align`.
+/// Like `numbered_encode_align`, for an encoding of the caller.
 pub fn custom_encode_align(held: &PlainEncoding, align: &mut usize) -> u32
     ensures { TellsAlignment (base_of_plain held.now) align.new result }
 {
@@ -70,7 +69,7 @@ pub fn numbered_bit_width(number: u32, width: &mut usize) -> u32
     OK
 }
 
-/// Writes the number of bits of a symbol to `width`.
+/// Like `numbered_bit_width`, for an encoding of the caller.
 pub fn custom_bit_width(held: &PlainEncoding, width: &mut usize) -> u32
     ensures { TellsWidth (base_of_plain held.now) width.new result }
 {
@@ -78,8 +77,10 @@ pub fn custom_bit_width(held: &PlainEncoding, width: &mut usize) -> u32
     OK
 }
 
-/// Writes the specification of the encoding: its texts one after another to the start of the
-/// output, their lengths, and its numbers.
+/// Writes a specification of the encoding: its texts one after another to the start of `texts`,
+/// their lengths to `lengths`, and the rest to `form`.
+///
+/// If the status is not 0, nothing is changed.
 pub fn numbered_specification(
     number: u32,
     form: &mut Form,
@@ -95,8 +96,7 @@ pub fn numbered_specification(
     specification_by(&encoding, form, lengths, texts)
 }
 
-/// Writes the specification of the encoding: its texts one after another to the start of the
-/// output, their lengths, and its numbers.
+/// Like `numbered_specification`, for an encoding of the caller.
 pub fn custom_specification(
     held: &PlainEncoding,
     form: &mut Form,

@@ -1,8 +1,8 @@
-//! The calls of `data_encoding` for programs in other languages: the crate above this one exports
-//! each of them, with the same clause.
+//! The calls of `data_encoding` for programs in other languages. The crate `data_encoding_c`
+//! exports each of them, with the same clauses.
 //!
-//! Nothing checks a caller in another language. So no call has a condition on lengths: each call
-//! tests every length itself, and returns a status.
+//! No tool checks a caller in another language. So no call has a condition on lengths: each call
+//! checks every length itself, and returns a status.
 #![tactic(auto)]
 
 mod blocks;

@@ -1,4 +1,4 @@
-//! An encoding of the caller, made from a specification.
+//! Building an encoding of the caller from a specification.
 
 ghost use Rattle.std.specs.Prelude.{◌≡◌};
 ghost use Rattle.data_encoding.specs.Fields.{base_of};
@@ -8,44 +8,46 @@ ghost use Rattle.data_encoding_calls.specs.Custom.{Makes, fields_asked, order_as
 use crate::status::{OK, detail_of_refusal, status_of_refusal};
 use data_encoding::{BitOrder, Encoding, PlainEncoding, SpecificationParts, hexlower};
 
-/// The numbers of a specification.
+/// The parts of a specification that are not texts.
 #[repr(C)]
 #[derive(Clone, Copy, Drop)]
 pub struct Form {
-    /// The number of characters of a line, or 0.
+    /// The number of characters of a line. If it is 0, texts have no lines.
     pub wrap_width: usize,
 
     /// The character that fills the last group, if there is padding.
     pub padding: u8,
 
-    /// Whether there is padding.
+    /// `true` if there is padding.
     pub has_padding: bool,
 
-    /// Whether the bit of weight 1 comes first.
+    /// `true` if the bit of weight 1 comes first.
     pub least_significant_first: bool,
 
-    /// Whether trailing bits must be zeros.
+    /// `true` if the trailing bits of a text must be zeros.
     pub check_trailing_bits: bool,
 
-    /// Whether concatenated padded texts are decoded as one.
+    /// `true` if concatenated padded texts are decoded as one.
     pub concatenate: bool,
 }
 
-/// What is made from a specification or a layout.
+/// The result of building an encoding from a specification or a layout.
 #[repr(C)]
 #[derive(Clone, Copy, Drop)]
 pub struct Made {
-    /// Whether an encoding was made, or the reason why not.
+    /// 0 if an encoding was built, or the status of the refusal.
     pub status: u32,
 
     /// The byte or the number that a refusal names, or 0.
     pub detail: usize,
 
-    /// The encoding, if one was made, or any other.
+    /// The encoding, if one was built, and otherwise an unspecified encoding.
     pub held: PlainEncoding,
 }
 
-/// Returns the encoding that is asked for, or the reason why there is none.
+/// Returns the encoding that the specification describes, or the first reason to refuse it.
+///
+/// The specification is `form` and the texts `symbols`, `ignore`, `separator`, `from` and `to`.
 pub fn custom_new(
     form: &Form,
     symbols: &[u8],
@@ -78,7 +80,7 @@ pub fn custom_new(
     }
 }
 
-/// The result with this encoding.
+/// Returns the result with `encoding`.
 pub(crate) fn accepted(encoding: &Encoding) -> Made
     ensures status { result.status ≡ OK }
     ensures held { base_of_plain result.held ≡ encoding.now }
@@ -90,7 +92,7 @@ pub(crate) fn accepted(encoding: &Encoding) -> Made
     }
 }
 
-/// The result without an encoding.
+/// Returns the result without an encoding.
 pub(crate) fn refused(status: u32, detail: usize) -> Made
     ensures status { result.status ≡ status }
     ensures detail { result.detail ≡ detail }

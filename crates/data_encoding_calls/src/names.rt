@@ -5,8 +5,10 @@ ghost use Rattle.data_encoding_calls.specs.Names.{FindsNumber, WritesName};
 use crate::status::{OK, SHORT_BUFFER, UNKNOWN_ENCODING};
 use data_encoding::{predefined_name, predefined_number};
 
-/// Writes the name of an encoding to the start of the output, and its length, at most 22, to
-/// `written`.
+/// Writes the name of a predefined encoding to the start of `output`, and its length, at most 22,
+/// to `written`.
+///
+/// If the status is not 0, `output` and `written` are unchanged.
 pub fn numbered_name(number: u32, output: &mut [u8], written: &mut usize) -> u32
     ensures { WritesName number output.old output.new written.old written.new result }
 {
@@ -22,7 +24,9 @@ pub fn numbered_name(number: u32, output: &mut [u8], written: &mut usize) -> u32
     OK
 }
 
-/// Writes the number of the encoding with this name to `number`.
+/// Writes the number of the predefined encoding with the given name to `number`.
+///
+/// If there is none, `number` is unchanged.
 pub fn named_number(name: &[u8], number: &mut u32) -> u32
     ensures { FindsNumber name.now number.old number.new result }
 {

@@ -10,7 +10,9 @@ use crate::convert::{
 use crate::status::UNKNOWN_ENCODING;
 use data_encoding::predefined_numbered;
 
-/// Writes the length of the text of `len` bytes to `text_len`.
+/// Writes the length of the text of `len` bytes of data to `text_len`.
+///
+/// If the status is not 0, `text_len` is unchanged.
 pub fn numbered_encode_len(number: u32, len: usize, text_len: &mut usize) -> u32
     ensures { ByNumber number result (text_len.new ≡ text_len.old)
         (λ base. TellsTextLength base len text_len.old text_len.new result) }
@@ -21,7 +23,9 @@ pub fn numbered_encode_len(number: u32, len: usize, text_len: &mut usize) -> u32
     encode_len_by(&encoding, len, text_len)
 }
 
-/// Writes the text of data to the start of the output, and its length to `written`.
+/// Writes the text of the data `input` to the start of `output`, and its length to `written`.
+///
+/// If the status is not 0, `output` and `written` are unchanged.
 pub fn numbered_encode(number: u32, input: &[u8], output: &mut [u8], written: &mut usize) -> u32
     ensures { EncodesByNumber number input.now output.old output.new written.old written.new
         result }
@@ -34,6 +38,8 @@ pub fn numbered_encode(number: u32, input: &[u8], output: &mut [u8], written: &m
 
 /// Writes the greatest number of bytes that a text of `len` bytes may mean to `most`, or the
 /// position of the fault of that length.
+///
+/// If `number` is unknown or `len` is above the limit, `most` is unchanged.
 pub fn numbered_decode_len(number: u32, len: usize, most: &mut usize) -> u32
     ensures { ByNumber number result (most.new ≡ most.old)
         (λ base. TellsMost base len most.old most.new result) }
@@ -44,7 +50,11 @@ pub fn numbered_decode_len(number: u32, len: usize, most: &mut usize) -> u32
     decode_len_by(&encoding, len, most)
 }
 
-/// Writes the data that a text means to the start of the output, or the data before its fault.
+/// Writes the data that the text `input` means to the start of `output`, or the data before its
+/// fault.
+///
+/// `decoded` gets the numbers of bytes read and written, and the position of the fault. If `number`
+/// is unknown, `input` is too long or `output` is too short, `output` and `decoded` are unchanged.
 pub fn numbered_decode(number: u32, input: &[u8], output: &mut [u8], decoded: &mut Decoded) -> u32
     ensures { DecodesByNumber number input.now output.old output.new decoded.old decoded.new
         result }
@@ -55,7 +65,9 @@ pub fn numbered_decode(number: u32, input: &[u8], output: &mut [u8], decoded: &m
     decode_by(&encoding, input, output, decoded)
 }
 
-/// Sets `answer` to whether no two different texts decode to the same data.
+/// Sets `answer` to `true` if no two different texts mean the same data, and to `false` otherwise.
+///
+/// If `number` is unknown, `answer` is unchanged.
 pub fn numbered_is_canonical(number: u32, answer: &mut bool) -> u32
     ensures { ByNumber number result (answer.new ≡ answer.old)
         (λ base. TellsCanonical base answer.new result) }

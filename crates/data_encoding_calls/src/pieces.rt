@@ -1,4 +1,4 @@
-//! A text in pieces: what a caller keeps of it between calls, as plain numbers.
+//! Texts in pieces: the state that a caller keeps between calls, as plain numbers.
 
 ghost use Rattle.std.specs.Prelude.{◌≡◌, ℕ, List, IfSome, IsSome, Some};
 ghost use Rattle.encoding_stream.specs.Pieces.{base_of_pieces, kept_by};
@@ -9,17 +9,17 @@ use crate::status::{NO_DECODER, OK, SHORT_BUFFER, TOO_LONG, status_of_kind};
 use data_encoding::{DECODE_LIMIT, DecodeError, DecodeKind, EncodingRef};
 use encoding_stream::{BufferDecoder, Kept};
 
-/// What is kept of a text between its pieces. For the empty text this is all zeros.
+/// The state of a decoder between two pieces of a text. For the empty text it is all zeros.
 #[repr(C)]
 #[derive(Clone, Copy, Drop)]
 pub struct PlainKept {
-    /// How many bytes the text has.
+    /// The number of bytes of the text so far.
     pub len: usize,
 
-    /// How many bytes of an unfinished group are held.
+    /// The number of held bytes of an unfinished group.
     pub count: usize,
 
-    /// The positions of these bytes in the text.
+    /// The positions of the held bytes in the text.
     pub positions: [usize; 8],
 
     /// The position of the first fault.
@@ -28,10 +28,10 @@ pub struct PlainKept {
     /// The status of the first fault, or 0.
     pub fault: u32,
 
-    /// 1 if a group was final.
+    /// 1 if a group was final, and 0 otherwise.
     pub ended: u32,
 
-    /// The bytes held.
+    /// The held bytes.
     pub bytes: [u8; 8],
 }
 
@@ -105,7 +105,7 @@ fn decoder_of<'a>(encoding: &EncodingRef<'a>, plain: &PlainKept) -> Option<Buffe
     BufferDecoder::resumed_by_ref(encoding, kept_of(plain)?)
 }
 
-/// Writes how many bytes `len` more bytes of the text may complete to `most`.
+/// Writes the greatest number of bytes that `len` more bytes of the text may complete to `most`.
 pub(crate) fn most_by(
     encoding: &EncodingRef<'_>,
     plain: &PlainKept,
@@ -124,8 +124,7 @@ pub(crate) fn most_by(
     OK
 }
 
-/// Reads a piece, and writes the bytes of the groups that are then whole to the start of the
-/// output.
+/// Decodes a piece: writes the bytes of the groups that it completes to the start of `output`.
 pub(crate) fn read_by(
     encoding: &EncodingRef<'_>,
     plain: &mut PlainKept,
@@ -152,8 +151,8 @@ pub(crate) fn read_by(
     OK
 }
 
-/// Ends the text: writes the bytes of a last group to the start of the output, and returns the
-/// verdict.
+/// Ends the text: writes the bytes of its last group to the start of `output`, and returns the
+/// status of the whole text.
 pub(crate) fn finish_by(
     encoding: &EncodingRef<'_>,
     plain: &PlainKept,

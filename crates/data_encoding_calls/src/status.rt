@@ -1,35 +1,35 @@
-//! What a call returns: a number for each possible outcome.
+//! The statuses that calls return: a number for each possible outcome.
 
 ghost use Rattle.std.specs.Prelude.{◌≡◌};
 ghost use Rattle.data_encoding_calls.specs.Status.{detail_of_refusal, status_of_kind, status_of_refusal};
 
 use data_encoding::{DecodeKind, Refusal};
 
-/// The call did what was asked.
+/// The call succeeded.
 pub(crate) const OK: u32 = 0;
 
-/// No encoding has this number.
+/// No encoding has the given number or name.
 pub(crate) const UNKNOWN_ENCODING: u32 = 1;
 
 /// A pointer that must not be null is null.
 pub(crate) const NULL_POINTER: u32 = 2;
 
-/// Data or a text is longer than one call takes.
+/// The data or the text is longer than the limit of a call.
 pub(crate) const TOO_LONG: u32 = 3;
 
 /// The output is too short.
 pub(crate) const SHORT_BUFFER: u32 = 4;
 
-/// The bytes are no layout.
+/// The bytes are not a layout.
 pub(crate) const NO_ENCODING: u32 = 18;
 
-/// The numbers are not those of a decoder of this encoding.
+/// The numbers are not a state of a decoder of the encoding.
 pub(crate) const NO_DECODER: u32 = 19;
 
-/// The numbers are not those of an encoder of this encoding.
+/// The numbers are not a state of an encoder of the encoding.
 pub(crate) const NO_ENCODER: u32 = 20;
 
-/// The status of a faulty text.
+/// Returns the status of a text with a fault of the given kind.
 pub(crate) fn status_of_kind(kind: DecodeKind) -> u32
     ensures { result ≡ status_of_kind kind }
 {
@@ -41,7 +41,7 @@ pub(crate) fn status_of_kind(kind: DecodeKind) -> u32
     }
 }
 
-/// The status of a specification that is refused.
+/// Returns the status of a refused specification.
 pub(crate) fn status_of_refusal(refusal: Refusal) -> u32
     ensures { result ≡ status_of_refusal refusal }
 {
@@ -57,7 +57,7 @@ pub(crate) fn status_of_refusal(refusal: Refusal) -> u32
     }
 }
 
-/// The byte or the number that a refusal names, or 0.
+/// Returns the byte or the number that a refusal names, or 0.
 pub(crate) fn detail_of_refusal(refusal: Refusal) -> usize
     ensures { result ≡ detail_of_refusal refusal }
 {

@@ -11,8 +11,10 @@ use crate::status::{NO_ENCODING, OK, SHORT_BUFFER};
 use data_encoding::laws::one_layout;
 use data_encoding::{Encoding, PlainEncoding};
 
-/// Writes the layout of the encoding to the start of the output, and its length, at most 770, to
+/// Writes the layout of the encoding to the start of `output`, and its length, at most 770, to
 /// `written`.
+///
+/// If `output` is too short, `output` and `written` are unchanged.
 pub fn custom_layout(held: &PlainEncoding, output: &mut [u8], written: &mut usize) -> u32
     ensures { WritesFront (layout (base_of_plain held.now)) output.old output.new written.old
         written.new result }
@@ -27,7 +29,7 @@ pub fn custom_layout(held: &PlainEncoding, output: &mut [u8], written: &mut usiz
     OK
 }
 
-/// Returns the encoding with this layout, if the bytes are one.
+/// Returns the encoding with the layout `bytes`, or a status if there is none.
 pub fn custom_read(bytes: &[u8]) -> Made
     ensures { MakesOfLayout bytes.now result }
 {

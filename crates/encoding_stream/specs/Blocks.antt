@@ -8,26 +8,27 @@ use Rattle.data_encoding.specs.Text.{text_of}
 use Rattle.data_encoding.specs.declared.kept_data.KeptData.{KeptData}
 use Rattle.encoding_stream.specs.declared.blocks.BufferEncoder.{BufferEncoder}
 
--- the encoding of an encoder
+-- The encoding of an encoder.
 abbrev pub base_of_blocks : BufferEncoder → Base
 base_of_blocks encoder = base_of_lent encoder.encoding
 
--- what an encoder keeps of its data
+-- The state of an encoder.
 abbrev pub data_kept : BufferEncoder → KeptData
 data_kept encoder = encoder.kept
 
--- This is kept of the data, and the text of all bytes but those held was written.
+-- `kept` is the state after `bytes`: the text of all bytes except the held ones was written, and is
+-- `text`.
 abbrev pub HasWritten : Base → KeptData → List ℕ → List ℕ → Type 0
 HasWritten base kept bytes text = HasEncoded base [] bytes text (held_data kept)
 
--- If the first is kept of data, the second is kept of the data followed by the piece, and this text
--- is written for the piece.
+-- If `old` is the state after some data, `new` is the state after the data followed by `piece`, and
+-- `text` is the text that is written for `piece`.
 abbrev pub EncodesOn : Base → KeptData → KeptData → List ℕ → List ℕ → Type 0
 EncodesOn base old new piece text =
     (bytes before : List ℕ) → HasWritten base old bytes before
     → HasWritten base new (bytes ++ piece) (before ++ text)
 
--- If this is kept of data, this text ends the text of the data.
+-- If `kept` is the state after some data, `last` ends the text of the data.
 abbrev pub EndsBlocks : Base → KeptData → List ℕ → Type 0
 EndsBlocks base kept last =
     (bytes text : List ℕ) → HasWritten base kept bytes text

@@ -1,4 +1,4 @@
--- What decoding a reader into a writer has done.
+-- The effect of decoding a reader to a writer.
 use Rattle.std.specs.Prelude.{◌≡◌, ℕ, ◌≤◌, Bool, false, List, length, Option, Some, None, Result, Ok, Err, IfSome, OnOk}
 use Rattle.std.specs.Io.KnownBytes.{Appends, Consumes, IsAtEnd}
 use Rattle.data_encoding.specs.declared.decode.TheConstants.{DECODE_LIMIT}
@@ -11,8 +11,8 @@ use Rattle.encoding_stream.specs.declared.pieces.Kept.{Kept}
 use Rattle.encoding_stream.specs.Reading.{HasLastBytes}
 use Rattle.encoding_stream.specs.Watch.{AppendsFront, Change}
 
--- The reader was read to its end, the bytes of the text before its first faulty group were written,
--- and this is the fault of the text, if it has one.
+-- The reader was read to its end, and the sound bytes of its text were written: those before the
+-- first faulty group. `fault` is the fault of the text, if it has one.
 pub record DecodesAll (base : Base) (fault : Option DecodeError) (reader writer : Change)
     : Type 0 where
   pub text : List ℕ
@@ -21,8 +21,8 @@ pub record DecodesAll (base : Base) (fault : Option DecodeError) (reader writer 
   pub fault_is : fault_of base text ≡ fault
   pub written : Appends writer.old writer.new (sound_bytes base text)
 
--- Some of a text was read, and a prefix of what it decodes to was written. The same bytes are a
--- prefix of what the whole of the reader decodes to.
+-- Some of a text was read, and a prefix of its sound bytes was written. The written bytes are also
+-- a prefix of the sound bytes of the whole text in the reader.
 pub record DecodesFront (base : Base) (reader writer : Change) : Type 0 where
   pub text : List ℕ
   pub read : Consumes reader.old reader.new text
@@ -30,20 +30,20 @@ pub record DecodesFront (base : Base) (reader writer : Change) : Type 0 where
   pub of_all : IfSome reader.old (λ all. AppendsFront writer.old writer.new
       (sound_bytes base all))
 
--- what a stream returns for a text with this fault, or with none
+-- The result of a stream for a text with the given fault, or with none.
 abbrev pub result_of : Option DecodeError → Result (Unit {0}) StreamFault
 result_of None = Ok _
 result_of (Some error) = Err (Decode error)
 
--- The result is Ok, or a fault of the text, only if all was read and decoded.
+-- If the result is Ok, or a fault of the text, the whole text was read and decoded.
 pub record DecodesJudged (base : Base) (result : Result (Unit {0}) StreamFault)
     (reader writer : Change) : Type 0 where
   pub whole : OnOk result (DecodesAll base None reader writer)
   pub faulty : (error : DecodeError) → result ≡ Err (Decode error)
       → DecodesAll base (Some error) reader writer
 
--- If neither the reader nor the writer has failed, this is the result for what the reader had,
--- provided that it is known and within the limit.
+-- If the content of the reader is known and within the limit, and no call of the reader or the
+-- writer has failed, the result is the fault of the content, or Ok.
 abbrev pub JudgesText :
     Base → Result (Unit {0}) StreamFault → Option (List ℕ) → Bool → Bool → Type 0
 JudgesText base result remaining read_failed write_failed =

@@ -1,4 +1,4 @@
--- The judgement of a group that is gathered byte by byte, and of the end of a text.
+-- The validation of a group that is gathered byte by byte, and of the end of a text.
 use Rattle.std.specs.Prelude.{◌≡◌, ℕ, List, Option, Some, None}
 use Rattle.data_encoding.specs.declared.error.DecodeError.{DecodeError}
 use Rattle.data_encoding.specs.Base.{Base}
@@ -8,34 +8,35 @@ use Rattle.data_encoding.specs.Pieces.{held_fault}
 use Rattle.encoding_stream.specs.declared.pieces.Kept.{Kept}
 use Rattle.encoding_stream.specs.Pieces.{at_positions, held, Keeps, NoneIgnored}
 
--- the first bytes kept, this many, as the next group
+-- The first `count` bytes kept, as the next group.
 abbrev pub next_group : Kept → ℕ → List Positioned
 next_group kept count = at_positions count kept.positions kept.bytes
 
--- If none of its bytes is ignored, the next group has no fault and means these bytes.
+-- If none of its bytes is ignored, the next group has no fault and means `bytes`.
 abbrev pub JudgesSound : Base → Kept → ℕ → List ℕ → Type 0
 JudgesSound base kept count bytes =
     NoneIgnored base (next_group kept count)
     → (fault_after kept.ended base (next_group kept count) ≡ None)
     × (bytes_of_group base (next_group kept count) ≡ bytes)
 
--- If none of its bytes is ignored, the next group has this fault.
+-- If none of its bytes is ignored, the next group has the fault `error`.
 abbrev pub JudgesFaulty : Base → Kept → ℕ → DecodeError → Type 0
 JudgesFaulty base kept count error =
     NoneIgnored base (next_group kept count)
     → fault_after kept.ended base (next_group kept count) ≡ Some error
 
--- the first fault of the groups, the last of which is the bytes held
+-- The first fault of the groups. The last group is the held bytes.
 abbrev pub fault_with_held : Base → Kept → Option DecodeError
 fault_with_held base kept = or_else kept.fault (held_fault kept.ended base (held kept))
 
--- If this is kept of a text, none of its groups has a fault, and the bytes held mean these bytes.
+-- If `kept` is the state after a text, no group of the text has a fault, and the held bytes mean
+-- `bytes`.
 abbrev pub EndsSound : Base → Kept → List ℕ → Type 0
 EndsSound base kept bytes =
     (text : List ℕ) → Keeps base kept text
     → (fault_with_held base kept ≡ None) × (bytes_of_group base (held kept) ≡ bytes)
 
--- If this is kept of a text, this is the first fault of its groups.
+-- If `kept` is the state after a text, `error` is the first fault of its groups.
 abbrev pub EndsFaulty : Base → Kept → DecodeError → Type 0
 EndsFaulty base kept error =
     (text : List ℕ) → Keeps base kept text → fault_with_held base kept ≡ Some error

@@ -1,10 +1,10 @@
--- What faults of streams print.
+-- The messages of faults of streams.
 use Rattle.std.specs.Prelude.{ℕ, List, codes}
 use Rattle.data_encoding.specs.Printed.{printed_error}
 use Rattle.encoding_stream.specs.declared.error.StreamFault.{StreamFault}
 use Rattle.encoding_stream.specs.declared.error.StreamFault.TheVariants.{Read, Write, Decode, TooLong}
 
--- what the fault of a stream prints
+-- The message of a fault of a stream.
 abbrev pub printed_stream_fault : StreamFault → List ℕ
 printed_stream_fault Read = codes "read failed"
 printed_stream_fault Write = codes "write failed"

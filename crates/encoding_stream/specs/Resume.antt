@@ -1,4 +1,4 @@
--- What a decoder may keep of a text.
+-- The states that a decoder may have.
 use Rattle.std.specs.Prelude.{◌≡◌, ℕ, ◌+◌, ◌<◌, ◌≤◌, Bool, true, false, List, [], ◌∷◌, length, take, All, None, IfSome, IsSome}
 use Rattle.data_encoding.specs.declared.decode.TheConstants.{DECODE_LIMIT}
 use Rattle.data_encoding.specs.declared.error.DecodeKind.{DecodeKind}
@@ -7,41 +7,41 @@ use Rattle.data_encoding.specs.Base.{Base, group_symbols, is_ignored, is_padded,
 use Rattle.encoding_stream.specs.declared.pieces.Kept.{Kept}
 use Rattle.encoding_stream.specs.Pieces.{Keeps}
 
--- The positions ascend, are not below the first bound, and are below the second.
+-- The positions ascend, are at least `start`, and are less than `end`.
 abbrev pub Ascend : ℕ → ℕ → List ℕ → Type 0
 Ascend start end [] = Unit {0}
 Ascend start end (p ∷ ps) = (start ≤ p) × (p < end) × Ascend (p + 1) end ps
 
--- the positions of the bytes held
+-- The positions of the held bytes.
 abbrev pub held_positions : Kept → List ℕ
 held_positions kept = take kept.count kept.positions
 
--- the bytes held, without their positions
+-- The held bytes, without their positions.
 abbrev pub held_bytes : Kept → List ℕ
 held_bytes kept = take kept.count kept.bytes
 
--- None of the bytes held is ignored.
+-- None of the held bytes is ignored.
 abbrev pub HoldsNoIgnored : Base → Kept → Type 0
 HoldsNoIgnored base kept = All (λ byte. is_ignored (meaning base byte) ≡ false) (held_bytes kept)
 
--- whether a whole group may have a fault of this kind: never of its length, of trailing bits only
--- if they are checked, and of padding only if texts are padded
+-- `true` if a whole group may have a fault of the given kind: never of its length, of trailing bits
+-- only if they are checked, and of padding only if texts are padded.
 abbrev pub is_of_group : Base → DecodeKind → Bool
 is_of_group base Length = false
 is_of_group base Symbol = true
 is_of_group base Trailing = base.checks_trailing_bits
 is_of_group base Padding = is_padded base
 
--- There is a fault in the text, and nothing is held; or there is none, and a group was final only
--- if texts may not be concatenated.
+-- There is a fault in the text, and no byte is held. Or there is no fault, and a group was final
+-- only if texts may not be concatenated.
 pub record HasPossibleFault (base : Base) (kept : Kept) : Type 0 where
   pub clear : IsSome kept.fault → kept.count ≡ 0
   pub inside : IfSome kept.fault (λ error. error.position < kept.len)
   pub kind : IfSome kept.fault (λ error. is_of_group base error.kind ≡ true)
   pub ends : kept.fault ≡ None → kept.ended ≡ true → base.concatenates ≡ false
 
--- What is kept passes each test of what a caller passes back: less than a group is held, at
--- ascending positions in the text; no byte of it is ignored; and the fault is possible.
+-- The state passes each check of a state that a caller passes back. Less than a group is held, at
+-- ascending positions in the text. No held byte is ignored. The fault is possible.
 pub record MayBeKept (base : Base) (kept : Kept) : Type 0 where
   pub limit : kept.len ≤ DECODE_LIMIT
   pub short : kept.count < group_symbols base.width
@@ -49,7 +49,7 @@ pub record MayBeKept (base : Base) (kept : Kept) : Type 0 where
   pub none_ignored : HoldsNoIgnored base kept
   pub fault : HasPossibleFault base kept
 
--- This is kept of a text within the limit, and nothing is held after a fault.
+-- `kept` is the state after a text within the limit, and no byte is held after a fault.
 pub record IsKept (base : Base) (kept : Kept) : Type 0 where
   pub text : List ℕ
   pub keeps : Keeps base kept text

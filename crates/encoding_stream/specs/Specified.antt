@@ -1,4 +1,4 @@
--- What a decoder by pieces keeps about its encoding, so that the laws apply to it.
+-- The facts about its encoding that a decoder of a text in pieces keeps, so that the laws apply.
 use Rattle.std.specs.Prelude.{◌≡◌, List, ℕ, ◌++◌, length, take, Ok}
 use Rattle.data_encoding.specs.Base.{Base}
 use Rattle.data_encoding.specs.Fields.{base_of, IsSpecified}
@@ -9,7 +9,7 @@ use Rattle.data_encoding.specs.Pieces.{whole_bytes, AreWhole, CountsGroups, Ends
 pub record IsBuiltAgain (base : Base) : Type 0 where
   pub is_built : base_of (fields_of base) ≡ Ok base
 
--- The bytes that were decoded begin those of a longer text.
+-- The decoded bytes of a text are the first decoded bytes of a longer text.
 abbrev pub KeepsFront : Type 0
 KeepsFront =
     (base : Base) → IsSpecified base → (text piece : List ℕ)

@@ -1,4 +1,4 @@
-//! Pieces of a text, and the bytes that are appended for them.
+//! Decoding of a piece of a text to the end of a vector.
 
 ghost use Rattle.std.specs.Prelude.{◌≡◌, ℕ, ◌+◌, ◌<◌, ◌≤◌, ◌⊎◌, List, length, vec_capacity, vec_len, IsOk, OnErr, OnOk};
 ghost use Rattle.data_encoding.specs.declared.decode.TheConstants.{DECODE_LIMIT};
@@ -24,8 +24,10 @@ const SHORT: usize = 64;
 
 const SHORT_ROOM: usize = SHORT + 8;
 
-/// Reads a piece, and appends the bytes of the groups that are then whole. The output grows once,
-/// before the first byte is appended; if that fails, the decoder is no longer usable.
+/// Decodes a piece, and appends the bytes of the groups that it completes.
+///
+/// The output grows once, before the first byte is appended. If that fails, the decoder is no
+/// longer usable.
 pub(crate) fn append_piece<A: Allocator + Copy>(
     pieces: &mut BufferDecoder<'_>,
     piece: &[u8],
@@ -113,8 +115,8 @@ fn append_in_place<A: Allocator + Copy>(
     output.truncate(start + written);
 }
 
-// Reads a piece to a buffer, and appends what is decoded. If it is anything, the output first grows
-// for the rest of the piece too, which is this many bytes.
+// Reads a piece to a buffer, and appends the decoded bytes. If anything was decoded, first reserves
+// room for the remaining `rest` bytes of the piece.
 fn append_copied<A: Allocator + Copy, const N: usize>(
     pieces: &mut BufferDecoder<'_>,
     piece: &[u8],

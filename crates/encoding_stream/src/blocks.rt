@@ -1,4 +1,4 @@
-//! Data that is encoded piece by piece into buffers: what is kept of it, and how pieces are read.
+//! Encoding of data in pieces, to buffers.
 
 ghost use Rattle.std.specs.Prelude.{◌≡◌, ℕ, ◌+◌, ◌<◌, ◌≤◌, ◌↔◌, List, [], ◌++◌, length, take, drop, None, IfSome};
 ghost use Rattle.data_encoding.specs.Fields.{IsSpecified};
@@ -12,9 +12,9 @@ use data_encoding::{ENCODE_LIMIT, Encoding, EncodingRef, KeptData, LentEncoding}
 
 /// Encodes data that comes in pieces, cut anywhere, into buffers of the caller.
 ///
-/// A block is `encode_align` bytes of data: a group of symbols, or a line. Its text is written once
-/// the block is whole. What is kept of the data is plain numbers: `kept` returns them, and
-/// `resumed` continues from them.
+/// A block is `encode_align` bytes of data: a whole line, or a whole group if there are no lines.
+/// The text of a block is written when the block is complete. The state of the encoder is plain
+/// numbers: `kept` returns them, and `resumed` continues from them.
 #[derive(Clone, Copy, Debug, Drop)]
 pub struct BufferEncoder<'a> {
     encoding: LentEncoding<'a>,
@@ -39,7 +39,7 @@ impl<'a> BufferEncoder<'a> {
         BufferEncoder::new_by_ref(&encoding.by_ref())
     }
 
-    /// Returns an encoder that has read nothing, of an encoding by reference.
+    /// Like [`new`](BufferEncoder::new), for an encoding by reference.
     pub fn new_by_ref(encoding: &EncodingRef<'a>) -> BufferEncoder<'a>
         ensures base { base_of_blocks result ≡ encoding.now }
         ensures nothing { HasWritten encoding.now (data_kept result) [] [] }
@@ -57,9 +57,11 @@ impl<'a> BufferEncoder<'a> {
         }
     }
 
-    /// Returns an encoder that continues from what another of the same encoding kept, or `None` if
-    /// a whole block is held, which no encoder keeps. Any other numbers are accepted: an encoder
-    /// that has read just the held bytes keeps them.
+    /// Returns an encoder that continues from the state `kept` of another encoder of the same
+    /// encoding.
+    ///
+    /// Returns `None` if a whole block is held, which is so for no encoder. Any other numbers are
+    /// accepted: they are the state of an encoder that has read only the held bytes.
     pub fn resumed(encoding: &'a Encoding, kept: KeptData) -> Option<BufferEncoder<'a>>
         ensures base { IfSome result (λ encoder. base_of_blocks encoder ≡ encoding.now) }
         ensures kept { IfSome result (λ encoder. data_kept encoder ≡ kept) }
@@ -70,9 +72,7 @@ impl<'a> BufferEncoder<'a> {
         BufferEncoder::resumed_by_ref(&encoding.by_ref(), kept)
     }
 
-    /// Returns an encoder of an encoding by reference that continues from what another of the same
-    /// encoding kept, or `None` if a whole block is held, which no encoder keeps. Any other numbers
-    /// are accepted, as by [`resumed`](BufferEncoder::resumed).
+    /// Like [`resumed`](BufferEncoder::resumed), for an encoding by reference.
     pub fn resumed_by_ref(encoding: &EncodingRef<'a>, kept: KeptData) -> Option<BufferEncoder<'a>>
         ensures base { IfSome result (λ encoder. base_of_blocks encoder ≡ encoding.now) }
         ensures kept { IfSome result (λ encoder. data_kept encoder ≡ kept) }
@@ -88,7 +88,7 @@ impl<'a> BufferEncoder<'a> {
         Some(encoder)
     }
 
-    /// Returns what is kept of the data; `resumed` makes this encoder again from it.
+    /// Returns the state of the encoder. `resumed` makes the encoder again from it.
     pub fn kept(&self) -> KeptData
         ensures value { result ≡ data_kept self.now }
         ensures short { result.count < alignment (base_of_blocks self.now) }
@@ -96,8 +96,10 @@ impl<'a> BufferEncoder<'a> {
         self.kept
     }
 
-    /// Returns the length of the text of the blocks that this many more bytes, at most
-    /// `ENCODE_LIMIT`, complete. This is the room that `read` needs.
+    /// Returns the length in bytes of the text of the blocks that `len` more bytes of data
+    /// complete.
+    ///
+    /// `len` must be at most `ENCODE_LIMIT`. `read` needs an output of at least this length.
     pub fn due(&self, len: usize) -> usize
         requires limit { len ≤ ENCODE_LIMIT }
         ensures value { (piece : List ℕ) → length piece ≡ len
@@ -107,10 +109,11 @@ impl<'a> BufferEncoder<'a> {
         encoding.due_len(self.block, &self.kept, len).total
     }
 
-    /// Reads a piece, of at most `ENCODE_LIMIT` bytes, writes the text of the blocks that are then
-    /// whole to the start of the output, and returns the length of that text. The output has room
-    /// for as many bytes as `due` returns for the length of the piece; what follows the text is
-    /// unchanged.
+    /// Encodes `piece`: writes the text of the blocks that it completes to the start of `output`,
+    /// and returns the length of that text.
+    ///
+    /// `piece` must have at most `ENCODE_LIMIT` bytes. `output` must have at least the length that
+    /// `due` returns for `piece.len()`. The bytes of `output` after the text are unchanged.
     pub fn read(&mut self, piece: &[u8], output: &mut [u8]) -> usize
         requires limit { length piece.now ≤ ENCODE_LIMIT }
         requires room { length (piece_text (base_of_blocks self.old) (data_kept self.old) piece.now)
@@ -138,9 +141,11 @@ impl<'a> BufferEncoder<'a> {
         due.total
     }
 
-    /// Ends the data: writes the text of the bytes held, with padding, and with the separator if
-    /// there are lines, to the start of the output, and returns the length of that text. What
-    /// follows the text is unchanged.
+    /// Ends the data: writes the text of the held bytes, with its padding and line separator, to
+    /// the start of `output`, and returns its length.
+    ///
+    /// `output` must be at least as long as that text. The bytes of `output` after the text are
+    /// unchanged.
     pub fn finish(&self, output: &mut [u8]) -> usize
         requires room { length (text_of (base_of_blocks self.now)
             (held_data (data_kept self.now))) ≤ length output.old }

@@ -1,4 +1,4 @@
-//! Single bytes of a text that is decoded piece by piece, which are held until a group is whole.
+//! Single bytes of a text in pieces. They are held until a group is complete.
 
 ghost use Rattle.std.specs.Prelude.{◌≡◌, ℕ, ◌+◌, ◌<◌, ◌≤◌, ◌⊎◌, true, false, List, [], ◌∷◌, length, take, is_some, IsSome};
 ghost use Rattle.data_encoding.specs.declared.decode.TheConstants.{DECODE_LIMIT};

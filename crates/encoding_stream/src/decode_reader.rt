@@ -1,4 +1,4 @@
-//! From a reader of text to a writer of data.
+//! Decoding of a reader to a writer.
 
 ghost use Rattle.std.specs.Prelude.{◌≡◌, ℕ, ◌≤◌, ◌↔◌, List, length, false, Err, IsTrue, OnOk};
 ghost use Rattle.std.specs.Io.KnownBytes.{IsAtEnd};
@@ -21,15 +21,17 @@ const CHUNK: usize = 32768;
 // The room for what they decode to.
 const ROOM: usize = CHUNK + 8;
 
-/// Reads a text to its end, writes what it decodes to, and then flushes once. Nothing is allocated:
-/// the buffers are 64 KiB on the stack.
+/// Reads a text to its end, writes its data, and flushes the writer once.
 ///
-/// A read asks for at most 8,192 bytes. A text with a fault is read to its end too: the bytes of
-/// the groups before the first faulty one are written, the writer is flushed, and the fault of the
-/// whole text is returned. The first failed call of the reader or the writer, even an interrupted
-/// one, ends the stream. More than `DECODE_LIMIT` bytes are too long. If the stream ends early, a
-/// prefix of what the text decodes to is written; if a read failed or the input is too long,
-/// nothing is flushed.
+/// No call of the reader or the writer may have failed before. Nothing is allocated: the buffers
+/// are 64 KiB on the stack. A read asks for at most 8,192 bytes.
+///
+/// A text with a fault is read to its end, too. The bytes of the groups before the first faulty one
+/// are written, the writer is flushed, and the fault of the whole text is returned.
+///
+/// The first failed call of the reader or the writer, even an interrupted one, ends the stream.
+/// More than `DECODE_LIMIT` bytes are too long. If the stream ends early, a prefix of the data is
+/// written. If a read failed or the input is too long, the writer is not flushed.
 pub fn decode_stream<R: Read, W: Write>(
     encoding: &Encoding,
     reader: &mut Watch<R>,

@@ -1,4 +1,4 @@
-//! Text that comes in pieces, decoded as it comes.
+//! Decoding of a text in pieces, to a vector.
 
 ghost use Rattle.std.specs.Prelude.{◌≡◌, ℕ, ◌+◌, ◌≤◌, List, ◌++◌, length, vec_capacity, IfOk, IsOk, OnErr, OnOk};
 ghost use Rattle.data_encoding.specs.declared.decode.TheConstants.{DECODE_LIMIT};
@@ -12,18 +12,18 @@ use std::alloc::{AllocError, Allocator};
 
 /// Decodes a text that comes in pieces, cut anywhere.
 ///
-/// The bytes of a group are appended once the group is whole. The decoder keeps the length of the
-/// text, its first fault, and at most seven bytes of an unfinished group with their positions; it
-/// does not allocate for itself.
+/// The bytes of a group are appended when the group is complete. The decoder keeps the length of
+/// the text, its first fault, and at most seven bytes of an unfinished group with their positions.
+/// It does not allocate for itself.
 #[derive(Debug, Drop)]
 pub struct Decoder<'a> {
     pieces: BufferDecoder<'a>,
 }
 
-/// What `Decoder::finish` returns about the whole text.
+/// The result of `Decoder::finish` for the whole text.
 #[derive(Clone, Copy, Debug, PartialEq, Eq)]
 pub struct Finished {
-    /// What `Encoding::decode` returns for it: its fault, if it has one.
+    /// The fault of the text, if it has one, as `Encoding::decode` returns it.
     pub verdict: Result<(), DecodeError>,
 }
 
@@ -34,7 +34,7 @@ impl<'a> Decoder<'a> {
     ghost use Rattle.encoding_stream.specs.Decoder.{base_of_decoder, decoder_len, AppendsFinished, AppendsPushed, FinishesWith, HasConsumed};
     ghost use Rattle.encoding_stream.specs.Reading.{CompletesNothing, HasNoLastBytes};
 
-    /// Returns a decoder that was pushed nothing.
+    /// Returns a decoder that has read nothing.
     pub fn new(encoding: &'a Encoding) -> Decoder<'a>
         ensures base { base_of_decoder result ≡ encoding.now }
         ensures nothing { HasConsumed result [] }
@@ -46,7 +46,7 @@ impl<'a> Decoder<'a> {
         }
     }
 
-    /// Returns how many bytes were pushed.
+    /// Returns the number of bytes of text that were pushed.
     pub fn len(&self) -> usize
         ensures value { result ≡ decoder_len self.now }
         ensures pushed { (text : List ℕ) → HasConsumed self.now text → result ≡ length text }
@@ -54,12 +54,15 @@ impl<'a> Decoder<'a> {
         self.pieces.kept.len
     }
 
-    /// Takes a piece of the text, and appends the bytes of the groups that are then whole, up to
-    /// the first faulty one. The output may hold anything: it may be drained or exchanged between
-    /// pieces. Together with the piece, the text has at most `DECODE_LIMIT` bytes.
+    /// Decodes `piece`: appends the bytes of the groups that it completes to `output`, up to the
+    /// first faulty group.
+    ///
+    /// Together with the piece, the text must have at most `DECODE_LIMIT` bytes. `output` may hold
+    /// anything: it may be drained or exchanged between pieces.
     ///
     /// Returns an error only if memory runs out, and never if no byte is to be appended. The
-    /// decoder, and the bytes and the capacity of the output, are then unchanged.
+    /// decoder, and the bytes and the capacity of `output`, are then unchanged. `finish` returns
+    /// the fault of the text.
     pub fn push(&mut self, piece: &[u8], output: &mut Vec<u8>) -> Result<(), AllocError>
         requires limit { decoder_len self.old + length piece.now ≤ DECODE_LIMIT }
         ensures base { base_of_decoder self.new ≡ base_of_decoder self.old }
@@ -85,11 +88,13 @@ impl<'a> Decoder<'a> {
         Ok(())
     }
 
-    /// Ends the text: appends the bytes of a last group, unless it or a group before it has a
-    /// fault, and returns the verdict on the whole text.
+    /// Ends the text: appends the bytes of its last group to `output`, and returns the fault of the
+    /// whole text, if it has one.
     ///
-    /// If memory runs out, which never happens if no byte is to be appended, the decoder is
-    /// returned. It, and the bytes and the capacity of the output, are unchanged.
+    /// Nothing is appended if the last group or a group before it has a fault.
+    ///
+    /// Returns the decoder if memory runs out, which never happens if no byte is to be appended.
+    /// The decoder, and the bytes and the capacity of `output`, are then unchanged.
     pub fn finish(self, output: &mut Vec<u8>) -> Result<Finished, Decoder<'a>>
         ensures verdict { IfOk result (λ finished. FinishesWith self.entry finished.verdict) }
         ensures appends { OnOk result (AppendsFinished self.entry output.old.items

@@ -1,4 +1,4 @@
-//! From a reader of data to a writer of text.
+//! Encoding of a reader to a writer.
 
 ghost use Rattle.std.specs.Prelude.{◌≡◌, ◌≢◌, ◌^◌, ◌+◌, ◌-◌, ◌<◌, ◌≤◌, ◌↔◌, length, false, is_err, Err, IsTrue, OnOk};
 ghost use Rattle.std.specs.Io.KnownBytes.{Appends, IsAtEnd};
@@ -17,13 +17,14 @@ use std::io::{Read, Write};
 // The room for the text that is encoded at a time, and written in one call.
 const ROOM: usize = 49152;
 
-/// Reads data to its end, writes its text, and then flushes once. Nothing is allocated: the buffers
-/// are 96 KiB on the stack.
+/// Reads data to its end, writes its text, and flushes the writer once.
 ///
-/// A read asks for at most 8,192 bytes. The first failed call of the reader or the writer, even an
-/// interrupted one, ends the stream. More than `u64::MAX` bytes are too long. If the stream ends
-/// early, a prefix of the text of what was read is written; if a read failed or the input is too
-/// long, nothing is flushed.
+/// No call of the reader or the writer may have failed before. Nothing is allocated: the buffers
+/// are 96 KiB on the stack. A read asks for at most 8,192 bytes.
+///
+/// The first failed call of the reader or the writer, even an interrupted one, ends the stream.
+/// More than `u64::MAX` bytes are too long. If the stream ends early, a prefix of the text is
+/// written. If a read failed or the input is too long, the writer is not flushed.
 pub fn encode_stream<R: Read, W: Write>(
     encoding: &Encoding,
     reader: &mut Watch<R>,

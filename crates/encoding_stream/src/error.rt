@@ -1,4 +1,4 @@
-//! What ends a stream early, and how it is displayed.
+//! The faults of streams, and the messages that they print.
 
 ghost use Rattle.std.specs.Prelude.{Some};
 ghost use Rattle.encoding_stream.specs.Printed.{printed_stream_fault};
@@ -7,7 +7,7 @@ use data_encoding::DecodeError;
 use std::error::Error;
 use std::fmt;
 
-/// Why a stream was not read and written to its end.
+/// The reason why a stream failed.
 #[derive(Clone, Copy, Debug, PartialEq, Eq)]
 pub enum StreamFault {
     /// A read failed.
@@ -19,7 +19,7 @@ pub enum StreamFault {
     /// The text that was read has a fault.
     Decode(DecodeError),
 
-    /// More was read than `encode_stream` or `decode_stream` takes.
+    /// The input is longer than the limit of `encode_stream` or `decode_stream`.
     TooLong,
 }
 

@@ -12,8 +12,9 @@ use std::io::Read;
 // The most bytes that one read asks for.
 const MOST_READ: usize = 8192;
 
-/// Reads until the buffer is full or the reader is at its end, by reads of at most 8,192 bytes, and
-/// returns how many bytes were read. The first failed call, even an interrupted one, ends it.
+/// Reads until `buffer` is full or the reader is at its end, and returns the number of bytes read.
+///
+/// A read asks for at most 8,192 bytes. The first failed call, even an interrupted one, ends it.
 pub(crate) fn fill<R: Read>(reader: &mut Watch<R>, buffer: &mut [u8]) -> io::Result<usize>
     requires works { has_failed reader.old ≡ false }
     ensures bound { IfOk result (λ count. count ≤ length buffer.new) }

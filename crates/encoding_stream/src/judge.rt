@@ -1,4 +1,4 @@
-//! The judgement of one group of a text that is decoded piece by piece, and the end of the text.
+//! The validation of one group of a text in pieces, and the end of the text.
 
 ghost use Rattle.std.specs.Prelude.{◌≡◌, ◌<◌, ◌≤◌, length, slice_index, take, IfOk, IfErr};
 ghost use Rattle.std.specs.List.{Contains};
@@ -12,7 +12,7 @@ use crate::pieces::BufferDecoder;
 use data_encoding::{DecodeError, DecodeKind};
 
 impl BufferDecoder<'_> {
-    /// Whether the group that has just been completed is final.
+    /// Returns `true` if the group that was just completed is final.
     pub(crate) fn is_final(&self) -> bool
         ensures { result ≡ is_final (base_of_pieces self.now) (at_positions self.now.size
             self.now.kept.positions self.now.kept.bytes) }
@@ -26,8 +26,8 @@ impl BufferDecoder<'_> {
             .any(|byte| encoding.interpret_byte(*byte).is_padding())
     }
 
-    /// Judges the first `count` bytes kept as the next group, and returns its fault or writes its
-    /// bytes.
+    /// Decodes the first `count` bytes kept as the next group, and returns the number of its bytes,
+    /// or its fault.
     pub(crate) fn judge(&self, count: usize, output: &mut [u8]) -> Result<usize, DecodeError>
         requires some { 0 < count }
         requires few { count ≤ group_symbols (base_of_pieces self.now).width }
@@ -72,9 +72,12 @@ impl BufferDecoder<'_> {
         }
     }
 
-    /// Ends the text. Writes the bytes of a last group, at most five, to the start of the output,
-    /// unless it or a group before it has a fault. Returns how many bytes were written and what
-    /// `Encoding::decode` returns for the whole text: its fault, if it has one.
+    /// Ends the text: writes the bytes of its last group to the start of `output`, and returns
+    /// their number and the fault of the whole text, if it has one.
+    ///
+    /// `output` must have at least 5 bytes. The number is at most 5. It is 0 if the last group or a
+    /// group before it has a fault. The fault is the one that `Encoding::decode` returns. The bytes
+    /// of `output` after the written ones are unspecified.
     pub fn finish(&self, output: &mut [u8]) -> (usize, Result<(), DecodeError>)
         requires room { 5 ≤ length output.old }
         ensures verdict { HasVerdict (base_of_pieces self.now) (kept_by self.now) result.1 }

@@ -1,5 +1,4 @@
-//! Base encodings over readers and writers: the input is read to its end, and what it encodes or
-//! decodes to is written.
+//! Base encodings over readers and writers, and for data and texts that come in pieces.
 //!
 //! Streams do not allocate, however long they are. The reader and the writer are watched, so that
 //! contracts and callers know whether a call of them failed.

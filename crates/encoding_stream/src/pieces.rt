@@ -1,4 +1,4 @@
-//! A text that is decoded piece by piece into buffers: what is kept of it, and how pieces are read.
+//! Decoding of a text in pieces, to buffers.
 
 ghost use Rattle.std.proofs.Props.{props};
 ghost use Rattle.std.specs.Prelude.{◌≡◌, ℕ, ◌+◌, ◌<◌, ◌≤◌, List, [], length, take, All, IfSome, IsSome};
@@ -11,32 +11,32 @@ use data_encoding::laws::specification_again;
 use data_encoding::laws::steps::{pieces, whole_groups};
 use data_encoding::{DECODE_LIMIT, DecodeError, Encoding, EncodingRef, LentEncoding};
 
-/// What is kept of a text between its pieces: plain numbers, from which decoding continues.
+/// The state of a decoder between two pieces of a text, as plain numbers.
 #[derive(Clone, Copy, Debug, Drop)]
 pub struct Kept {
-    /// How many bytes the text has.
+    /// The number of bytes of the text so far.
     pub len: usize,
 
     /// The first fault of its whole groups.
     pub fault: Option<DecodeError>,
 
-    /// The positions in the text of the bytes of an unfinished group. A decoder that began with
-    /// `BufferDecoder::new` keeps zeros after them.
+    /// The positions in the text of the held bytes of an unfinished group. A decoder that began
+    /// with `BufferDecoder::new` keeps zeros after them.
     pub positions: [usize; 8],
 
-    /// The bytes of the unfinished group, and zeros after them likewise.
+    /// The held bytes. A decoder that began with `BufferDecoder::new` keeps zeros after them.
     pub bytes: [u8; 8],
 
-    /// The number of these bytes. After a fault it is 0.
+    /// The number of held bytes. After a fault it is 0.
     pub count: usize,
 
-    /// Whether one of the whole groups is final, so that none may follow.
+    /// `true` if one of the whole groups is final, so that no group may follow.
     pub ended: bool,
 }
 
 /// Decodes a text that comes in pieces, cut anywhere, into buffers of the caller.
 ///
-/// The bytes of a group are written once the group is whole. What is kept of the text is plain
+/// The bytes of a group are written when the group is complete. The state of the decoder is plain
 /// numbers: `kept` returns them, and `resumed` continues from them.
 #[derive(Clone, Copy, Debug, Drop)]
 pub struct BufferDecoder<'a> {
@@ -74,7 +74,7 @@ impl<'a> BufferDecoder<'a> {
         BufferDecoder::new_by_ref(&encoding.by_ref())
     }
 
-    /// Returns a decoder that has read nothing, of an encoding by reference.
+    /// Like [`new`](BufferDecoder::new), for an encoding by reference.
     pub fn new_by_ref(encoding: &EncodingRef<'a>) -> BufferDecoder<'a>
         ensures base { base_of_pieces result ≡ encoding.now }
         ensures nothing { Keeps encoding.now (kept_by result) [] }
@@ -98,16 +98,22 @@ impl<'a> BufferDecoder<'a> {
         }
     }
 
-    /// Returns a decoder that continues from what another of the same encoding kept.
+    /// Returns a decoder that continues from the state `kept` of another decoder of the same
+    /// encoding.
     ///
-    /// Any numbers may be passed, and are tested. Returns `None` in these cases: the length of the
-    /// text is above `DECODE_LIMIT`; a whole group is held; a byte that is held is ignored, or the
-    /// positions of the bytes held do not ascend or are not below the length; bytes are held after
-    /// a fault; the fault is not in the text, or is one of the length, one of trailing bits in an
-    /// encoding that does not check them, or one of padding in an encoding without padding; there
-    /// is no fault, but a group was final although texts may be concatenated. Some numbers that no
-    /// decoder keeps are accepted too. For these it is only guaranteed that each call is safe, and
-    /// that a fault that `finish` returns is in the text.
+    /// Any numbers may be passed, and are checked. Returns `None` in these cases:
+    ///
+    /// - The length of the text is above `DECODE_LIMIT`.
+    /// - A whole group is held.
+    /// - A held byte is ignored, or the positions of the held bytes do not ascend or are not below
+    ///   the length.
+    /// - Bytes are held after a fault.
+    /// - The fault is not in the text, or it is one that a whole group cannot have: a fault of the
+    ///   length, of trailing bits if they are not checked, or of padding if there is none.
+    /// - There is no fault, but a group was final although texts may be concatenated.
+    ///
+    /// Some numbers that no decoder keeps are accepted, too. For these it is only guaranteed that
+    /// each call is safe, and that a fault that `finish` returns is in the text.
     pub fn resumed(encoding: &'a Encoding, kept: Kept) -> Option<BufferDecoder<'a>>
         ensures goes_on { IfSome result (GoesOn encoding.now kept) }
         ensures tested { IsSome result → MayBeKept encoding.now kept }
@@ -116,8 +122,7 @@ impl<'a> BufferDecoder<'a> {
         BufferDecoder::resumed_by_ref(&encoding.by_ref(), kept)
     }
 
-    /// Returns a decoder of an encoding by reference that continues from what another of the same
-    /// encoding kept. The numbers are tested as by [`resumed`](BufferDecoder::resumed).
+    /// Like [`resumed`](BufferDecoder::resumed), for an encoding by reference.
     pub fn resumed_by_ref(encoding: &EncodingRef<'a>, kept: Kept) -> Option<BufferDecoder<'a>>
         ensures goes_on { IfSome result (GoesOn encoding.now kept) }
         ensures tested { IsSome result → MayBeKept encoding.now kept }
@@ -137,7 +142,7 @@ impl<'a> BufferDecoder<'a> {
         Some(decoder)
     }
 
-    /// Returns what is kept of the text; `resumed` makes this decoder again from it.
+    /// Returns the state of the decoder. `resumed` makes the decoder again from it.
     pub fn kept(&self) -> Kept
         ensures value { result ≡ kept_by self.now }
         ensures limit { result.len ≤ DECODE_LIMIT }
@@ -146,7 +151,7 @@ impl<'a> BufferDecoder<'a> {
         self.kept
     }
 
-    /// Returns how many bytes the text has so far.
+    /// Returns the number of bytes of the text so far.
     pub fn len(&self) -> usize
         ensures value { result ≡ (kept_by self.now).len }
         ensures limit { result ≤ DECODE_LIMIT }
@@ -156,9 +161,10 @@ impl<'a> BufferDecoder<'a> {
         self.kept.len
     }
 
-    /// Returns the greatest number of bytes that this many more bytes of the text may complete.
-    /// This is the room that `read` needs. Together with them, the text has at most `DECODE_LIMIT`
-    /// bytes.
+    /// Returns the greatest number of bytes of data that `len` more bytes of the text may complete.
+    ///
+    /// `read` needs an output of at least this length. Together with the `len` bytes, the text must
+    /// have at most `DECODE_LIMIT` bytes.
     pub fn most(&self, len: usize) -> usize
         requires limit { (kept_by self.now).len + len ≤ DECODE_LIMIT }
         ensures value { result ≡ most_completed (base_of_pieces self.now) (kept_by self.now) len }
@@ -170,11 +176,14 @@ impl<'a> BufferDecoder<'a> {
         self.due(self.kept.count + len).1
     }
 
-    /// Reads a piece, writes the bytes of the groups that are then whole to the start of the
-    /// output, up to the first faulty group, and returns how many bytes were written. After a fault
-    /// nothing is written. Together with the piece, the text has at most `DECODE_LIMIT` bytes. The
-    /// output has room for as many bytes as `most` returns for the length of the piece; within this
-    /// room, what follows the bytes that were written is unspecified.
+    /// Decodes `piece`: writes the bytes of the groups that it completes to the start of `output`,
+    /// and returns their number.
+    ///
+    /// Together with the piece, the text must have at most `DECODE_LIMIT` bytes. `output` must have
+    /// at least the length that `most` returns for `piece.len()`. Of the bytes of that length,
+    /// those after the written ones are unspecified.
+    ///
+    /// Nothing is written from the first faulty group on. `finish` returns the fault of the text.
     pub fn read(&mut self, piece: &[u8], output: &mut [u8]) -> usize
         requires limit { (kept_by self.old).len + length piece.now ≤ DECODE_LIMIT }
         requires room { most_completed (base_of_pieces self.old) (kept_by self.old)

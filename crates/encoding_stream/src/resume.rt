@@ -1,4 +1,4 @@
-//! Tests of what a caller passes back about a text, before a decoder continues from it.
+//! Checks of a state that a caller passes back, before a decoder continues from it.
 
 ghost use Rattle.std.specs.Prelude.{◌≡◌, ◌≤◌, true, false};
 ghost use Rattle.encoding_stream.specs.Resume.{held_positions, is_of_group, Ascend, HasPossibleFault, HoldsNoIgnored};
@@ -7,7 +7,7 @@ use crate::pieces::Kept;
 use data_encoding::{DecodeKind, EncodingRef};
 
 impl Kept {
-    /// Whether the bytes held are in the text, each after the one before.
+    /// Returns `true` if the positions of the held bytes ascend and are in the text.
     pub(crate) fn is_in_order(&self) -> bool
         requires few { self.now.count ≤ 8 }
         ensures sound { result ≡ true → Ascend 0 self.now.len (held_positions self.now) }
@@ -23,7 +23,7 @@ impl Kept {
         true
     }
 
-    /// Whether one of the bytes held is ignored.
+    /// Returns `true` if one of the held bytes is ignored.
     pub(crate) fn holds_ignored(&self, encoding: &EncodingRef<'_>) -> bool
         requires few { self.now.count ≤ 8 }
         ensures sound { result ≡ false → HoldsNoIgnored encoding.now self.now }
@@ -34,7 +34,7 @@ impl Kept {
             .any(|byte| encoding.interpret_byte(*byte).is_ignored())
     }
 
-    /// Whether a decoder of this encoding may keep this fault, or none, with what else is kept.
+    /// Returns `true` if a decoder of `encoding` may keep this fault, or none, in this state.
     pub(crate) fn has_possible_fault(&self, encoding: &EncodingRef<'_>) -> bool
         ensures sound { result ≡ true → HasPossibleFault encoding.now self.now }
         ensures complete { HasPossibleFault encoding.now self.now → result ≡ true }

@@ -1,4 +1,4 @@
-//! Whole groups of a text that is decoded piece by piece, which are decoded in place.
+//! Whole groups of a text in pieces, decoded in place.
 
 ghost use Rattle.std.specs.Prelude.{◌≡◌, ℕ, ◌+◌, ◌≤◌, ◌<◌, ◌/◌, ◌%◌, true, false, List, length, take, IfOk, IfErr, None, Ok, Some};
 ghost use Rattle.data_encoding.specs.declared.decode.TheConstants.{DECODE_LIMIT};
@@ -13,8 +13,8 @@ use crate::pieces::BufferDecoder;
 use data_encoding::{DECODE_LIMIT, DecodeError, DecodeKind, DecodePartial};
 
 impl BufferDecoder<'_> {
-    /// Returns the length of the whole groups in this many bytes, and how many bytes are due for
-    /// them.
+    /// Returns the length of the whole groups in `len` bytes, and the number of bytes of their
+    /// data.
     pub(crate) fn due(&self, len: usize) -> (usize, usize)
         requires limit { len ≤ DECODE_LIMIT }
         ensures len { result.0 ≡ whole_len (base_of_pieces self.now) len }
@@ -44,8 +44,7 @@ impl BufferDecoder<'_> {
         len / 2
     }
 
-    /// Reads whole groups in place: those before a fault, or all if the fault is that of a whole
-    /// group.
+    /// Reads whole groups in place: those before a fault, or all if a whole group has the fault.
     pub(crate) fn read_run(&mut self, piece: &[u8], output: &mut [u8]) -> (usize, usize)
         requires limit { self.old.kept.len + length piece.now ≤ DECODE_LIMIT }
         requires room { most_completed (base_of_pieces self.old) self.old.kept
@@ -128,9 +127,8 @@ impl BufferDecoder<'_> {
         !encoding.ignores_bytes() || encoding.completes_groups()
     }
 
-    // Whether a text of `read` bytes that means this many bytes is whole groups, where `len` is the
-    // length of such. Padded texts are. Otherwise it is if that is its length and nothing is
-    // ignored, or it follows from the number of bytes.
+    // Returns `true` if a valid text of `read` bytes that decodes to `written` bytes ends at a
+    // group boundary.
     fn are_whole(&self, len: usize, read: usize, written: usize) -> bool
         requires len { len % self.now.size ≡ 0 }
         ensures whole { result ≡ true → (text bytes : List ℕ) → length text ≡ read

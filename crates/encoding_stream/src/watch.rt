@@ -1,4 +1,4 @@
-//! A reader or a writer with a record of whether a call of it failed.
+//! A reader or a writer with a record of its failures.
 
 ghost use Rattle.std.specs.Prelude.{◌≡◌, ◌||◌, false, is_err, OnOk};
 ghost use Rattle.std.specs.Io.{ReadsAtMost, WritesAtMost};
@@ -19,7 +19,7 @@ pub struct Watch<T> {
 }
 
 impl<T> Watch<T> {
-    /// Watches a reader or a writer of which no call has failed.
+    /// Returns a watch of `inner` that has recorded no failure.
     pub fn new(inner: T) -> Watch<T>
         ensures inner { inner_of result ≡ inner }
         ensures fresh { has_failed result ≡ false }
@@ -30,14 +30,14 @@ impl<T> Watch<T> {
         }
     }
 
-    /// Whether a call has failed since this watch began.
+    /// Returns `true` if a call has failed since the watch was made.
     pub fn failed(&self) -> bool
         ensures { result ≡ has_failed self.now }
     {
         self.has_failed
     }
 
-    /// Returns the reader or the writer that was watched.
+    /// Returns the watched reader or writer.
     pub fn into_inner(self) -> T
         ensures { result ≡ inner_of self }
     {
@@ -86,8 +86,10 @@ impl<T: Write> Write for Watch<T> {
         result
     }
 
-    /// Writes all bytes. The first failed call, even an interrupted one, ends it; a prefix of the
-    /// bytes is then written.
+    /// Writes all bytes of `buf`.
+    ///
+    /// The first failed call, even an interrupted one, ends it. A prefix of the bytes is then
+    /// written.
     fn write_all(&mut self, buf: &[u8]) -> io::Result<()>
         ensures bytes { OnOk result (Appends (T.contents (inner_of self.old))
             (T.contents (inner_of self.new)) buf.now) }

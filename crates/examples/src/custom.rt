@@ -4,7 +4,7 @@ use anyhow::Result;
 use data_encoding::{BitOrder, Encoding, Specification, Translate, Wrap};
 use std::alloc::Global;
 
-/// Crockford's base32, without check symbols: letters of either case, and hyphens anywhere.
+/// Returns Crockford's base32, without check symbols: letters of either case, and hyphens anywhere.
 pub fn crockford(alloc: Global) -> Result<Encoding> {
     let mut specification = Specification::new(alloc);
     specification.symbols = String::from_str(alloc, "0123456789ABCDEFGHJKMNPQRSTVWXYZ")?;
@@ -14,7 +14,7 @@ pub fn crockford(alloc: Global) -> Result<Encoding> {
     Ok(specification.encoding()?)
 }
 
-/// Octal digits in lines of 32, with every field given.
+/// Returns an encoding with octal digits in lines of 32. Its specification gives every field.
 pub fn octal(alloc: Global) -> Result<Encoding> {
     let specification = Specification {
         symbols: String::from_str(alloc, "01234567")?,

@@ -1,6 +1,6 @@
 //! The examples of docs/LIBRARY.md, and a program that calls each of them.
 //!
-//! It prints what they make of a few bytes and texts. Then it reads a text in base64, and writes
+//! It prints their results for a few bytes and texts. Then it reads a text in base64, and writes
 //! the data that the text means.
 #![tactic(auto)]
 

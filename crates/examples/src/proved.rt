@@ -1,4 +1,4 @@
-//! A function with a contract of its own, proved from those of the calls that it makes.
+//! A function with its own contract, proved from the contracts of its calls.
 
 ghost use Rattle.std.specs.Prelude.{◌≡◌, ◌++◌, ◌≤◌, length, string_bytes, IfOk};
 ghost use Rattle.data_encoding.specs.Text.{text_of};

@@ -10,8 +10,8 @@ use std::io;
 use std::io::ErrorKind;
 use std::test::Fail;
 
-/// Gives at most `most` bytes in each call. The call after the good ones is interrupted, and later
-/// calls succeed again.
+/// A reader that gives at most `most` bytes in each call. The call after the good ones is
+/// interrupted, and later calls succeed again.
 #[derive(Drop)]
 struct FakeReader<'a> {
     bytes: &'a [u8],
@@ -21,7 +21,7 @@ struct FakeReader<'a> {
 }
 
 impl FakeReader<'_> {
-    /// A reader that is never interrupted in a test.
+    /// Returns a reader that is never interrupted in a test.
     fn new(bytes: &[u8], most: usize) -> FakeReader<'_> {
         FakeReader {
             bytes,
@@ -56,7 +56,8 @@ enum Failure {
     Flush,
 }
 
-/// Takes at most three bytes in each call, fails once after the good writes, and counts its calls.
+/// A writer that takes at most three bytes in each call, fails once after the good writes, and
+/// counts its calls.
 #[derive(Drop)]
 struct FakeWriter {
     bytes: Vec<u8>,
@@ -68,7 +69,7 @@ struct FakeWriter {
 }
 
 impl FakeWriter {
-    /// A writer that does not allocate to write a line.
+    /// Returns a writer that does not allocate to write a line.
     fn new(alloc: Global, failure: Failure, good_writes: usize) -> Result<FakeWriter, AllocError> {
         Ok(FakeWriter {
             bytes: Vec::with_capacity(alloc, 128)?,
@@ -116,7 +117,7 @@ fn words_of(alloc: Global, line: &str) -> Result<Vec<String>, AllocError> {
     Ok(words)
 }
 
-/// What a run has done.
+/// The result of a run.
 #[derive(Drop)]
 struct Outcome {
     status: u8,

@@ -1,4 +1,4 @@
-//! A caller of a decoder by pieces into buffers, which continues from what is kept.
+//! Callers of a decoder to buffers, which continue from its state.
 
 ghost use Rattle.std.specs.Prelude.{◌≡◌, ◌+◌, ◌≤◌, ◌++◌, length, Some, IfSome, OnOk};
 ghost use Rattle.std.specs.String.{string_bytes};
@@ -15,7 +15,7 @@ use data_encoding::{DECODE_LIMIT, DecodeError, ENCODE_LIMIT, Encoding};
 use encoding_stream::BufferDecoder;
 use std::alloc::AllocError;
 
-/// How many bytes were written to each buffer, and the verdict on the text.
+/// The number of bytes written to each buffer, and the verdict on the text.
 #[derive(Clone, Copy, Debug, Drop)]
 pub struct Filled {
     /// For the first piece.
@@ -31,8 +31,9 @@ pub struct Filled {
     pub verdict: Result<(), DecodeError>,
 }
 
-/// Decodes a text that comes in two pieces, cut anywhere, into three buffers. The second piece is
-/// read by another decoder, which continues from what the first kept.
+/// Decodes a text that comes in two pieces, cut anywhere, to three buffers.
+///
+/// Another decoder reads the second piece. It continues from the state of the first.
 pub fn decode_kept(
     encoding: &Encoding,
     piece: &[u8],
@@ -72,8 +73,9 @@ pub fn decode_kept(
     }
 }
 
-/// Returns the fault of each text that begins with this prefix, if it has one so far: that of one
-/// of its whole groups. An unfinished group at the end is not judged.
+/// Returns the fault of each text that begins with `front`, if one of its whole groups has a fault.
+///
+/// An unfinished group at the end is not checked.
 pub fn fault_so_far(encoding: &Encoding, front: &[u8], output: &mut [u8]) -> Option<DecodeError>
     requires limit { length front.now ≤ DECODE_LIMIT }
     requires room { length front.now + 7 ≤ length output.old }
@@ -88,9 +90,9 @@ pub fn fault_so_far(encoding: &Encoding, front: &[u8], output: &mut [u8]) -> Opt
     decoder.kept().fault
 }
 
-/// Writes the text of the data to an output of exactly its length, and appends it to a log. What
-/// the output has afterwards is known from `encode_mut`, and that it is UTF-8 from
-/// `str::from_utf8`.
+/// Writes the text of `input` to an output of exactly its length, and appends it to `log`.
+///
+/// `encode_mut` states the contents of the output, and `str::from_utf8` that they are UTF-8.
 pub fn encode_and_log(
     encoding: &Encoding,
     input: &[u8],

@@ -1,5 +1,5 @@
-//! Data and texts in pieces of which a caller keeps numbers and passes them back, and an encoding
-//! that is built again.
+//! Data and texts in pieces with a state that the caller keeps, and an encoding that is built
+//! again.
 
 ghost use Rattle.std.specs.Prelude.{◌≡◌, ◌<◌, ◌≤◌, ◌++◌, ◌||◌, length, IfSome};
 ghost use Rattle.data_encoding.specs.Base.{is_padded};
@@ -10,7 +10,7 @@ use data_encoding::laws::specification_again;
 use data_encoding::{ENCODE_LIMIT, Encoding};
 use encoding_stream::{BufferDecoder, BufferEncoder, Kept};
 
-/// The length of the text that was written to each buffer.
+/// The lengths of the text written to each buffer.
 #[derive(Clone, Copy, Debug, Drop)]
 pub struct Lengths {
     /// For the first piece.
@@ -23,9 +23,10 @@ pub struct Lengths {
     pub last: usize,
 }
 
-/// Encodes data that comes in two pieces, cut anywhere, into three buffers. The second piece is
-/// read by another encoder, which continues from what the first kept. Returns `None` if a buffer is
-/// too short.
+/// Encodes data that comes in two pieces, cut anywhere, to three buffers.
+///
+/// Another encoder reads the second piece. It continues from the state of the first. Returns `None`
+/// if a buffer is too short.
 pub fn encode_kept(
     encoding: &Encoding,
     piece: &[u8],
@@ -63,8 +64,9 @@ pub fn encode_kept(
     })
 }
 
-/// Returns the position of the fault of a text of which this was kept, if it has one. Whatever was
-/// kept, the position is in a text of that length.
+/// Returns the position of the fault of a text with the decoder state `kept`, if it has one.
+///
+/// The position is inside a text of this length, even if `kept` is not the state of any decoder.
 pub fn fault_within(encoding: &Encoding, kept: Kept, text: &[u8]) -> Option<usize>
     requires whole { length text.now ≡ kept.len }
     ensures { IfSome result (λ position. position < length text.now) }
@@ -78,7 +80,7 @@ pub fn fault_within(encoding: &Encoding, kept: Kept, text: &[u8]) -> Option<usiz
     }
 }
 
-/// Returns the encoding, built again from its specification without allocating.
+/// Returns the encoding, built again from its specification without allocation.
 pub fn made_again(encoding: &Encoding) -> Encoding
     ensures { result ≡ encoding.now }
 {
@@ -91,7 +93,7 @@ pub fn made_again(encoding: &Encoding) -> Encoding
     }
 }
 
-/// Whether the end of a text is judged: its padding, or its trailing bits.
+/// Returns `true` if the end of a text is checked: its padding, or its trailing bits.
 pub fn judges_ends(encoding: &Encoding) -> bool
     ensures { result ≡ (is_padded encoding.now || encoding.now.checks_trailing_bits) }
 {

@@ -22,8 +22,10 @@ use data_encoding::{
 };
 use std::alloc::{AllocError, Global};
 
-/// Returns the key of 16 bytes that a token in BASE64URL_NOPAD means, if it means 16 bytes. No
-/// other token means that key.
+/// Returns the key of 16 bytes that a token in BASE64URL_NOPAD means, or `None` if it means no such
+/// key.
+///
+/// No other token means the same key.
 pub fn key_of(token: &[u8]) -> Option<[u8; 16]>
     ensures text { Builds (λ base. IfSome result (λ key. token.now ≡ text_of base key))
         base64url_nopad_fields }
@@ -51,8 +53,10 @@ pub(super) fn is_no_symbol(encoding: &Encoding, byte: u8) -> bool
     encoding.interpret_byte(byte).is_symbol().is_none()
 }
 
-/// Returns the index of the first byte that is no lower-case hexadecimal digit. HEXLOWER finds the
-/// fault of a text of an even length there; if each byte is a digit, the text has no fault.
+/// Returns the index of the first byte that is not a lower-case hexadecimal digit.
+///
+/// HEXLOWER reports the fault of a text of even length there. If each byte is a digit, the text has
+/// no fault.
 pub fn first_wrong(text: &[u8]) -> Option<usize>
     requires even { length text.now % 2 ≡ 0 }
     ensures symbol { Builds (λ base. (index : ℕ) → (result ≡ Some index)
@@ -66,8 +70,9 @@ pub fn first_wrong(text: &[u8]) -> Option<usize>
     text.iter().position(|byte| is_no_symbol(&encoding, *byte))
 }
 
-/// Whether two keys are equal, by comparing their texts. The texts of keys of different lengths
-/// differ too.
+/// Returns `true` if two keys are equal. Only their texts are compared.
+///
+/// The keys may differ in length: the texts then differ, too.
 pub fn is_same_key(
     alloc: Global,
     encoding: &Encoding,
@@ -85,8 +90,10 @@ pub fn is_same_key(
     Ok(text.as_bytes() == other_text.as_bytes())
 }
 
-/// Whether a text in hexadecimal digits of either case is that of a digest of 20 bytes, provided
-/// that it means data. This depends on its length only.
+/// Returns `true` if a text of hexadecimal digits, in either case, has the length of the text of a
+/// digest of 20 bytes.
+///
+/// If the text means data, the data then has 20 bytes.
 pub fn is_digest(text: &[u8]) -> bool
     ensures { Builds (λ base. TellsLength base text.now 20 result) hexlower_permissive_fields }
 {
@@ -95,8 +102,10 @@ pub fn is_digest(text: &[u8]) -> bool
     text.len() == hexlower_permissive().encode_len(20)
 }
 
-/// Returns how far after a prefix of whole groups the fault of a text is, if the prefix means data.
-/// Returns `None` if the text has no fault or the prefix has one.
+/// Returns the distance from a prefix of whole groups to the fault of a text, if the prefix means
+/// data.
+///
+/// Returns `None` if the text has no fault, or the prefix has one.
 pub fn place_after(alloc: Global, text: &[u8], len: usize) -> Result<Option<usize>, AllocError>
     requires limit { length text.now ≤ DECODE_LIMIT }
     requires within { len ≤ length text.now }
@@ -119,7 +128,7 @@ pub fn place_after(alloc: Global, text: &[u8], len: usize) -> Result<Option<usiz
     }
 }
 
-/// Returns the texts of two pieces of data in BASE32HEX_NOPAD, which are in the order of the data.
+/// Returns the texts of two pieces of data in BASE32HEX_NOPAD. They are in the order of the data.
 pub fn texts_in_order(
     alloc: Global,
     one: &[u8],
@@ -138,8 +147,9 @@ pub fn texts_in_order(
     Ok((text, other_text))
 }
 
-/// Whether data in BASE64_NOPAD may be sorted by their texts. It may not: `0` has a greater value
-/// than `z`, but comes before it.
+/// Returns `true` if data may be sorted by its texts in BASE64_NOPAD. It may not.
+///
+/// `0` has a greater value than `z`, but comes before it.
 pub fn is_sorted_by_texts() -> bool
     ensures { Builds (λ base. IsTrue result ↔ KeepsOrder base) base64_nopad_fields }
 {
@@ -148,8 +158,8 @@ pub fn is_sorted_by_texts() -> bool
     false
 }
 
-/// Whether a text of this one byte means no data, as the empty text does: it does if the byte is
-/// ignored.
+/// Returns `true` if `byte` is ignored. A text of this one byte then means the same as the empty
+/// text.
 pub fn is_empty_text(encoding: &Encoding, byte: u8) -> bool
     ensures value { result ≡ is_ignored (meaning encoding.now byte) }
     ensures texts { IsTrue result → AreTwoTexts encoding.now [] (byte ∷ []) [] }

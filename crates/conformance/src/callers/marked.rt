@@ -1,5 +1,5 @@
-//! Outputs that end with a mark where memory ran out. They have room for it, and no call takes that
-//! away.
+//! Outputs that get a mark at the end if memory runs out. They have room for it, and no call uses
+//! that room.
 
 ghost use Rattle.std.specs.Prelude.{◌≡◌, ◌+◌, ◌<◌, ◌≤◌, [], ◌∷◌, ◌++◌, false, length, vec_capacity, vec_len, None};
 ghost use Rattle.data_encoding.specs.declared.decode.TheConstants.{DECODE_LIMIT};
@@ -8,7 +8,7 @@ ghost use Rattle.encoding_stream.specs.Decoder.{decoder_len};
 use data_encoding::DECODE_LIMIT;
 use encoding_stream::{Decoder, Finished};
 
-/// Pushes a piece; or appends the mark, and returns `false`, if memory runs out.
+/// Pushes a piece. If memory runs out, appends the mark and returns `false`.
 pub fn push_or_mark(decoder: &mut Decoder, piece: &[u8], mark: u8, output: &mut Vec<u8>) -> bool
     requires limit { decoder_len decoder.old + length piece.now ≤ DECODE_LIMIT }
     requires room { vec_len output.old < vec_capacity output.old }
@@ -22,7 +22,7 @@ pub fn push_or_mark(decoder: &mut Decoder, piece: &[u8], mark: u8, output: &mut 
     false
 }
 
-/// Finishes; or appends the mark, and returns `None`, if memory runs out.
+/// Ends the text. If memory runs out, appends the mark and returns `None`.
 pub fn finish_or_mark(decoder: Decoder, mark: u8, output: &mut Vec<u8>) -> Option<Finished>
     requires room { vec_len output.old < vec_capacity output.old }
     ensures { result ≡ None → output.new.items ≡ output.old.items ++ mark ∷ [] }

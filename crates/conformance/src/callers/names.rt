@@ -1,4 +1,4 @@
-//! Tokens, names and key files, in encodings whose laws need no test at run time.
+//! Tokens, names and key files, in encodings with laws that need no test at run time.
 
 ghost use Rattle.std.specs.Prelude.{◌≡◌, ◌↔◌, ◌≤◌, ◌==◌, length, take, reverse, take_while, count_by, not, is_some, Some, Ok, Err, IsTrue, IfErr, IfOk, IfSome};
 ghost use Rattle.std.specs.String.{string_bytes};
@@ -16,7 +16,7 @@ use data_encoding::{
 };
 use std::alloc::{AllocError, Global};
 
-/// Returns the token of data, in BASE64URL_NOPAD.
+/// Returns the token of the data `input`, in BASE64URL_NOPAD.
 pub fn token_of(alloc: Global, input: &[u8]) -> Result<String, AllocError>
     requires limit { length input.now ≤ ENCODE_LIMIT }
     ensures { Builds (λ base. IfOk result
@@ -25,8 +25,10 @@ pub fn token_of(alloc: Global, input: &[u8]) -> Result<String, AllocError>
     base64url_nopad().encode(alloc, input)
 }
 
-/// Returns the data of a token, if it means any. No other token has the same data:
-/// `laws::canonical` states this for BASE64URL_NOPAD, so nothing is tested.
+/// Returns the data of a token, or `None` if it means none.
+///
+/// No other token has the same data: `laws::canonical` states this for BASE64URL_NOPAD, so nothing
+/// is tested.
 pub fn decoded_token(alloc: Global, token: &[u8]) -> Result<Option<Vec<u8>>, AllocError>
     requires limit { length token.now ≤ DECODE_LIMIT }
     ensures some { Builds (λ base. IfOk result (λ found. IsTrue (is_some found)
@@ -42,8 +44,9 @@ pub fn decoded_token(alloc: Global, token: &[u8]) -> Result<Option<Vec<u8>>, All
     }
 }
 
-/// Whether a token is that of 16 bytes, provided that it means data. This depends on its length
-/// only.
+/// Returns `true` if a token has the length of the token of 16 bytes.
+///
+/// If the token means data, the data then has 16 bytes.
 pub fn is_key(token: &[u8]) -> bool
     ensures { Builds (λ base. TellsLength base token.now 16 result) base64url_nopad_fields }
 {
@@ -53,8 +56,9 @@ pub fn is_key(token: &[u8]) -> bool
     token.len() == base64url_nopad().encode_len(16)
 }
 
-/// Whether the data of one name comes before that of another, in BASE32HEX_NOPAD. The names are
-/// compared, and nothing is decoded.
+/// Returns `true` if the data of one name comes before the data of another, in BASE32HEX_NOPAD.
+///
+/// The names are compared, and nothing is decoded.
 pub fn comes_before(one: &[u8], other: &[u8]) -> bool
     ensures { Builds (λ base. TellsOrder base one.now other.now result) base32hex_nopad_fields }
 {
@@ -64,17 +68,17 @@ pub fn comes_before(one: &[u8], other: &[u8]) -> bool
     one < other
 }
 
-/// A line of a text, and a position in it, both from 0.
+/// A line and a column of a text, both from 0.
 #[derive(Clone, Copy, Debug, PartialEq, Eq)]
 pub struct Place {
-    /// How many LF come before it.
+    /// The number of LF before the position.
     pub line: usize,
 
-    /// How many bytes are between the last of these and it.
+    /// The number of bytes between the last of these LF and the position.
     pub column: usize,
 }
 
-/// Returns the line and the column of a position in a text.
+/// Returns the line and the column of `position` in `text`.
 pub fn place_of(text: &[u8], position: usize) -> Place
     requires within { position ≤ length text.now }
     ensures line { result.line ≡ count_by (λ byte. byte == 10) (take position text.now) }
@@ -94,15 +98,16 @@ pub fn place_of(text: &[u8], position: usize) -> Place
 /// The reason why the body of a key file has no data.
 #[derive(Debug, Drop)]
 pub enum BodyFault {
-    /// Its text has a fault at this place.
+    /// The text has a fault at the given place.
     Text(Place, DecodeKind),
 
     /// Memory ran out.
     OutOfMemory,
 }
 
-/// Returns the data of the body of a key file: lines of base64, of any length. A fault is reported
-/// with its line and its column.
+/// Returns the data of the body of a key file: lines of base64, of any length.
+///
+/// A fault is reported with its line and its column.
 pub fn data_of_body(alloc: Global, body: &[u8]) -> Result<Vec<u8>, BodyFault>
     requires limit { length body.now ≤ DECODE_LIMIT }
     ensures means { Builds (λ base. IfOk result (λ bytes. Means base body.now bytes.items))

@@ -1,4 +1,4 @@
-//! Callers of encodings by reference, which hold no tables of their own.
+//! Callers of encodings by reference. They hold no tables.
 
 ghost use Rattle.std.specs.Prelude.{◌≡◌, ◌↔◌, ℕ, ◌+◌, ◌<◌, ◌≤◌, List, ◌++◌, length, take, None, Ok, IfSome, IsSome, IsTrue};
 ghost use Rattle.data_encoding.specs.Base.{group_symbols};
@@ -16,8 +16,10 @@ use data_encoding::laws::fault_stays;
 use data_encoding::{DECODE_LIMIT, ENCODE_LIMIT, EncodingRef};
 use encoding_stream::{BufferDecoder, BufferEncoder, Kept, KeptData};
 
-/// Writes the text of data to a buffer of exactly its length, and returns whether the buffer had
-/// that length and the data at most `ENCODE_LIMIT` bytes.
+/// Writes the text of `input` to `output`, and returns `true` if the lengths are right.
+///
+/// `input` must have at most `ENCODE_LIMIT` bytes, and `output` exactly the length of the text.
+/// Otherwise returns `false`.
 pub fn encode_exactly(encoding: &EncodingRef<'_>, input: &[u8], output: &mut [u8]) -> bool
     ensures text { IsTrue result → output.new ≡ text_of encoding.now input.now }
     ensures exact { IsTrue result ↔ ((length input.now ≤ ENCODE_LIMIT)
@@ -30,9 +32,11 @@ pub fn encode_exactly(encoding: &EncodingRef<'_>, input: &[u8], output: &mut [u8
     true
 }
 
-/// Decodes a text to the start of a buffer that has exactly the length that `decode_len` returns,
-/// and returns how many bytes it means, or `None` if the text has a fault or more than
-/// `DECODE_LIMIT` bytes, or if the buffer has another length.
+/// Decodes the text `input` to the start of `output`, and returns the number of bytes that it
+/// means.
+///
+/// Returns `None` if the text has a fault or more than `DECODE_LIMIT` bytes, or if `output` does
+/// not have exactly the length that `decode_len` returns.
 pub fn decode_exactly(encoding: &EncodingRef<'_>, input: &[u8], output: &mut [u8]) -> Option<usize>
     ensures means { IfSome result (λ len. Means encoding.now input.now (take len output.new)) }
     ensures exact { IsSome result ↔ ((length input.now ≤ DECODE_LIMIT)
@@ -48,7 +52,8 @@ pub fn decode_exactly(encoding: &EncodingRef<'_>, input: &[u8], output: &mut [u8
     }
 }
 
-/// Returns the lengths of the texts of data of two lengths, each by a copy of what is lent.
+/// Returns the lengths of the texts of data of two lengths. Each is computed with a copy of a lent
+/// encoding.
 pub fn text_lengths(encoding: &EncodingRef<'_>, one: usize, other: usize) -> (usize, usize)
     requires one { one ≤ ENCODE_LIMIT }
     requires other { other ≤ ENCODE_LIMIT }
@@ -65,8 +70,8 @@ pub fn text_lengths(encoding: &EncodingRef<'_>, one: usize, other: usize) -> (us
     )
 }
 
-/// Decodes the first piece of a text to the start of a buffer. Returns how many bytes were written,
-/// and what is kept of the text, of which nothing else is left.
+/// Decodes the first piece of a text to the start of `output`. Returns the number of bytes written,
+/// and the decoder state, which is all that is needed to continue.
 pub fn decode_first(encoding: &EncodingRef<'_>, piece: &[u8], output: &mut [u8]) -> (usize, Kept)
     requires limit { length piece.now ≤ DECODE_LIMIT }
     requires room { length piece.now + 7 ≤ length output.old }
@@ -82,8 +87,10 @@ pub fn decode_first(encoding: &EncodingRef<'_>, piece: &[u8], output: &mut [u8])
     (written, decoder.kept())
 }
 
-/// Decodes the next piece of a text of which this is kept to the start of a buffer. Returns how
-/// many bytes were written, and what is kept then, or `None` if no decoder keeps these numbers.
+/// Decodes the next piece of a text to the start of `output`, from the decoder state `kept`.
+///
+/// Returns the number of bytes written and the new state, or `None` if `kept` fails the checks of a
+/// state.
 pub fn decode_next(
     encoding: &EncodingRef<'_>,
     kept: Kept,
@@ -108,8 +115,10 @@ pub fn decode_next(
     Some((written, decoder.kept()))
 }
 
-/// Encodes the first piece of data to the start of a buffer. Returns the length of the text that
-/// was written, and what is kept of the data, or `None` if the buffer is too short.
+/// Encodes the first piece of data to the start of `output`.
+///
+/// Returns the length of the text that was written and the encoder state, or `None` if `output` is
+/// too short.
 pub fn encode_first(
     encoding: &EncodingRef<'_>,
     piece: &[u8],
@@ -129,9 +138,10 @@ pub fn encode_first(
     Some((written, encoder.kept()))
 }
 
-/// Encodes the next piece of data of which this is kept to the start of a buffer. Returns the
-/// length of the text that was written, and what is kept then, or `None` if no encoder keeps these
-/// numbers, or the buffer is too short.
+/// Encodes the next piece of data to the start of `output`, from the encoder state `kept`.
+///
+/// Returns the length of the text that was written and the new state, or `None` if `kept` is not a
+/// state of an encoder or `output` is too short.
 pub fn encode_next(
     encoding: &EncodingRef<'_>,
     kept: KeptData,

@@ -43,9 +43,11 @@ fn in_lines(alloc: Global, bytes: &[u8], line: usize) -> Result<Vec<u8>, AllocEr
     Ok(output)
 }
 
-/// Returns a text in lines of `line` characters, each followed by CR LF, as a MIME body is wrapped
-/// anew: it means the same data as the text. Returns `None` unless the encoding ignores both CR and
-/// LF. If `line` is 0, there is one line.
+/// Returns a text in lines of `line` characters, each followed by CR LF, for example to wrap a MIME
+/// body again.
+///
+/// The new text means the same data. Returns `None` unless the encoding ignores both CR and LF. If
+/// `line` is 0, there is one line.
 pub fn rewrapped(
     alloc: Global,
     encoding: &Encoding,
@@ -83,9 +85,10 @@ fn url_byte(byte: u8) -> u8
     }
 }
 
-/// Changes a text of base64 into one of base64url, in place. It means the same data, and the text
-/// of data becomes their text in base64url. A text without `-` and `_` has the same fault as
-/// before.
+/// Changes a text of base64 to base64url, in place.
+///
+/// The new text means the same data. The text of data becomes the text of the data in base64url. A
+/// text without `-` and `_` has the same fault as before.
 pub fn to_base64url(text: &mut [u8])
     ensures text { OfBase64 (λ base url. (bytes : List ℕ)
         → text.old ≡ text_of base bytes → text.new ≡ text_of url bytes) }
@@ -101,8 +104,9 @@ pub fn to_base64url(text: &mut [u8])
     }
 }
 
-/// Whether two names are the same in either case, as hashed names of DNSSEC are compared. Names
-/// that mean data are the same if and only if they mean the same data.
+/// Returns `true` if two names are the same in either case, as for hashed names of DNSSEC.
+///
+/// Names that mean data are the same if and only if they mean the same data.
 pub fn is_same_name(one: &[u8], other: &[u8]) -> bool
     ensures { Builds (λ base. TellsSame base one.now other.now result) base32_dnssec_fields }
 {
@@ -146,8 +150,10 @@ fn is_before(one: &[u8], other: &[u8]) -> bool
     one < other
 }
 
-/// Whether the data of one name comes before that of another, in either case, as hashed names of
-/// DNSSEC are sorted. The names are changed to lower case and compared, and nothing is decoded.
+/// Returns `true` if the data of one name comes before the data of another, in either case, as
+/// hashed names of DNSSEC are sorted.
+///
+/// The names are changed to lower case and compared. Nothing is decoded.
 pub fn sorts_before(one: &mut [u8], other: &mut [u8]) -> bool
     ensures { Builds (λ base. TellsOrder base one.old other.old result) base32_dnssec_fields }
 {

@@ -20,8 +20,10 @@ fn ignores_none(encoding: &Encoding, run: &[u8]) -> bool
 }
 
 /// Decodes a run, if none of its bytes is ignored and `output` has the length that `decode_len`
-/// returns. If the run has a valid length, the fault, and how far the run is read and written, are
-/// those that it has if ignored bytes are invalid.
+/// returns.
+///
+/// If the run has a valid length, its fault and the numbers of bytes read and written are the same
+/// as if ignored bytes were invalid.
 pub fn decode_run(
     encoding: &Encoding,
     run: &[u8],
@@ -50,8 +52,10 @@ pub fn decode_run(
     Some(encoding.decode_mut(run, output))
 }
 
-/// Returns the index of the first byte that is no symbol. A group of a valid number of bytes has an
-/// invalid symbol there; if each byte is a symbol, they give bytes, whatever bits are left.
+/// Returns the index of the first byte that is not a symbol.
+///
+/// A group of a valid number of bytes has an invalid symbol there. If each byte is a symbol, they
+/// mean bytes, whatever the trailing bits are.
 pub fn first_no_symbol(encoding: &Encoding, group: &[u8]) -> Option<usize>
     ensures { is_valid_count encoding.now.width (length group.now) ≡ true
         → TellsSymbols encoding.now group.now result }

@@ -1,4 +1,4 @@
-//! Encodings that are stored as bytes, and texts that are appended to another.
+//! Encodings that are stored as bytes, and texts that are appended.
 
 ghost use Rattle.std.specs.Prelude.{◌≡◌, ◌↔◌, ◌≤◌, ℕ, List, ◌++◌, length, ⊤, Some, IfErr, IsOk, IsTrue, OnErr, OnOk};
 ghost use Rattle.std.specs.Borrow.{follows_so, sem};
@@ -16,7 +16,7 @@ use std::alloc::AllocError;
 use std::fmt;
 use std::fmt::Display;
 
-/// Returns the encoding again, from its layout, which always gives one.
+/// Returns the encoding, built again from its layout. This always succeeds.
 pub fn restored(encoding: &Encoding) -> Option<Encoding>
     ensures { result ≡ Some encoding.now }
 {
@@ -25,7 +25,8 @@ pub fn restored(encoding: &Encoding) -> Option<Encoding>
     Encoding::internal_new(encoding.internal_implementation().as_slice())
 }
 
-/// Whether the layouts of two encodings are the same: they are if the encodings are equal.
+/// Returns `true` if the layouts of two encodings are equal. This is so if and only if the
+/// encodings are.
 pub fn is_stored_alike(encoding: &Encoding, other: &Encoding) -> bool
     ensures { IsTrue result ↔ (encoding.now ≡ other.now) }
 {
@@ -35,7 +36,8 @@ pub fn is_stored_alike(encoding: &Encoding, other: &Encoding) -> bool
     encoding.internal_implementation().as_slice() == other.internal_implementation().as_slice()
 }
 
-/// Whether the bytes are the layout of an encoding: they are if they keep the rules of layouts.
+/// Returns `true` if the bytes are the layout of an encoding. This is so if and only if they keep
+/// the rules of layouts.
 pub fn stands_for_some(bytes: &[u8]) -> bool
     ensures { IsTrue result ↔ IsLayout bytes.now }
 {
@@ -43,14 +45,14 @@ pub fn stands_for_some(bytes: &[u8]) -> bool
     Encoding::internal_new(bytes).is_some()
 }
 
-/// Displays no data: nothing is written, and no writer fails.
+/// Displays empty data: nothing is written, and no writer fails.
 pub fn show_nothing<W: fmt::Write>(encoding: &Encoding, f: &mut fmt::Formatter<W>) -> fmt::Result
     ensures { IsOk result × (f.new ≡ f.old) }
 {
     encoding.encode_display(b"").fmt(f)
 }
 
-/// Appends the text of the data to the string.
+/// Appends the text of `input` to `output`.
 pub fn write_at_end(encoding: &Encoding, input: &[u8], output: &mut String) -> fmt::Result
     ensures { OnOk result (string_bytes output.new
         ≡ string_bytes output.old ++ text_of encoding.now input.now) }
@@ -75,7 +77,7 @@ fn append_again(encoder: &mut Encoder, input: &[u8]) -> Result<(), AllocError>
     encoder.append(input)
 }
 
-/// Appends the text of data by an encoder, and makes each call that runs out of memory again.
+/// Appends the text of data with an encoder, and repeats each call that runs out of memory once.
 pub fn encoded_at_second_try(
     encoding: &Encoding,
     input: &[u8],
@@ -102,8 +104,9 @@ pub fn encoded_at_second_try(
     }
 }
 
-/// Finalizes. If memory runs out, the text is as the returned encoder leaves it, and that has the
-/// same capacity.
+/// Finalizes an encoder.
+///
+/// If memory runs out, the text is as the returned encoder leaves it, and its capacity is the same.
 pub fn finalized<'a, E: Encodes>(encoder: Encoder<'a, E>) -> Result<(), Encoder<'a, E>>
     ensures* text { sem 𝓛 (follows_so (string_row global_row ghosts) (string_row global_row ghosts)
         (output_name encoder.entry) (name_handed_back result)

@@ -1,4 +1,4 @@
-//! Callers of streams, and of texts that come in pieces.
+//! Callers of streams, and of decoders of texts that come in pieces.
 
 ghost use Rattle.std.specs.Prelude.{◌≡◌, ◌≢◌, ◌<◌, ◌≤◌, ℕ, List, ◌+◌, ◌%◌, ◌++◌, flat_map, length, Err, IfOk, Ok, OnOk, Some};
 ghost use Rattle.data_encoding.specs.Eighteen.{Builds};
@@ -18,8 +18,11 @@ use data_encoding::{DECODE_LIMIT, DecodeError, DecodeFault, Encoding, base64};
 use encoding_stream::{Decoder, StreamFault, Watch, decode_stream, encode_stream};
 use std::alloc::{AllocError, Global};
 
-/// Decodes a text that comes in pieces through a small buffer: what a piece appends to the buffer
-/// is appended to the output, and the buffer is cleared. Returns the verdict on the whole text.
+/// Decodes a text that comes in pieces through a small buffer, and returns the verdict on the whole
+/// text.
+///
+/// The bytes that a piece appends to the buffer are appended to `output`, and the buffer is
+/// cleared.
 pub fn decode_pieces(
     alloc: Global,
     encoding: &Encoding,
@@ -52,8 +55,7 @@ pub fn decode_pieces(
     }
 }
 
-/// Returns the data again, by way of two streams: its text is written to memory, and read from
-/// there.
+/// Returns `input` again, with two streams: its text is written to memory, and read from there.
 pub fn streamed_back(
     alloc: Global,
     encoding: &Encoding,
@@ -77,8 +79,10 @@ pub fn streamed_back(
     Ok(output.into_inner())
 }
 
-/// Decodes lines of base64 that come in two pieces, cut anywhere. If the decoding of the first
-/// stops, it continues with the rest of that piece, followed by the second.
+/// Decodes lines of base64 that come in two pieces, cut anywhere.
+///
+/// If the decoding of the first stops, it continues with the rest of that piece, followed by the
+/// second.
 pub fn decode_in_two(
     alloc: Global,
     encoding: &Encoding,
@@ -108,8 +112,10 @@ pub fn decode_in_two(
     }
 }
 
-/// Decodes a prefix of a text in base64, of whole groups of 4 characters. Its fault is that of each
-/// text of a valid length with this prefix, so a long text can be refused early.
+/// Decodes a prefix of a text in base64, of whole groups of 4 characters.
+///
+/// Its fault is the fault of each text of a valid length with this prefix, so a long text can be
+/// refused early.
 pub fn decoded_early(alloc: Global, front: &[u8]) -> Result<Vec<u8>, DecodeFault>
     requires limit { length front.now ≤ DECODE_LIMIT }
     requires whole { length front.now % 4 ≡ 0 }
