@@ -8,7 +8,7 @@ use encoding_stream::Decoder;
 
 const TEXT: &[u8] = b"SGVsbG8";
 
-/// `Encoding::decode`, which does not allocate if the length of the text is invalid.
+/// Tests `Encoding::decode`, which does not allocate if the length of the text is invalid.
 pub fn decodes(hog: &mut Hog) -> bool {
     hog.fill();
     let first = base64_nopad().decode(hog.alloc, TEXT);
@@ -36,7 +36,7 @@ fn tells_a_length(hog: &mut Hog) -> bool {
     !hog.has_refused(false) && matches!(answer, Err(DecodeFault::Error(error)) if error == fault)
 }
 
-/// `Decoder::push`.
+/// Tests `Decoder::push`.
 pub fn pushes(hog: &mut Hog) -> bool {
     for (encoding, digit) in [(hexlower(), b'0'), (base64(), b'A'), (base64_mime(), b'A')] {
         let text = [digit; 300];
@@ -84,7 +84,7 @@ fn is_pushed(hog: &mut Hog, encoding: &Encoding, front: &[u8], piece: &[u8]) -> 
         && output.as_slice() == want.as_slice()
 }
 
-/// `Decoder::finish`, which returns the decoder if memory runs out.
+/// Tests `Decoder::finish`, which returns the decoder if memory runs out.
 pub fn finishes(hog: &mut Hog) -> bool {
     is_finished(hog, b"bG8", Ok(b"lo"))
         && is_finished(hog, b"A", Err(DecodeKind::Length))

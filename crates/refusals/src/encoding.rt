@@ -11,7 +11,7 @@ const DATA: &[u8] = b"Data that come in pieces are encoded block by block, and t
 
 const BEFORE: &str = "Result: ";
 
-/// `Encoding::encode`.
+/// Tests `Encoding::encode`.
 pub fn encodes(hog: &mut Hog) -> bool {
     hog.fill();
     let first = base64().encode(hog.alloc, HELLO);
@@ -24,7 +24,7 @@ pub fn encodes(hog: &mut Hog) -> bool {
         }
 }
 
-/// `Encoding::encode_append`.
+/// Tests `Encoding::encode_append`.
 pub fn appends(hog: &mut Hog) -> bool {
     for encoding in [base64(), base64_mime()] {
         for len in [57, 130] {
@@ -66,7 +66,7 @@ fn is_appended(hog: &mut Hog, encoding: &Encoding, input: &[u8]) -> bool {
     output.as_str().strip_prefix(BEFORE) == Some(want.as_str())
 }
 
-/// `Encoder::append`, followed by `finalize`.
+/// Tests `Encoder::append`, followed by `finalize`.
 pub fn appends_pieces(hog: &mut Hog) -> bool {
     for encoding in [base64(), base64_mime()] {
         for blocks in 0..3usize {
@@ -115,7 +115,7 @@ fn is_encoded(hog: &mut Hog, encoding: &Encoding, input: &[u8], has_block: bool)
         && output.as_str() == want.as_str()
 }
 
-/// `Encoder::finalize`, which returns the encoder if memory runs out.
+/// Tests `Encoder::finalize`, which returns the encoder if memory runs out.
 pub fn finalizes(hog: &mut Hog) -> bool {
     is_finalized(hog, &base64(), "SA==") && is_finalized(hog, &base64_mime(), "SA==\r\n")
 }

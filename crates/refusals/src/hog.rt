@@ -1,4 +1,4 @@
-//! Memory that is allocated until none is left, or of which one allocation is refused.
+//! Allocation of all memory, or the refusal of one allocation.
 
 use std::alloc::{AllocError, Global};
 
@@ -10,7 +10,7 @@ const BEGIN: usize = 4_194_301;
 
 const END: usize = 4_194_299;
 
-/// Which allocations are refused.
+/// The allocations that are refused.
 #[derive(Clone, Copy, Debug, PartialEq, Eq)]
 pub enum Refused {
     /// None.
@@ -38,7 +38,7 @@ pub struct Hog {
 }
 
 impl Hog {
-    /// Returns one that has allocated only its own list of blocks.
+    /// Returns a hog that has allocated only its own list of blocks.
     pub fn new(alloc: Global, refused: Refused) -> Result<Hog, AllocError> {
         Ok(Hog {
             alloc,
@@ -49,8 +49,10 @@ impl Hog {
         })
     }
 
-    /// Begins a call. If all allocations are to be refused, allocates until no block of any size is
-    /// left: large blocks first, then each size for which an allocator may keep blocks apart.
+    /// Begins a call.
+    ///
+    /// If all allocations are to be refused, allocates until no block of any size is left: large
+    /// blocks first, then each size for which an allocator may keep blocks apart.
     pub fn fill(&mut self) {
         match self.refused {
             Refused::Nothing => {}
@@ -71,7 +73,9 @@ impl Hog {
         }
     }
 
-    /// Whether the call that ended last must have run out of memory, given whether it needs any.
+    /// Returns `true` if the last call must have run out of memory.
+    ///
+    /// `needs_memory` states if the call allocates at all.
     pub fn has_refused(&self, needs_memory: bool) -> bool {
         match self.refused {
             Refused::Nothing => false,
@@ -80,7 +84,7 @@ impl Hog {
         }
     }
 
-    /// Whether one allocation was refused since this was last asked.
+    /// Returns `true` if one allocation was refused since the last call of this function.
     pub fn take_refused_one(&mut self) -> bool {
         let has_refused = self.has_refused_one;
         self.has_refused_one = false;

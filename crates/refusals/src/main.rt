@@ -2,11 +2,12 @@
 //!
 //! With the argument `refused`, all memory that the process may have is allocated before each call.
 //! The call then has to run out of memory, and to leave everything unchanged. With the argument
-//! `one`, which tests/c/refused.c serves, a call has to run out of memory if one of its allocations
-//! was refused. Without an argument each call has to succeed. After that there is memory, and the
-//! same call has to succeed with the right result. A line is printed for each call, which also says
-//! whether one of its allocations was refused. The exit status is 1 if one of the calls did not do
-//! as it has to.
+//! `one`, for which tests/c/refused.c is loaded, a call has to run out of memory if one of its
+//! allocations was refused. Without an argument each call has to succeed. After that there is
+//! memory, and the same call has to succeed with the right result.
+//!
+//! A line is printed for each call. It also states if one of its allocations was refused. The exit
+//! status is 1 if a call fails its test.
 #![tactic(auto)]
 
 mod decoding;

@@ -35,7 +35,7 @@ fn is_translated(translate: &Translate) -> bool {
     translate.from.as_str() == "0189" && translate.to.as_str() == "OIBP"
 }
 
-/// `Encoding::specification`.
+/// Tests `Encoding::specification`.
 pub fn specifies(hog: &mut Hog) -> bool {
     let Some(encoding) = lines_of_base32() else {
         return false;
@@ -55,7 +55,7 @@ fn specification_of(hog: &Hog) -> Option<Specification> {
     lines_of_base32()?.specification(hog.alloc).ok()
 }
 
-/// `Specification::try_clone`.
+/// Tests `Specification::try_clone`.
 pub fn clones(hog: &mut Hog) -> bool {
     let Some(specification) = specification_of(hog) else {
         return false;
@@ -70,7 +70,7 @@ pub fn clones(hog: &mut Hog) -> bool {
         }
 }
 
-/// `Translate::try_clone`.
+/// Tests `Translate::try_clone`.
 pub fn clones_translate(hog: &mut Hog) -> bool {
     let Some(specification) = specification_of(hog) else {
         return false;
@@ -85,7 +85,7 @@ pub fn clones_translate(hog: &mut Hog) -> bool {
         }
 }
 
-/// `Wrap::try_clone`.
+/// Tests `Wrap::try_clone`.
 pub fn clones_wrap(hog: &mut Hog) -> bool {
     let Some(specification) = specification_of(hog) else {
         return false;
