@@ -1,4 +1,4 @@
-//! Rows from outside, sweeps over short texts, and each public call with ample memory.
+//! Rows from other sources, sweeps over short texts, and each public call with ample memory.
 
 mod appending;
 mod bits;

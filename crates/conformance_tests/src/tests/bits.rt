@@ -30,7 +30,7 @@ pub(super) fn value_of(order: BitOrder, width: u32, bits: &[bool]) -> usize {
     value
 }
 
-// How many of this many bits have less weight than this one.
+// The weight (as a power of two) of bit `index` of `count`.
 fn weight(order: BitOrder, count: u32, index: u32) -> u32
     requires inside { index < count }
 {

@@ -1,5 +1,4 @@
-//! Texts that come in pieces, cut anywhere, and are decoded into buffers by decoders that continue
-//! from what is kept.
+//! Texts in pieces, cut anywhere, and decoded to buffers by decoders that continue from a state.
 
 ghost use Rattle.std.specs.Prelude.{◌≤◌, length};
 

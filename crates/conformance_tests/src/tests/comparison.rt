@@ -1,5 +1,5 @@
-//! Texts that are decoded by each call, at once and in pieces, and compared with what the judge
-//! returns for them.
+//! Texts that are decoded by each call, at once and in pieces, and compared with the results of the
+//! judge.
 
 ghost use Rattle.std.specs.Prelude.{◌≡◌, ◌<◌, ◌≤◌, length};
 

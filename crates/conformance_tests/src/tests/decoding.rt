@@ -1,4 +1,4 @@
-//! From text to data.
+//! Decoding: from text to data.
 
 ghost use Rattle.std.specs.Prelude.{◌≤◌, length};
 

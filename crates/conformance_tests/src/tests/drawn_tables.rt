@@ -1,8 +1,9 @@
-//! Tables drawn at random, tables whose symbols are consecutive bytes except for one, and tables of
-//! which several rows of sixteen bytes share one, with texts that are looked up in lanes. Data has
-//! the text that lists of bits give, and comes back if symbols are replaced by bytes that are
-//! translated to them. With each byte instead of a symbol, the text means what the symbols of that
-//! group mean, or has their fault.
+//! Tables drawn at random, tables with symbols that are consecutive bytes except for one, and
+//! tables in which several rows of sixteen bytes share one.
+//!
+//! Their texts are decoded with SIMD. The text of data is the one that lists of bits give. The data
+//! comes back if symbols are replaced by bytes that are translated to them. With each byte in place
+//! of a symbol, the text means the same as the symbols of that group, or has their fault.
 
 use super::comparison::{Comparison, Differs, Tally, is_decoded_alike};
 use super::judge::{Judge, Judgement};

@@ -1,5 +1,5 @@
-//! Data of one line and of three, and of some bytes more: the texts are those of the judge, and
-//! mean the data.
+//! Data of one line and of three, and of a few bytes more. The texts are the texts of the judge,
+//! and mean the data.
 
 use super::comparison::{Comparison, Differs};
 use super::judge::Judgement;

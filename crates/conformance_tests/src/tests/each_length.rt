@@ -1,4 +1,4 @@
-//! Data of each length up to 8,200 bytes: a call with ample memory never returns that it ran out.
+//! Data of each length up to 8,200 bytes. A call with ample memory never returns out of memory.
 
 ghost use Rattle.std.specs.Prelude.{◌≤◌, length};
 

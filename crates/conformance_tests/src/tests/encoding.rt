@@ -1,4 +1,4 @@
-//! From data to text.
+//! Encoding: from data to text.
 
 ghost use Rattle.std.specs.Prelude.{◌≤◌, length};
 

@@ -1,4 +1,4 @@
-//! What encodings return, compared with rows from outside.
+//! The results of encodings, compared with rows from other sources.
 
 ghost use Rattle.std.specs.Prelude.{◌≤◌, length};
 

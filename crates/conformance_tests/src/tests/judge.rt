@@ -1,4 +1,4 @@
-//! A slow judge: the text of data, and what a text means or its fault, computed with lists of
+//! A slow judge. It computes the text of data, and the data of a text or its fault, with lists of
 //! characters and of bits.
 
 ghost use Rattle.std.specs.Prelude.{◌<◌};

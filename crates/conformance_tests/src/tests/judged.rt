@@ -1,5 +1,5 @@
-//! What the judge returns for texts, compared with rows from outside, and what encodings return,
-//! compared with both.
+//! The results of the judge for texts, compared with rows from other sources, and the results of
+//! encodings, compared with both.
 
 ghost use Rattle.std.specs.Prelude.{◌≤◌, length};
 

@@ -1,6 +1,6 @@
-//! What a decoder keeps after a piece that ends in padding, with zeros after the bytes that it
-//! holds, and after longer pieces, whether the output has room for them or not; and that zeros
-//! follow the bytes of data that an encoder holds.
+//! The state of a decoder after a piece that ends in padding, with zeros after the held bytes, and
+//! after longer pieces, with room in the output or without. Zeros also follow the bytes of data
+//! that an encoder holds.
 
 use super::rows::{bytes_of, row_of};
 use data_encoding::{DECODE_LIMIT, Encoding};

@@ -1,5 +1,5 @@
-//! Texts of several groups, with another byte at each position, for every width and both orders:
-//! what is read and written is what lists of bits give.
+//! Texts of several groups, with another byte at each position, for every width and both orders.
+//! The bytes read and written are those that lists of bits give.
 
 use super::comparison::{Comparison, Differs, is_written_alike};
 use data_encoding::{Character, DECODE_LIMIT, DecodeError, DecodeKind, Encoding};

@@ -1,5 +1,5 @@
-//! Data of each length up to 200 bytes, and of 200 lengths whose texts are longer, for every width
-//! and both orders, padded (if a group has room for padding) or not, in lines or not: the texts are
+//! Data of each length up to 200 bytes, and of 200 lengths with longer texts, for every width and
+//! both orders, padded (if a group has room for padding) or not, in lines or not. The texts are
 //! those that lists of bits give, and mean the data.
 
 use super::comparison::{Comparison, Differs};

@@ -1,4 +1,4 @@
-//! Laws, displayed faults, and data of many bytes.
+//! Laws, the messages of faults, and data of many bytes.
 
 use super::encoding::is_there_and_back;
 use super::rows::{bytes_of_length, row_of};

@@ -1,4 +1,4 @@
-//! Layouts: which bytes are one, and which encoding has it.
+//! Layouts, and the encodings that have them.
 
 use super::predefined::named;
 use data_encoding::Encoding;

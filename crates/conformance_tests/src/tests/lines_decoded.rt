@@ -1,4 +1,4 @@
-//! Texts of many lines of one length: what is read and written is what lists of bits give.
+//! Texts of many lines of one length. The bytes read and written are those that lists of bits give.
 
 use super::comparison::{Comparison, Differs, is_decoded_alike};
 use data_encoding::DECODE_LIMIT;

@@ -1,4 +1,4 @@
-//! Texts of some hundred bytes that come in pieces of a few lengths.
+//! Texts of a few hundred bytes that come in pieces of a few lengths.
 
 use super::comparison::{Comparison, Differs};
 use super::rows::bytes_of_length;

@@ -1,4 +1,5 @@
-//! Texts of some hundred bytes with ignored bytes within groups, close to each other and far apart.
+//! Texts of a few hundred bytes with ignored bytes within groups, close to each other and far
+//! apart.
 
 ghost use Rattle.std.specs.Prelude.{◌<◌};
 
@@ -39,7 +40,7 @@ fn push_scattered(text: &mut Vec<u8>, bytes: &[u8], seed: u32) -> Result<(), All
     Ok(())
 }
 
-// The text of data whose symbols are eight times this many, and of so many bytes more.
+// Encodes data of `8 * eighths` symbols plus `more` bytes.
 fn text_of_length(
     comparison: &Comparison<'_>,
     eighths: usize,

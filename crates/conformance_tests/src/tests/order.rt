@@ -1,4 +1,4 @@
-//! Texts that are compared instead of data.
+//! Texts that are compared in place of data.
 
 use data_encoding::{ENCODE_LIMIT, Encoding};
 use std::alloc::Global;

@@ -1,4 +1,4 @@
-//! Encodings by reference, next to the same as values.
+//! Encodings by reference, compared with the same encodings as values.
 
 ghost use Rattle.std.specs.Prelude.{◌≤◌, length};
 

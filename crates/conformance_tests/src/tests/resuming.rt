@@ -1,4 +1,4 @@
-//! Texts that are decoded in two pieces: what the first call leaves comes before what follows.
+//! Texts that are decoded in two pieces. The rest of the first piece comes before the second.
 
 ghost use Rattle.std.specs.Prelude.{◌≤◌, length};
 

@@ -1,5 +1,5 @@
-//! Readers and writers that give few bytes, take few bytes, or fail once, and what a stream did
-//! with them.
+//! Readers and writers that give few bytes, take few bytes, or fail once, and the effect of a
+//! stream on them.
 
 use encoding_stream::{StreamFault, Watch};
 use std::alloc::Global;

@@ -1,4 +1,4 @@
-//! Rows of calls: the fields of an encoding, or its name; what it is given; and what is expected.
+//! Rows of calls: the fields of an encoding, or its name; the arguments; and the expected results.
 
 pub(super) const TEXTS: &str = "\
 hex|most|check|||0|||||
