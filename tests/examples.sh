@@ -196,7 +196,7 @@ is 'the table of docs/FORMATS.md has each encoding, canonical or not' \
     "$(for name in $(basecode list); do
         echo "$name $(basecode canonical "$name" | sed 's/true/yes/; s/false/no/')"
     done)" \
-    "$(sed -n 's/^| \([A-Z0-9_]*\) | .* | \(yes\|no\) | .*/\1 \2/p' docs/FORMATS.md)"
+    "$(sed -n 's/^| \([A-Z0-9_]*\) | [^|]*| \(yes\|no\) | .*/\1 \2/p' docs/FORMATS.md)"
 
 [ "$passed" -ge 20 ] || fail 'the pages have fewer than 20 examples'
 finish
