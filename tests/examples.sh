@@ -79,8 +79,8 @@ try_commands() {
     '(cd crates/basecode && rt try --test)') holds "$1: $2" quietly bash -e -c "$2" ;;
     # It runs this test.
     'tests/setup && tests/all') holds "$1: $2" [ -x tests/setup -a -x tests/all ] ;;
-    # They use a file of a release.
-    'sha256sum --check SHA256SUMS' | 'basecode-0.1.0-x86_64-linux/install.sh --remove ~/.local') ;;
+    # release/check runs these.
+    'sha256sum --check SHA256SUMS' | "basecode-$version-x86_64-linux/install.sh --remove ~/.local") ;;
     *) is "$1: a block of sh" 'one that is known here' "$2" ;;
     esac
 }
