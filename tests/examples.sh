@@ -79,8 +79,8 @@ try_commands() {
     '(cd crates/basecode && rt try --test)') holds "$1: $2" quietly bash -e -c "$2" ;;
     # It runs this test.
     'tests/setup && tests/all') holds "$1: $2" [ -x tests/setup -a -x tests/all ] ;;
-    # They use a file of a release.
-    'sha256sum --check SHA256SUMS' | 'basecode-0.1.0-x86_64-linux/install.sh --remove ~/.local') ;;
+    # release/check runs these.
+    'sha256sum --check SHA256SUMS' | "basecode-$version-x86_64-linux/install.sh --remove ~/.local") ;;
     *) is "$1: a block of sh" 'one that is known here' "$2" ;;
     esac
 }
@@ -177,7 +177,7 @@ is 'the table of docs/FORMATS.md has each encoding, canonical or not' \
     "$(for name in $(basecode list); do
         echo "$name $(basecode canonical "$name" | sed 's/true/yes/; s/false/no/')"
     done)" \
-    "$(sed -n 's/^| \([A-Z0-9_]*\) | .* | \(yes\|no\) | .*/\1 \2/p' docs/FORMATS.md)"
+    "$(sed -n 's/^| \([A-Z0-9_]*\) | [^|]*| \(yes\|no\) | .*/\1 \2/p' docs/FORMATS.md)"
 
 [ "$passed" -ge 20 ] || fail 'the pages have fewer than 20 examples'
 finish
