@@ -138,9 +138,12 @@ while IFS= read -r -d '' block; do
 done < <(sed -n '/^\.EX$/,/^\.EE$/ { s/\\-/-/g; s/\\e/\\/g; s/^\.EE$/\x00/; /^\.EX$/d; p }' \
     crates/basecode/basecode.1)
 
-# anchors PAGE: those of its headings.
+# anchors FILE: those of the headings of a page, or of the lines of another file.
 anchors() {
-    sed -nE 's/\]\([^)]*\)//g; s/^#+ (.*)/\1/p' "$1" | tr 'A-Z ' 'a-z-' | sed 's/[^a-z0-9_-]//g'
+    case $1 in
+    *.md) sed -nE 's/\]\([^)]*\)//g; s/^#+ (.*)/\1/p' "$1" | tr 'A-Z ' 'a-z-' | sed 's/[^a-z0-9_-]//g' ;;
+    *) sed -n '=' "$1" | sed 's/^/L/' ;;
+    esac
 }
 
 # links PAGE: where its links within the repository lead.
@@ -149,10 +152,14 @@ links() {
 }
 
 for page in *.md docs/*.md; do
+    last=
     while IFS='#' read -r target anchor; do
         [ -n "$target" ] && target=$(dirname "$page")/$target || target=$page
-        if [ ! -f "$target" ] || { [ -n "$anchor" ] && ! anchors "$target" | grep -qxF "$anchor"; }
-        then
+        if [ -n "$anchor" ] && [ -f "$target" ] && [ "$target" != "$last" ]; then
+            anchors "$target" >"$room/anchors"
+            last=$target
+        fi
+        if [ ! -f "$target" ] || { [ -n "$anchor" ] && ! grep -qxF -e "$anchor" "$room/anchors"; }; then
             echo "$page: $target $anchor"
         fi
     done < <(links "$page")
