@@ -96,9 +96,11 @@ def wrapped(text, indent=""):
 
 
 def links_of(call):
-    """The line with the definitions that the clauses name and the block does not show."""
-    shown = {it[1] for it in map(HEAD.match, call.block) if it}
-    links = [f"[`{key[2]}`]({KNOWN[key].file})" for key in call.keys() if key[2] not in shown]
+    """The line with the definitions that the clauses name, or their record, and that no block shows."""
+    keys = list(call.keys())
+    keys += [it for key in keys if key[2] in RECORD_NAMES for it in IMPORTS.below(key)]
+    shown = {it[1] for it in map(HEAD.match, call.block) if it} | set(RECORD_NAMES)
+    links = [f"[`{key[2]}`]({KNOWN[key].file})" for key in dict.fromkeys(keys) if key[2] not in shown]
     return wrapped(f"Definitions: {', '.join(links)}.") + [""] if links else []
 
 
@@ -165,10 +167,19 @@ def page(name, crates, old, wrong):
     return re.sub(r"\n{3,}", "\n\n", "\n".join(lines)).rstrip("\n") + "\n"
 
 
+def linked(text, homes):
+    """The text with rustdoc's links to calls as links to their headings, and without its other links."""
+    def link(it):
+        target = re.sub(r"^crate::|[^a-z0-9_:]", "", (it[2] or it[1]).lower()).replace(":", "")
+        if (it[2] or "").startswith("http"):
+            return it[0]
+        return f"[{it[1]}](#{target})" if target in homes else it[1]
+
+    return re.sub(r"\[(`[^`]+`)\](?:\(([^)]+)\))?", link, text)
+
+
 def resolved(text, name, homes):
     """The text of a page, in which links to calls lead to the pages that have them."""
-    text = re.sub(r"\[(`\w+(?:::\w+)+(?:\(\))?`)\](?!\()",
-                  lambda it: f"[{it[1]}](#{re.sub('[^a-z0-9_]', '', it[1].lower())})", text)
     return re.sub(r"\]\(#([\w-]+)\)", lambda it: it[0] if homes.get(it[1], name) == name
                   else f"]({homes[it[1]]}#{it[1]})", text)
 
@@ -181,6 +192,8 @@ def by_page():
             name = page_of(crate, call)
             pages.setdefault(name, {}).setdefault(crate, []).append(call)
             homes[call.anchor] = name
+    for call in (call for crates in pages.values() for calls in crates.values() for call in calls):
+        call.summary = linked(call.summary, homes)
     return pages, homes
 
 
