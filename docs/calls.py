@@ -60,7 +60,7 @@ class Call:
 
     def keys(self):
         """The keys of the definitions that its clauses name, in the order in which they do."""
-        names = names_in(" ".join(clauses(self.block).values()))
+        names = names_in(" ".join(clauses(self.header).values()))
         return [self.imported[name] for name in names if name in self.imported]
 
 
