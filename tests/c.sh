@@ -103,6 +103,10 @@ fi
 if command -v c++ >/dev/null; then
     program 'calls in C++' c++ -std=c++11 "${strict[@]:1}" -x c++ tests/c/calls.c -x none \
         "$lib/libdata_encoding.a"
+    holds 'the lengths in C++, without casts of C' c++ -std=c++11 -Wold-style-cast "${strict[@]:1}" \
+        -fsyntax-only -x c++ - <<<'#include "data_encoding.h"
+char text[DE_BASE64_ENCODED_LEN(5) + DE_HEXLOWER_ENCODED_LEN(5)];
+char data[DE_BASE64_DECODED_LEN(8) + DE_HEXLOWER_DECODED_LEN(8)];'
 else
     skip 'calls in C++: no c++'
 fi
