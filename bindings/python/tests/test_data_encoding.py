@@ -450,6 +450,16 @@ class Faults(unittest.TestCase):
             self.assertEqual((other.kind, other.position, other.data), ("symbol", 7, b"foo"))
             self.assertEqual(str(other), str(error))
 
+    def test_repr(self) -> None:
+        """It leaves out the data, which copies keep."""
+        class Other(DecodeError):
+            pass
+
+        error = DecodeError("symbol", 7, bytes(100_000))
+        self.assertEqual(repr(error), "DecodeError('symbol', 7)")
+        self.assertEqual(repr(Other("length", 4)), "Other('length', 4)")
+        self.assertEqual(pickle.loads(pickle.dumps(error)).data, bytes(100_000))
+
     def test_process_pool(self) -> None:
         with concurrent.futures.ProcessPoolExecutor(1) as pool:
             self.assertEqual(pool.submit(OWN[0].decode, "142 =====").result(), b"1")

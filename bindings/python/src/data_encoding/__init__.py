@@ -88,6 +88,10 @@ class DecodeError(ValueError):
     def __str__(self) -> str:
         return f"{_FAULTS.get(self.kind, self.kind)} at {self.position}"
 
+    def __repr__(self) -> str:
+        """Leaves out the data, which may be long or secret."""
+        return f"{type(self).__name__}({self.kind!r}, {self.position})"
+
 
 class Partial(NamedTuple):
     """The result of decoding as much of a text as possible."""
