@@ -11,11 +11,13 @@ import doctest
 import importlib
 import io
 import itertools
+import json
 import pickle
 import random
 import sys
 import threading
 import time
+import types
 import unittest
 from typing import Any, Callable, List, Optional, Tuple
 
@@ -475,7 +477,9 @@ class Encodings(unittest.TestCase):
             ({"symbols": "abc"}, "invalid number of symbols"),
             ({"symbols": "aa"}, "'a' has conflicting definitions"),
             ({"symbols": "01", "padding": "="}, "unnecessary padding"),
-            ({"symbols": "a\u00e9"}, "invalid number of symbols"),
+            ({"symbols": "0\u00e9"}, "non-ascii character"),
+            ({"symbols": "\u00e9"}, "non-ascii character"),
+            ({"symbols": "01", "wrap": (8, "\u0141")}, "non-ascii character"),
             ({"symbols": "01", "ignore": "\u00e9"}, "non-ascii character"),
             ({"symbols": "01", "ignore": "\ud800"}, "non-ascii character"),
             ({"symbols": "01234567", "padding": "\u20ac"}, "non-ascii character"),
@@ -509,14 +513,19 @@ class Encodings(unittest.TestCase):
             ({"symbols": None}, "symbols has to be a str, not NoneType"),
             ({"symbols": "01", "padding": 61}, "padding has to be a str or None, not int"),
             ({"symbols": "01", "ignore": ["a"]}, "ignore has to be a str, not list"),
-            ({"symbols": "01", "wrap": (8,)}, "wrap has to be a tuple of two"),
+            ({"symbols": "01", "wrap": (8,)}, "wrap has to be a tuple or list of two"),
+            ({"symbols": "01", "wrap": "8\n"}, "wrap has to be a tuple or list of two"),
+            ({"symbols": "01", "wrap": [8]}, "wrap has to be a tuple or list of two"),
             ({"symbols": "01", "wrap": ("8", "\n")},
              "the width of wrap has to be an int, not str"),
             ({"symbols": "01", "wrap": (True, "\n")},
              "the width of wrap has to be an int, not bool"),
             ({"symbols": "01", "wrap": (8, b"\n")},
              "the separator of wrap has to be a str, not bytes"),
-            ({"symbols": "01", "translate": {"a": "0"}}, "translate has to be a tuple of two"),
+            ({"symbols": "01", "translate": {"a": "0"}},
+             "translate has to be a tuple or list of two"),
+            ({"symbols": "01", "translate": "a0"}, "translate has to be a tuple or list of two"),
+            ({"symbols": "01", "translate": ["a", 0]}, "translate has to be a str, not int"),
             ({"symbols": "01", "translate": (1, 2)}, "translate has to be a str, not int"),
         ):
             with self.assertRaises(TypeError) as caught:
@@ -578,6 +587,14 @@ class Encodings(unittest.TestCase):
         self.assertFalse(OWN[2].specification()["concatenate"])
         self.assertTrue(OWN[3].specification()["least_significant_first"])
         self.assertFalse(OWN[5].specification()["check_trailing_bits"])
+
+    def test_specifications_of_json(self) -> None:
+        """JSON has lists in place of tuples."""
+        for encoding in every():
+            asked = json.loads(json.dumps(encoding.specification()))
+            self.assertEqual(Encoding(**asked), encoding)
+        self.assertEqual(Encoding("01", wrap=[8, "\n"], translate=["ab", "01"]),
+                         Encoding("01", wrap=(8, "\n"), translate=("ab", "01")))
 
     def test_equality(self) -> None:
         for one, other in itertools.product(every(), every()):

@@ -153,13 +153,15 @@ def _write(target: _Target, data: bytes) -> None:
 def _text(name: str, value: object) -> bytes:
     if not isinstance(value, str):
         raise TypeError(f"{name} has to be a str, not {type(value).__name__}")
-    # A character that is not ASCII is refused by the library, whichever it is.
-    return value.encode("utf-8", "surrogatepass")
+    # The library would count the bytes of such a character.
+    if not value.isascii():
+        raise ValueError("non-ascii character")
+    return value.encode("ascii")
 
 
 def _pair(name: str, value: object) -> Tuple[Any, Any]:
-    if not isinstance(value, tuple) or len(value) != 2:
-        raise TypeError(f"{name} has to be a tuple of two")
+    if not isinstance(value, (tuple, list)) or len(value) != 2:
+        raise TypeError(f"{name} has to be a tuple or list of two")
     return value[0], value[1]
 
 
@@ -197,8 +199,8 @@ class Encoding(Calls):
         *,
         padding: Optional[str] = None,
         ignore: str = "",
-        wrap: Tuple[int, str] = (0, ""),
-        translate: Tuple[str, str] = ("", ""),
+        wrap: Union[Tuple[int, str], List[Union[int, str]]] = (0, ""),
+        translate: Union[Tuple[str, str], List[str]] = ("", ""),
         least_significant_first: bool = False,
         check_trailing_bits: bool = True,
         concatenate: bool = True,
