@@ -89,6 +89,9 @@ done
 # Nothing is needed of the library once the wheel is built.
 export PYTHONPATH=$room/site
 unset DATA_ENCODING_DIR
+is 'the versions of the module and of the wheel' "$version $version" "$("$python" -c '
+import importlib.metadata, data_encoding
+print(data_encoding.__version__, importlib.metadata.version("data-encoding"))')"
 tests=(bindings/python/tests/test_data_encoding.py bindings/python/tests/test_compat.py)
 
 # try_with PYTHON NAME: runs the tests of the package with a Python.

@@ -634,14 +634,48 @@ class Encodings(unittest.TestCase):
         self.assertEqual(data_encoding.BASE64_MIME.encode_align, 57)
 
     def test_methods(self) -> None:
-        """Those of the module are an encoding's own, and still refuse any other object."""
+        """The methods of the module are an encoding's own."""
         for name in ("encode", "encode_bytes", "encode_into", "decode", "decode_into"):
             own = vars(Encoding)[name]
             self.assertIs(own.__objclass__, Encoding)
             self.assertEqual(own.__doc__, getattr(data_encoding._native.Calls, name).__doc__)
-            self.assertRaises(TypeError, own, 5, b"foo")
-        for wrong in (5, BASE64):
-            self.assertRaises(TypeError, data_encoding._native.adopt, wrong)
+
+    def test_methods_of_other_objects(self) -> None:
+        """A method refuses an object of another class, however it gets there."""
+        class Other:
+            pass
+
+        own = [it for it in vars(Encoding).values() if isinstance(it, types.MethodDescriptorType)]
+        inherited = [it for it in vars(data_encoding._native.Calls).values()
+                     if isinstance(it, types.MethodDescriptorType)]
+        self.assertEqual(len(own), len(inherited))
+        self.assertGreater(len(own), 10)
+        for method in own + inherited:
+            for count in range(3):
+                for wrong in (5, Other(), Encoding, data_encoding._native.Calls):
+                    self.assertRaises(TypeError, method, wrong, *count * [b"Zm9v"])
+            setattr(Other, method.__name__, method)
+            self.assertRaises(TypeError, getattr, Other(), method.__name__)
+
+    def test_methods_of_other_types(self) -> None:
+        """A class method of the module refuses a type that is not of its own."""
+        for name in ("_adopt", "_of_layout", "_specified"):
+            method: Any = vars(data_encoding._native.Calls)[name]
+            for wrong in (5, BASE64, object, int, type("Other", (), {})):
+                self.assertRaises(TypeError, method, wrong)
+                self.assertRaises(TypeError, method.__get__, None, wrong)
+                self.assertRaises(TypeError, getattr(Encoding, name), wrong)
+        self.assertIsNone(Encoding._adopt())
+        self.assertRaises(TypeError, data_encoding._native.Calls)
+        self.assertRaises(TypeError, type("Other", (data_encoding._native.Calls,), {}))
+        self.assertRaises(TypeError, object.__new__, data_encoding._native.Calls)
+
+    def test_public_names(self) -> None:
+        """No helper has a name that looks public."""
+        for name, value in vars(data_encoding).items():
+            if not name.startswith("_") and name not in data_encoding.__all__:
+                self.assertNotEqual(getattr(value, "__module__", None), "data_encoding._native")
+                self.assertNotIsInstance(value, types.BuiltinFunctionType)
 
     def test_unchanged(self) -> None:
         with self.assertRaises(AttributeError):

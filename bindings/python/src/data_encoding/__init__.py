@@ -17,7 +17,7 @@ from typing import (
     Any, Dict, List, NamedTuple, Optional, Protocol, Tuple, TypedDict, Union, final,
 )
 
-from ._native import Calls, adopt, names, new_decoder
+from . import _native
 
 __all__ = [
     "BASE32",
@@ -44,7 +44,10 @@ __all__ = [
     "HEXUPPER_PERMISSIVE",
     "Partial",
     "Specification",
+    "__version__",
 ]
+
+__version__ = _native.version
 
 _Bytes = Union[bytes, bytearray, memoryview]
 
@@ -185,7 +188,7 @@ def _width(value: object) -> int:
 
 
 @final
-class Encoding(Calls):
+class Encoding(_native.Calls):
     """A way to write data as text, and to read it back.
 
     An encoding is immutable, and threads may share it. Two are equal if their layouts are equal.
@@ -417,7 +420,7 @@ class Encoding(Calls):
         return BASE64URL_NOPAD
 
 
-adopt(Encoding)
+Encoding._adopt()
 
 # The fields of a layout: 256 symbols, repeated; what each byte means; the padding; the bits
 # of a symbol and flags; and the lines.
@@ -487,7 +490,7 @@ def _predefined(
     """Makes the predefined encoding of the name, and registers it."""
     encoding = Encoding._specified(
         symbols, _padding(padding), b"", *wrap, *translate, least_significant_first,
-        check_trailing_bits, True, names().index(name),
+        check_trailing_bits, True, _native.names().index(name),
     )
     _PREDEFINED[name] = encoding
     _NAMES[encoding.layout] = name
@@ -597,11 +600,11 @@ class Decoder(codecs.IncrementalDecoder):
     def __init__(self, encoding: Encoding, errors: str = "strict") -> None:
         super().__init__(errors)
         self._encoding = _encoding(encoding)
-        self._kept = new_decoder()
+        self._kept = _native.new_decoder()
 
     def reset(self) -> None:
         """Discards the text so far, so that a new one begins."""
-        self._kept = new_decoder()
+        self._kept = _native.new_decoder()
 
     def getstate(self) -> Tuple[bytes, int]:
         """Returns the held bytes of the text, and the whole state as a number."""

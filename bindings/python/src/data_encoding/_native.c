@@ -918,6 +918,11 @@ static PyObject *names(PyObject *module, PyObject *unused) {
 /* A method that is given its arguments as an array. */
 #define BY_ARRAY(call) (PyCFunction)(void (*)(void))(call), METH_FASTCALL
 
+static PyObject *adopt(PyObject *type, PyObject *unused);
+
+/* Python calls a method only with an object of the type that has it, and a class method only with a
+ * type that inherits from Calls. So any other object is refused before it is read. The class
+ * methods are the last. */
 static PyMethodDef encoding_methods[] = {
     {"encode", encode, METH_O,
      "encode($self, data, /)\n--\n\nReturns the text of `data`. Raises ValueError if it is "
@@ -950,21 +955,18 @@ static PyMethodDef encoding_methods[] = {
     {"_decoder_finish", decoder_finish, METH_O, NULL},
     {"_encoder_read", encoder_read, METH_VARARGS, NULL},
     {"_encoder_finish", encoder_finish, METH_O, NULL},
+    {"_adopt", adopt, METH_NOARGS | METH_CLASS, NULL},
     {"_specified", specified, METH_VARARGS | METH_CLASS, NULL},
     {"_of_layout", of_layout, METH_O | METH_CLASS, NULL},
     {NULL, NULL, 0, NULL},
 };
 
-/* Gives a type that inherits from Calls its methods as its own, but for those of the class, which
- * are the last: Python calls these sooner than those that are inherited. */
-static PyObject *adopt(PyObject *module, PyObject *type) {
+/* Python calls a type's own methods sooner than those that it inherits. */
+static PyObject *adopt(PyObject *type, PyObject *unused) {
     PyMethodDef *method = encoding_methods;
-    bool adopted = PyType_Check(type);
-    (void)module;
-    if (!adopted) {
-        PyErr_SetString(PyExc_TypeError, "adopt takes a type");
-    }
-    for (; adopted && (method->ml_flags & METH_CLASS) == 0 && method->ml_name != NULL; method++) {
+    bool adopted = true;
+    (void)unused;
+    for (; adopted && (method->ml_flags & METH_CLASS) == 0; method++) {
         PyObject *own = PyDescr_NewMethod((PyTypeObject *)(void *)type, method);
         adopted = own != NULL && PyObject_SetAttrString(type, method->ml_name, own) == 0;
         Py_XDECREF(own);
@@ -996,25 +998,22 @@ static PyType_Spec encoding_spec = {
 static PyMethodDef functions[] = {
     {"names", names, METH_NOARGS, NULL},
     {"new_decoder", new_decoder, METH_NOARGS, NULL},
-    {"adopt", adopt, METH_O, NULL},
     {NULL, NULL, 0, NULL},
 };
 
-/* Each interpreter has a type of its own, and the module has nothing else. */
+/* Each interpreter has a type of its own. */
 static int add_calls(PyObject *module) {
     PyObject *type = PyType_FromModuleAndSpec(module, &encoding_spec, NULL);
+    int added;
     if (type == NULL) {
         return -1;
     }
 #ifdef REMOVES_NEW
     ((PyTypeObject *)(void *)type)->tp_new = NULL;
 #endif
-    if (PyModule_AddType(module, (PyTypeObject *)(void *)type) != 0) {
-        Py_DECREF(type);
-        return -1;
-    }
+    added = PyModule_AddType(module, (PyTypeObject *)(void *)type);
     Py_DECREF(type);
-    return 0;
+    return added == 0 ? PyModule_AddStringConstant(module, "version", de_version()) : -1;
 }
 
 /* Py_mod_multiple_interpreters and Py_MOD_PER_INTERPRETER_GIL_SUPPORTED of Python 3.12, which older
