@@ -92,7 +92,7 @@ class Calls(unittest.TestCase):
                 self.assertRaises(DecodeError, BASE64.decode, text)
 
     def test_other_texts(self) -> None:
-        """The table of docs/PYTHON.md."""
+        """The table of docs/COMING_FROM.md."""
         asked = BASE64.specification()
         asked["concatenate"] = False
         single = Encoding(**asked)

@@ -1,7 +1,7 @@
 /* The calls of the library for C, as data_encoding/__init__.py uses them.
  *
- * Nothing here decides what a text means: an object of Python is made an array, a call of the
- * library is made, and what it wrote is made an object. With Py_LIMITED_API, which setup.py defines
+ * Only `decode_unpadded` decides anything about a text: its padding. An object of Python is made an
+ * array, a call of the library is made, and its output is made an object. With Py_LIMITED_API, which setup.py defines
  * from Python 3.11 on, the interface is the stable one, so that one build serves what comes after.
  */
 #define PY_SSIZE_T_CLEAN
@@ -530,6 +530,30 @@ static PyObject *decode_parts(PyObject *self, PyObject *object) {
                          (Py_ssize_t)decoded.position);
 }
 
+/* The data of a text of base64, or None if it is invalid. The encoding is without padding: the text
+ * may have more of it at its end than the last group lacks, but not less. */
+static PyObject *decode_unpadded(PyObject *self, PyObject *object) {
+    struct input input;
+    size_t padding = 0;
+    de_status status;
+    de_decoded decoded;
+    PyObject *data;
+    if (!take_text(&input, object)) {
+        return NULL;
+    }
+    while (input.len > 0 && memchr("=\r\n", input.start[input.len - 1], 3) != NULL) {
+        input.len--;
+        padding += input.start[input.len] == '=';
+    }
+    data = decode_input(encoding_of(self), &input, &status, &decoded);
+    release(&input);
+    if (data != NULL && (status != DE_OK || padding < (3 - decoded.written % 3) % 3)) {
+        Py_DECREF(data);
+        Py_RETURN_NONE;
+    }
+    return data;
+}
+
 /* Writes the data to the start of the output, and returns its length. */
 static PyObject *decode_to(const encoding *it, const struct input *input, Py_buffer *output) {
     de_status status;
@@ -949,6 +973,7 @@ static PyMethodDef encoding_methods[] = {
      "is_canonical($self, /)\n--\n\nReturns True if no two different texts decode to the same "
      "data."},
     {"_decode_parts", decode_parts, METH_O, NULL},
+    {"_decode_unpadded", decode_unpadded, METH_O, NULL},
     {"_layout", layout, METH_NOARGS, NULL},
     {"_decoder_held", decoder_held, METH_O, NULL},
     {"_decoder_read", decoder_read, METH_VARARGS, NULL},
