@@ -83,7 +83,7 @@ wheel() {
 }
 
 make_python() {
-    local arch name=data-encoding-$version
+    local arch name=data_encoding-$version
     build_libraries
     mkdir "$room/python"
     cp -r bindings/python/{pyproject.toml,setup.py,README.md,src} LICENSE "$room/python"
@@ -92,10 +92,11 @@ make_python() {
     done
     (cd "$room/python" && quietly env -u DATA_ENCODING_DIR /usr/bin/python3 setup.py sdist \
         --formats=tar --dist-dir "$room")
-    tar -C "$room/trees" -xf "$room/$name.tar"
+    # The name of an sdist and of its folder has `_` by their standard. Older versions of setuptools
+    # write `-`.
+    mkdir "$room/trees/$name"
+    tar -C "$room/trees/$name" --strip-components=1 -xf "$room"/data?encoding-"$version.tar"
     archive "$name"
-    # The name that an sdist has by its standard.
-    mv "$target/$name.tar.gz" "$target/data_encoding-$version.tar.gz"
 }
 
 make_javascript() {

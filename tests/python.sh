@@ -48,8 +48,9 @@ include=$("$python" -c 'import sysconfig; print(sysconfig.get_paths()["include"]
 holds 'the half in C' quietly "$cc" -std=c99 -Wall -Wextra -Wpedantic -Werror "-I$lib" \
     -isystem "$include" -c bindings/python/src/data_encoding/_native.c -o native.o
 
-wanted="DATA_ENCODING_DIR has to be the absolute path of a folder with libdata_encoding.a, which \
-\`crates/data_encoding_c/build.sh FOLDER\` makes from the sources of Bamsturk"
+wanted="DATA_ENCODING_DIR has to be the absolute path of a folder with libdata_encoding.a: unpack \
+data-encoding-c-*.tar.gz of a release, or run \`crates/data_encoding_c/build.sh FOLDER\` in the sources \
+of Bamsturk"
 for folder in '' "$room" lib; do
     given=$(cd bindings/python && DATA_ENCODING_DIR=$folder PYTHONWARNINGS=ignore "$python" setup.py -q \
         build_ext 2>&1)
@@ -88,6 +89,9 @@ done
 # Nothing is needed of the library once the wheel is built.
 export PYTHONPATH=$room/site
 unset DATA_ENCODING_DIR
+is 'the versions of the module and of the wheel' "$version $version" "$("$python" -c '
+import importlib.metadata, data_encoding
+print(data_encoding.__version__, importlib.metadata.version("data-encoding"))')"
 tests=(bindings/python/tests/test_data_encoding.py bindings/python/tests/test_compat.py)
 
 # try_with PYTHON NAME: runs the tests of the package with a Python.

@@ -17,8 +17,9 @@ def folder() -> str:
     found = os.environ.get("DATA_ENCODING_DIR", "")
     if not os.path.isabs(found) or not os.path.isfile(os.path.join(found, ARCHIVE)):
         sys.exit(
-            f"DATA_ENCODING_DIR has to be the absolute path of a folder with {ARCHIVE}, which "
-            "`crates/data_encoding_c/build.sh FOLDER` makes from the sources of Bamsturk"
+            f"DATA_ENCODING_DIR has to be the absolute path of a folder with {ARCHIVE}: unpack "
+            "data-encoding-c-*.tar.gz of a release, or run `crates/data_encoding_c/build.sh FOLDER` "
+            "in the sources of Bamsturk"
         )
     return found
 

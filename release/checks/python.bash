@@ -28,6 +28,8 @@ END
 }
 
 if has '*.whl' && ! lacks 'the wheels' python3 python3; then
+    sdist=$files/data_encoding-$version.tar.gz
+    is 'the folder of the sdist' "data_encoding-$version" "$(tar -tf "$sdist" | cut -d / -f 1 | sort -u)"
     for arch in x86_64 aarch64; do
         is "the wheel for $arch" "glibc True
 stripped True
@@ -52,7 +54,6 @@ python ['Requires-Python: >=3.9']" "$(wheel_facts \
         fi
         holds 'the tests of the package' quietly environment/bin/python3 \
             "$pages/bindings/python/tests/test_data_encoding.py"
-        sdist=$files/data_encoding-$version.tar.gz
         is 'what the sdist lacks' 1 "$(environment/bin/python3 -m pip wheel --no-index --no-deps \
             --no-build-isolation --wheel-dir wheels "$sdist" 2>&1 |
             grep -c 'DATA_ENCODING_DIR has to be .*libdata_encoding\.a')"

@@ -126,6 +126,44 @@ class Same(unittest.TestCase):
                 self.assert_same("b64decode", text, None, True)
                 self.assert_same("b64decode", text, b"-_", True)
 
+    def damaged(self, text: bytes) -> bytes:
+        """The text with up to three bytes that are not symbols anywhere in it."""
+        found = bytearray(text)
+        for _ in range(random.choice((0, 0, 0, 1, 2, 3))):
+            byte = random.choice(b"==!- \n\t\0\x7f\xe9\xff")
+            found.insert(random.randrange(len(found) + 1), byte)
+        return bytes(found)
+
+    def test_written_base64(self) -> None:
+        """Texts as programs write them, some of them damaged."""
+        for _ in range(1000):
+            data = random.randbytes(random.choice((0, 1, 2, 3, 16, 57, 58, 200, 383, 384, 1000)))
+            lines = base64.encodebytes(data)
+            segment = base64.urlsafe_b64encode(data).rstrip(b"=")
+            for written in (base64.b64encode(data), base64.b64encode(data, b"*$"), lines,
+                            lines.replace(b"\n", b"\r\n"), segment, segment + b"=",
+                            segment + b"==", segment + b"===\n"):
+                text = self.damaged(written)
+                one: Any
+                for one in (text, text.decode("latin-1")):
+                    self.assert_same("b64decode", one)
+                    self.assert_same("b64decode", one, "*$")
+                    self.assert_same("urlsafe_b64decode", one)
+                    self.assert_same("standard_b64decode", one)
+                    if not is_padded_in_vain(text):
+                        self.assert_same("b64decode", one, None, True)
+                        self.assert_same("b64decode", one, b"*$", True)
+
+    def test_messages_for_padding(self) -> None:
+        """Without `validate` the standard library itself refuses a text."""
+        for text in (b"Zm9vY", b"Zm9vYm=", "Zm9v\nYm", b"=Zm9", b"Zm=9\xff"):
+            said = []
+            for module in (base64, compat):
+                with self.assertRaises(binascii.Error) as caught:
+                    module.b64decode(text)
+                said.append(str(caught.exception))
+            self.assertEqual(said[0], said[1])
+
     def test_base32(self) -> None:
         names = [name for name in ("b32decode", "b32hexdecode") if hasattr(base64, name)]
         for text in self.texts(b"MZXW6ABmzx01") + self.texts(b"MZXW6A"):

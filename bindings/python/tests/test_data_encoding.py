@@ -11,11 +11,13 @@ import doctest
 import importlib
 import io
 import itertools
+import json
 import pickle
 import random
 import sys
 import threading
 import time
+import types
 import unittest
 from typing import Any, Callable, List, Optional, Tuple
 
@@ -90,7 +92,7 @@ class Calls(unittest.TestCase):
                 self.assertRaises(DecodeError, BASE64.decode, text)
 
     def test_other_texts(self) -> None:
-        """The table of docs/PYTHON.md."""
+        """Differences from `base64` and `binascii`."""
         asked = BASE64.specification()
         asked["concatenate"] = False
         single = Encoding(**asked)
@@ -450,6 +452,16 @@ class Faults(unittest.TestCase):
             self.assertEqual((other.kind, other.position, other.data), ("symbol", 7, b"foo"))
             self.assertEqual(str(other), str(error))
 
+    def test_repr(self) -> None:
+        """It leaves out the data, which copies keep."""
+        class Other(DecodeError):
+            pass
+
+        error = DecodeError("symbol", 7, bytes(100_000))
+        self.assertEqual(repr(error), "DecodeError('symbol', 7)")
+        self.assertEqual(repr(Other("length", 4)), "Other('length', 4)")
+        self.assertEqual(pickle.loads(pickle.dumps(error)).data, bytes(100_000))
+
     def test_process_pool(self) -> None:
         with concurrent.futures.ProcessPoolExecutor(1) as pool:
             self.assertEqual(pool.submit(OWN[0].decode, "142 =====").result(), b"1")
@@ -465,7 +477,9 @@ class Encodings(unittest.TestCase):
             ({"symbols": "abc"}, "invalid number of symbols"),
             ({"symbols": "aa"}, "'a' has conflicting definitions"),
             ({"symbols": "01", "padding": "="}, "unnecessary padding"),
-            ({"symbols": "a\u00e9"}, "invalid number of symbols"),
+            ({"symbols": "0\u00e9"}, "non-ascii character"),
+            ({"symbols": "\u00e9"}, "non-ascii character"),
+            ({"symbols": "01", "wrap": (8, "\u0141")}, "non-ascii character"),
             ({"symbols": "01", "ignore": "\u00e9"}, "non-ascii character"),
             ({"symbols": "01", "ignore": "\ud800"}, "non-ascii character"),
             ({"symbols": "01234567", "padding": "\u20ac"}, "non-ascii character"),
@@ -499,14 +513,19 @@ class Encodings(unittest.TestCase):
             ({"symbols": None}, "symbols has to be a str, not NoneType"),
             ({"symbols": "01", "padding": 61}, "padding has to be a str or None, not int"),
             ({"symbols": "01", "ignore": ["a"]}, "ignore has to be a str, not list"),
-            ({"symbols": "01", "wrap": (8,)}, "wrap has to be a tuple of two"),
+            ({"symbols": "01", "wrap": (8,)}, "wrap has to be a tuple or list of two"),
+            ({"symbols": "01", "wrap": "8\n"}, "wrap has to be a tuple or list of two"),
+            ({"symbols": "01", "wrap": [8]}, "wrap has to be a tuple or list of two"),
             ({"symbols": "01", "wrap": ("8", "\n")},
              "the width of wrap has to be an int, not str"),
             ({"symbols": "01", "wrap": (True, "\n")},
              "the width of wrap has to be an int, not bool"),
             ({"symbols": "01", "wrap": (8, b"\n")},
              "the separator of wrap has to be a str, not bytes"),
-            ({"symbols": "01", "translate": {"a": "0"}}, "translate has to be a tuple of two"),
+            ({"symbols": "01", "translate": {"a": "0"}},
+             "translate has to be a tuple or list of two"),
+            ({"symbols": "01", "translate": "a0"}, "translate has to be a tuple or list of two"),
+            ({"symbols": "01", "translate": ["a", 0]}, "translate has to be a str, not int"),
             ({"symbols": "01", "translate": (1, 2)}, "translate has to be a str, not int"),
         ):
             with self.assertRaises(TypeError) as caught:
@@ -569,6 +588,14 @@ class Encodings(unittest.TestCase):
         self.assertTrue(OWN[3].specification()["least_significant_first"])
         self.assertFalse(OWN[5].specification()["check_trailing_bits"])
 
+    def test_specifications_of_json(self) -> None:
+        """JSON has lists in place of tuples."""
+        for encoding in every():
+            asked = json.loads(json.dumps(encoding.specification()))
+            self.assertEqual(Encoding(**asked), encoding)
+        self.assertEqual(Encoding("01", wrap=[8, "\n"], translate=["ab", "01"]),
+                         Encoding("01", wrap=(8, "\n"), translate=("ab", "01")))
+
     def test_equality(self) -> None:
         for one, other in itertools.product(every(), every()):
             self.assertEqual(one == other, one is other)
@@ -607,14 +634,48 @@ class Encodings(unittest.TestCase):
         self.assertEqual(data_encoding.BASE64_MIME.encode_align, 57)
 
     def test_methods(self) -> None:
-        """Those of the module are an encoding's own, and still refuse any other object."""
+        """The methods of the module are an encoding's own."""
         for name in ("encode", "encode_bytes", "encode_into", "decode", "decode_into"):
             own = vars(Encoding)[name]
             self.assertIs(own.__objclass__, Encoding)
             self.assertEqual(own.__doc__, getattr(data_encoding._native.Calls, name).__doc__)
-            self.assertRaises(TypeError, own, 5, b"foo")
-        for wrong in (5, BASE64):
-            self.assertRaises(TypeError, data_encoding._native.adopt, wrong)
+
+    def test_methods_of_other_objects(self) -> None:
+        """A method refuses an object of another class, however it gets there."""
+        class Other:
+            pass
+
+        own = [it for it in vars(Encoding).values() if isinstance(it, types.MethodDescriptorType)]
+        inherited = [it for it in vars(data_encoding._native.Calls).values()
+                     if isinstance(it, types.MethodDescriptorType)]
+        self.assertEqual(len(own), len(inherited))
+        self.assertGreater(len(own), 10)
+        for method in own + inherited:
+            for count in range(3):
+                for wrong in (5, Other(), Encoding, data_encoding._native.Calls):
+                    self.assertRaises(TypeError, method, wrong, *count * [b"Zm9v"])
+            setattr(Other, method.__name__, method)
+            self.assertRaises(TypeError, getattr, Other(), method.__name__)
+
+    def test_methods_of_other_types(self) -> None:
+        """A class method of the module refuses a type that is not of its own."""
+        for name in ("_adopt", "_of_layout", "_specified"):
+            method: Any = vars(data_encoding._native.Calls)[name]
+            for wrong in (5, BASE64, object, int, type("Other", (), {})):
+                self.assertRaises(TypeError, method, wrong)
+                self.assertRaises(TypeError, method.__get__, None, wrong)
+                self.assertRaises(TypeError, getattr(Encoding, name), wrong)
+        self.assertIsNone(Encoding._adopt())
+        self.assertRaises(TypeError, data_encoding._native.Calls)
+        self.assertRaises(TypeError, type("Other", (data_encoding._native.Calls,), {}))
+        self.assertRaises(TypeError, object.__new__, data_encoding._native.Calls)
+
+    def test_public_names(self) -> None:
+        """No helper has a name that looks public."""
+        for name, value in vars(data_encoding).items():
+            if not name.startswith("_") and name not in data_encoding.__all__:
+                self.assertNotEqual(getattr(value, "__module__", None), "data_encoding._native")
+                self.assertNotIsInstance(value, types.BuiltinFunctionType)
 
     def test_unchanged(self) -> None:
         with self.assertRaises(AttributeError):

@@ -17,7 +17,7 @@ from typing import (
     Any, Dict, List, NamedTuple, Optional, Protocol, Tuple, TypedDict, Union, final,
 )
 
-from ._native import Calls, adopt, names, new_decoder
+from . import _native
 
 __all__ = [
     "BASE32",
@@ -44,7 +44,10 @@ __all__ = [
     "HEXUPPER_PERMISSIVE",
     "Partial",
     "Specification",
+    "__version__",
 ]
+
+__version__ = _native.version
 
 _Bytes = Union[bytes, bytearray, memoryview]
 
@@ -87,6 +90,10 @@ class DecodeError(ValueError):
 
     def __str__(self) -> str:
         return f"{_FAULTS.get(self.kind, self.kind)} at {self.position}"
+
+    def __repr__(self) -> str:
+        """Leaves out the data, which may be long or secret."""
+        return f"{type(self).__name__}({self.kind!r}, {self.position})"
 
 
 class Partial(NamedTuple):
@@ -149,13 +156,15 @@ def _write(target: _Target, data: bytes) -> None:
 def _text(name: str, value: object) -> bytes:
     if not isinstance(value, str):
         raise TypeError(f"{name} has to be a str, not {type(value).__name__}")
-    # A character that is not ASCII is refused by the library, whichever it is.
-    return value.encode("utf-8", "surrogatepass")
+    # The library would count the bytes of such a character.
+    if not value.isascii():
+        raise ValueError("non-ascii character")
+    return value.encode("ascii")
 
 
 def _pair(name: str, value: object) -> Tuple[Any, Any]:
-    if not isinstance(value, tuple) or len(value) != 2:
-        raise TypeError(f"{name} has to be a tuple of two")
+    if not isinstance(value, (tuple, list)) or len(value) != 2:
+        raise TypeError(f"{name} has to be a tuple or list of two")
     return value[0], value[1]
 
 
@@ -179,7 +188,7 @@ def _width(value: object) -> int:
 
 
 @final
-class Encoding(Calls):
+class Encoding(_native.Calls):
     """A way to write data as text, and to read it back.
 
     An encoding is immutable, and threads may share it. Two are equal if their layouts are equal.
@@ -193,8 +202,8 @@ class Encoding(Calls):
         *,
         padding: Optional[str] = None,
         ignore: str = "",
-        wrap: Tuple[int, str] = (0, ""),
-        translate: Tuple[str, str] = ("", ""),
+        wrap: Union[Tuple[int, str], List[Union[int, str]]] = (0, ""),
+        translate: Union[Tuple[str, str], List[str]] = ("", ""),
         least_significant_first: bool = False,
         check_trailing_bits: bool = True,
         concatenate: bool = True,
@@ -411,7 +420,7 @@ class Encoding(Calls):
         return BASE64URL_NOPAD
 
 
-adopt(Encoding)
+Encoding._adopt()
 
 # The fields of a layout: 256 symbols, repeated; what each byte means; the padding; the bits
 # of a symbol and flags; and the lines.
@@ -481,7 +490,7 @@ def _predefined(
     """Makes the predefined encoding of the name, and registers it."""
     encoding = Encoding._specified(
         symbols, _padding(padding), b"", *wrap, *translate, least_significant_first,
-        check_trailing_bits, True, names().index(name),
+        check_trailing_bits, True, _native.names().index(name),
     )
     _PREDEFINED[name] = encoding
     _NAMES[encoding.layout] = name
@@ -591,11 +600,11 @@ class Decoder(codecs.IncrementalDecoder):
     def __init__(self, encoding: Encoding, errors: str = "strict") -> None:
         super().__init__(errors)
         self._encoding = _encoding(encoding)
-        self._kept = new_decoder()
+        self._kept = _native.new_decoder()
 
     def reset(self) -> None:
         """Discards the text so far, so that a new one begins."""
-        self._kept = new_decoder()
+        self._kept = _native.new_decoder()
 
     def getstate(self) -> Tuple[bytes, int]:
         """Returns the held bytes of the text, and the whole state as a number."""

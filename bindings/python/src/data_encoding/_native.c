@@ -1,7 +1,7 @@
 /* The calls of the library for C, as data_encoding/__init__.py uses them.
  *
- * Nothing here decides what a text means: an object of Python is made an array, a call of the
- * library is made, and what it wrote is made an object. With Py_LIMITED_API, which setup.py defines
+ * Only `decode_unpadded` decides anything about a text: its padding. An object of Python is made an
+ * array, a call of the library is made, and its output is made an object. With Py_LIMITED_API, which setup.py defines
  * from Python 3.11 on, the interface is the stable one, so that one build serves what comes after.
  */
 #define PY_SSIZE_T_CLEAN
@@ -530,6 +530,30 @@ static PyObject *decode_parts(PyObject *self, PyObject *object) {
                          (Py_ssize_t)decoded.position);
 }
 
+/* The data of a text of base64, or None if it is invalid. The encoding is without padding: the text
+ * may have more of it at its end than the last group lacks, but not less. */
+static PyObject *decode_unpadded(PyObject *self, PyObject *object) {
+    struct input input;
+    size_t padding = 0;
+    de_status status;
+    de_decoded decoded;
+    PyObject *data;
+    if (!take_text(&input, object)) {
+        return NULL;
+    }
+    while (input.len > 0 && memchr("=\r\n", input.start[input.len - 1], 3) != NULL) {
+        input.len--;
+        padding += input.start[input.len] == '=';
+    }
+    data = decode_input(encoding_of(self), &input, &status, &decoded);
+    release(&input);
+    if (data != NULL && (status != DE_OK || padding < (3 - decoded.written % 3) % 3)) {
+        Py_DECREF(data);
+        Py_RETURN_NONE;
+    }
+    return data;
+}
+
 /* Writes the data to the start of the output, and returns its length. */
 static PyObject *decode_to(const encoding *it, const struct input *input, Py_buffer *output) {
     de_status status;
@@ -918,6 +942,11 @@ static PyObject *names(PyObject *module, PyObject *unused) {
 /* A method that is given its arguments as an array. */
 #define BY_ARRAY(call) (PyCFunction)(void (*)(void))(call), METH_FASTCALL
 
+static PyObject *adopt(PyObject *type, PyObject *unused);
+
+/* Python calls a method only with an object of the type that has it, and a class method only with a
+ * type that inherits from Calls. So any other object is refused before it is read. The class
+ * methods are the last. */
 static PyMethodDef encoding_methods[] = {
     {"encode", encode, METH_O,
      "encode($self, data, /)\n--\n\nReturns the text of `data`. Raises ValueError if it is "
@@ -944,27 +973,25 @@ static PyMethodDef encoding_methods[] = {
      "is_canonical($self, /)\n--\n\nReturns True if no two different texts decode to the same "
      "data."},
     {"_decode_parts", decode_parts, METH_O, NULL},
+    {"_decode_unpadded", decode_unpadded, METH_O, NULL},
     {"_layout", layout, METH_NOARGS, NULL},
     {"_decoder_held", decoder_held, METH_O, NULL},
     {"_decoder_read", decoder_read, METH_VARARGS, NULL},
     {"_decoder_finish", decoder_finish, METH_O, NULL},
     {"_encoder_read", encoder_read, METH_VARARGS, NULL},
     {"_encoder_finish", encoder_finish, METH_O, NULL},
+    {"_adopt", adopt, METH_NOARGS | METH_CLASS, NULL},
     {"_specified", specified, METH_VARARGS | METH_CLASS, NULL},
     {"_of_layout", of_layout, METH_O | METH_CLASS, NULL},
     {NULL, NULL, 0, NULL},
 };
 
-/* Gives a type that inherits from Calls its methods as its own, but for those of the class, which
- * are the last: Python calls these sooner than those that are inherited. */
-static PyObject *adopt(PyObject *module, PyObject *type) {
+/* Python calls a type's own methods sooner than those that it inherits. */
+static PyObject *adopt(PyObject *type, PyObject *unused) {
     PyMethodDef *method = encoding_methods;
-    bool adopted = PyType_Check(type);
-    (void)module;
-    if (!adopted) {
-        PyErr_SetString(PyExc_TypeError, "adopt takes a type");
-    }
-    for (; adopted && (method->ml_flags & METH_CLASS) == 0 && method->ml_name != NULL; method++) {
+    bool adopted = true;
+    (void)unused;
+    for (; adopted && (method->ml_flags & METH_CLASS) == 0; method++) {
         PyObject *own = PyDescr_NewMethod((PyTypeObject *)(void *)type, method);
         adopted = own != NULL && PyObject_SetAttrString(type, method->ml_name, own) == 0;
         Py_XDECREF(own);
@@ -996,25 +1023,22 @@ static PyType_Spec encoding_spec = {
 static PyMethodDef functions[] = {
     {"names", names, METH_NOARGS, NULL},
     {"new_decoder", new_decoder, METH_NOARGS, NULL},
-    {"adopt", adopt, METH_O, NULL},
     {NULL, NULL, 0, NULL},
 };
 
-/* Each interpreter has a type of its own, and the module has nothing else. */
+/* Each interpreter has a type of its own. */
 static int add_calls(PyObject *module) {
     PyObject *type = PyType_FromModuleAndSpec(module, &encoding_spec, NULL);
+    int added;
     if (type == NULL) {
         return -1;
     }
 #ifdef REMOVES_NEW
     ((PyTypeObject *)(void *)type)->tp_new = NULL;
 #endif
-    if (PyModule_AddType(module, (PyTypeObject *)(void *)type) != 0) {
-        Py_DECREF(type);
-        return -1;
-    }
+    added = PyModule_AddType(module, (PyTypeObject *)(void *)type);
     Py_DECREF(type);
-    return 0;
+    return added == 0 ? PyModule_AddStringConstant(module, "version", de_version()) : -1;
 }
 
 /* Py_mod_multiple_interpreters and Py_MOD_PER_INTERPRETER_GIL_SUPPORTED of Python 3.12, which older

@@ -9,8 +9,8 @@ except if the padding is wrong without `validate`. docs/PYTHON.md lists the diff
 """
 
 import binascii
-import re
-from typing import Any, List, Optional, Union
+import functools
+from typing import Any, Optional, Tuple, Union
 
 from . import BASE32, BASE32HEX, BASE64, BASE64URL, HEXUPPER, HEXUPPER_PERMISSIVE
 from . import DecodeError, Encoding
@@ -33,35 +33,47 @@ __all__ = [
 _Data = Any
 _Text = Any
 
+_FROM_URL = bytes.maketrans(b"-_", b"+/")
 
-def _as_there(encoding: Encoding, padding: Optional[str]) -> Encoding:
+
+def _as_there(encoding: Encoding) -> Encoding:
     """Returns the encoding as `base64` has it: a single text, with any trailing bits."""
     asked = encoding.specification()
-    asked["padding"] = padding
     asked["concatenate"] = False
     asked["check_trailing_bits"] = False
     return Encoding(**asked)
 
 
-_BASE64 = _as_there(BASE64, "=")
-_BASE64_UNPADDED = _as_there(BASE64, None)
-_BASE32 = _as_there(BASE32, "=")
-_BASE32HEX = _as_there(BASE32HEX, "=")
+def _unpadded(translate: Tuple[str, str] = ("", "")) -> Encoding:
+    """Returns base64 without padding, which ignores all characters that are not symbols."""
+    symbols = BASE64.specification()["symbols"]
+    others = set(map(chr, range(128))).difference(symbols, translate[0], "=")
+    return Encoding(
+        symbols, ignore="".join(others), translate=translate, check_trailing_bits=False
+    )
 
-_SYMBOLS = BASE64.specification()["symbols"].encode()
-_OTHERS = bytes(byte for byte in range(256) if byte not in _SYMBOLS + b"=")
-_FROM_URL = bytes.maketrans(b"-_", b"+/")
-_RUNS = re.compile(b"([^=]+)(=*)")
+
+_BASE64 = _as_there(BASE64)
+_BASE32 = _as_there(BASE32)
+_BASE32HEX = _as_there(BASE32HEX)
+
+# Calling a bound method takes less time than finding it.
+_encode_base64 = BASE64.encode_bytes
+_encode_base64url = BASE64URL.encode_bytes
+_encode_hex = HEXUPPER.encode_bytes
+_decode_unpadded = _unpadded()._decode_unpadded
+_decode_unpadded_url = _unpadded(("-_", "+/"))._decode_unpadded
 
 
 def _bytes_of(text: _Text) -> bytes:
+    # This finds out sooner than `isinstance` does.
+    if type(text) is bytes:
+        return text
     if isinstance(text, str):
         try:
             return text.encode("ascii")
         except UnicodeEncodeError:
             raise ValueError("string argument should contain only ASCII characters") from None
-    if isinstance(text, (bytes, bytearray)):
-        return bytes(text)
     try:
         return memoryview(text).tobytes()
     except TypeError:
@@ -71,16 +83,26 @@ def _bytes_of(text: _Text) -> bytes:
         ) from None
 
 
-def _decoded(encoding: Encoding, text: Union[bytes, str]) -> bytes:
-    try:
-        return encoding.decode(text)
-    except DecodeError as fault:
-        raise binascii.Error(str(fault)) from fault
+@functools.lru_cache(maxsize=16)
+def _table_from(altchars: Union[bytes, str]) -> bytes:
+    """Returns the table that translates `altchars` to `+` and `/`."""
+    others = _bytes_of(altchars)
+    assert len(others) == 2, repr(others)
+    return bytes.maketrans(others, b"+/")
+
+
+def _decoded(encoding: Encoding, text: _Text) -> bytes:
+    data, _, kind, position = encoding._decode_parts(text)
+    if kind is None:
+        return data
+    _bytes_of(text)  # raises ValueError for a character that is not ASCII
+    fault = DecodeError(kind, position, data)
+    raise binascii.Error(str(fault)) from fault
 
 
 def b64encode(s: _Data, altchars: Optional[_Data] = None) -> bytes:
     """Encodes bytes-like data as base64. `altchars`, two bytes, replace `+` and `/`."""
-    text = BASE64.encode_bytes(s)
+    text = _encode_base64(s)
     if altchars is None:
         return text
     assert len(altchars) == 2, repr(altchars)
@@ -97,42 +119,18 @@ def b64decode(
     """
     text = s
     if altchars is not None:
-        others = _bytes_of(altchars)
-        assert len(others) == 2, repr(others)
-        text = _bytes_of(s).translate(bytes.maketrans(others, b"+/"))
-    elif not isinstance(s, bytes):
-        text = _bytes_of(s)
+        others = altchars if type(altchars) is str else _bytes_of(altchars)
+        text = _bytes_of(s).translate(_table_from(others))
     if validate:
         return _decoded(_BASE64, text)
-    try:
-        return _BASE64.decode(text)
-    except DecodeError:
-        return _decoded(_BASE64_UNPADDED, _symbols_of(text))
-
-
-def _symbols_of(text: bytes) -> bytes:
-    """Returns the symbols of a base64 text before the padding that completes its last group."""
-    found: List[bytes] = []
-    count = 0
-    for run in _RUNS.finditer(text.translate(None, _OTHERS)):
-        symbols, padding = run.groups()
-        found.append(symbols)
-        count += len(symbols)
-        if count % 4 >= 2 and count % 4 + len(padding) >= 4:
-            return b"".join(found)
-    if count % 4 == 1:
-        raise binascii.Error(
-            "Invalid base64-encoded string: number of data characters "
-            f"({count}) cannot be 1 more than a multiple of 4"
-        )
-    if count % 4 != 0:
-        raise binascii.Error("Incorrect padding")
-    return b"".join(found)
+    data = _decode_unpadded(text)
+    # Otherwise padding is missing or between symbols, or a byte is not ASCII.
+    return binascii.a2b_base64(_bytes_of(text)) if data is None else data
 
 
 def standard_b64encode(s: _Data) -> bytes:
     """Encodes bytes-like data as base64."""
-    return BASE64.encode_bytes(s)
+    return _encode_base64(s)
 
 
 def standard_b64decode(s: _Text) -> bytes:
@@ -142,12 +140,13 @@ def standard_b64decode(s: _Text) -> bytes:
 
 def urlsafe_b64encode(s: _Data) -> bytes:
     """Encodes bytes-like data as base64 with `-` and `_`."""
-    return BASE64URL.encode_bytes(s)
+    return _encode_base64url(s)
 
 
 def urlsafe_b64decode(s: _Text) -> bytes:
     """Decodes a base64 text with `-` and `_`, like `b64decode`."""
-    return b64decode(_bytes_of(s).translate(_FROM_URL))
+    data = _decode_unpadded_url(s)
+    return b64decode(_bytes_of(s).translate(_FROM_URL)) if data is None else data
 
 
 def b32encode(s: _Data) -> bytes:
@@ -161,12 +160,12 @@ def b32decode(s: _Text, casefold: bool = False, map01: Optional[_Text] = None) -
     With `casefold`, also reads lower case. With `map01`, which is `I` or `L`, reads 0 as `O` and 1
     as that letter. Raises binascii.Error if the text is invalid.
     """
-    text = _bytes_of(s)
+    text = s
     if map01 is not None:
         letter = _bytes_of(map01)
         assert len(letter) == 1, repr(letter)
-        text = text.translate(bytes.maketrans(b"01", b"O" + letter))
-    return _decoded(_BASE32, text.upper() if casefold else text)
+        text = _bytes_of(s).translate(bytes.maketrans(b"01", b"O" + letter))
+    return _decoded(_BASE32, _bytes_of(text).upper() if casefold else text)
 
 
 def b32hexencode(s: _Data) -> bytes:
@@ -176,15 +175,14 @@ def b32hexencode(s: _Data) -> bytes:
 
 def b32hexdecode(s: _Text, casefold: bool = False) -> bytes:
     """Decodes a base32hex text. With `casefold`, also reads lower case."""
-    text = _bytes_of(s)
-    return _decoded(_BASE32HEX, text.upper() if casefold else text)
+    return _decoded(_BASE32HEX, _bytes_of(s).upper() if casefold else s)
 
 
 def b16encode(s: _Data) -> bytes:
     """Encodes bytes-like data as hexadecimal in upper case."""
-    return HEXUPPER.encode_bytes(s)
+    return _encode_hex(s)
 
 
 def b16decode(s: _Text, casefold: bool = False) -> bytes:
     """Decodes a hexadecimal text. With `casefold`, also reads lower case."""
-    return _decoded(HEXUPPER_PERMISSIVE if casefold else HEXUPPER, _bytes_of(s))
+    return _decoded(HEXUPPER_PERMISSIVE if casefold else HEXUPPER, s)
