@@ -1,8 +1,9 @@
 /* The calls of the library for C, as data_encoding/__init__.py uses them.
  *
  * Only `decode_unpadded` decides anything about a text: its padding. An object of Python is made an
- * array, a call of the library is made, and its output is made an object. With Py_LIMITED_API, which setup.py defines
- * from Python 3.11 on, the interface is the stable one, so that one build serves what comes after.
+ * array, a call of the library is made, and its output is made an object. With Py_LIMITED_API,
+ * which setup.py defines from Python 3.11 on, the interface is the stable one, so that one build
+ * serves what comes after.
  */
 #define PY_SSIZE_T_CLEAN
 #include <Python.h>
