@@ -165,6 +165,11 @@ export class Encoding {
     return calls.isCanonical(this.#key);
   }
 
+  /** Returns the name, or a specification of an encoding without one, for `JSON.stringify`. */
+  toJSON() {
+    return this.name ?? this.specification();
+  }
+
   toString() {
     return this.name ?? `Encoding(${JSON.stringify(this.specification())})`;
   }

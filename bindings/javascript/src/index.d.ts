@@ -87,7 +87,7 @@ export interface Specification {
 }
 
 /** The result of decoding as much of a text as possible. */
-export interface Partial {
+export interface PartialDecode {
   /** The data of the first `read` characters. */
   data: Uint8Array;
 
@@ -97,6 +97,9 @@ export interface Partial {
   /** The fault of the text, or null if the text is valid. */
   error: DecodeError | null;
 }
+
+/** @deprecated Use PartialDecode: this name hides `Partial` of TypeScript. */
+export type Partial = PartialDecode;
 
 /** A way to write data as text, and to read it back. Immutable. */
 export class Encoding {
@@ -130,7 +133,10 @@ export class Encoding {
   /** Returns true if both encodings have the same layout. */
   equals(other: Encoding): boolean;
 
-  /** Returns the text of `data`. */
+  /**
+   * Returns the text of `data`. Throws a RangeError if the text is too long for a string. In Node
+   * a string has up to 512 Mi characters.
+   */
   encode(data: Bytes): string;
 
   /**
@@ -150,7 +156,7 @@ export class Encoding {
   decodeInto(text: Text, output: Bytes): number;
 
   /** Decodes `text` up to its fault, if it has one. Does not throw a DecodeError. */
-  decodePartial(text: Text): Partial;
+  decodePartial(text: Text): PartialDecode;
 
   /** Returns the length of the text of `length` bytes of data. */
   encodeLen(length: number): number;
@@ -163,6 +169,12 @@ export class Encoding {
 
   /** Returns true if no two different texts decode to the same data. */
   isCanonical(): boolean;
+
+  /**
+   * Returns the name, or a specification of an encoding without one. `Encoding.named` and
+   * `new Encoding` make the encoding of it again.
+   */
+  toJSON(): string | Required<Specification>;
 
   toString(): string;
 }

@@ -120,17 +120,24 @@ export function reserve(inputLength, outputLength) {
 /** The part of the room from an address on; it is what it is until the next `reserve`. */
 export const part = (address, length) => bytes.subarray(address, address + length);
 
-/** The string of the ASCII characters from an address on: as there is a character for each byte,
- * Latin-1 gives the same. */
-export const stringAt = (address, length) =>
-  buffer?.latin1Slice(address, address + length) ?? stringOf(part(address, length));
+/**
+ * Returns the string of the ASCII characters from an address on: Latin-1 has the same characters.
+ * Throws a RangeError if the engine has no string of this length.
+ */
+export function stringAt(address, length) {
+  try {
+    return buffer?.latin1Slice(address, address + length) ?? stringOf(part(address, length));
+  } catch {
+    throw new RangeError(`no string has ${length} characters here: encodeInto writes to a buffer`);
+  }
+}
 
 /** The room for an input of this length, which was reserved. */
 export const inputPart = (length) => part(room, length);
 
-/** Writes an input to its room, which was reserved. */
-export function putInput(values) {
-  bytes.set(values, room);
+/** Writes bytes of an input to the room, which was reserved, from an index of the input on. */
+export function putInput(values, index = 0) {
+  bytes.set(values, room + index);
 }
 
 /** The number in a field of the desk, as its halves: a BigInt takes longer to make. */

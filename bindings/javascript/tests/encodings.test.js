@@ -197,6 +197,15 @@ test("strings", () => {
   assert.equal(inspect(BASE64), "BASE64");
 });
 
+test("JSON makes each encoding again", () => {
+  assert.equal(JSON.stringify({ encoding: BASE64 }), '{"encoding":"BASE64"}');
+  for (const encoding of EVERY) {
+    const read = JSON.parse(JSON.stringify(encoding));
+    const made = typeof read === "string" ? Encoding.named(read) : new Encoding(read);
+    assert.ok(made.equals(encoding));
+  }
+});
+
 test("an encoding never changes", () => {
   assert.throws(() => {
     BASE64.other = 1;

@@ -1,13 +1,14 @@
 // The memory of the module, and where there is none.
 
 import assert from "node:assert/strict";
+import { constants } from "node:buffer";
 import { execFileSync, spawnSync } from "node:child_process";
 import { readFileSync } from "node:fs";
 import test from "node:test";
 import { Worker } from "node:worker_threads";
 
 import { BASE64, BASE64_MIME, HEXLOWER, version } from "../src/index.js";
-import { bytes } from "./common.js";
+import { Encoder, Encoding, bytes } from "./common.js";
 
 const index = new URL("../src/index.js", import.meta.url);
 
@@ -20,6 +21,20 @@ test("64 MiB", () => {
   assert.equal(lines.length, BASE64_MIME.encodeLen(data.length));
   assert.ok(data.equals(BASE64_MIME.decode(lines)));
   assert.equal(BASE64.encode(bytes(3)), Buffer.from(bytes(3)).toString("base64"));
+});
+
+test("a text that is too long for a string", () => {
+  const separator = "-".repeat(247);
+  const encoding = new Encoding({ symbols: "01", wrap: { width: 8, separator }, ignore: "-" });
+  const data = new Uint8Array(Math.ceil(constants.MAX_STRING_LENGTH / 255));
+  const length = encoding.encodeLen(data.length);
+  const error = {
+    name: "RangeError",
+    message: `no string has ${length} characters here: encodeInto writes to a buffer`,
+  };
+  assert.throws(() => encoding.encode(data), error);
+  assert.throws(() => new Encoder(encoding).push(data), error);
+  assert.equal(encoding.encodeInto(data, new Uint8Array(length)), length);
 });
 
 test("calls of all sizes take turns in one memory", () => {

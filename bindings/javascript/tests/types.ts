@@ -8,6 +8,8 @@ import {
   Encoder,
   EncoderStream,
   Encoding,
+  type Partial as PartialBefore,
+  type PartialDecode,
   SpecificationError,
   version,
 } from "../src/index.js";
@@ -16,7 +18,11 @@ const text: string = BASE64.encode(new Uint8Array([1, 2, 3]));
 const data: Uint8Array = BASE64.decode(text);
 const shared: string = BASE64.encode(new SharedArrayBuffer(3));
 const written: number = BASE64.encodeInto(data, new ArrayBuffer(8));
-const { error, read }: { error: DecodeError | null; read: number } = BASE64.decodePartial(data);
+const partial: PartialDecode = BASE64.decodePartial(data);
+const before: PartialBefore = partial;
+const { error, read }: { error: DecodeError | null; read: number } = before;
+const optional: Partial<PartialDecode> = { read };
+const json: string | { symbols: string } = BASE64.toJSON();
 const kind: "length" | "symbol" | "trailing" | "padding" | undefined = error?.kind;
 const octal = new Encoding({ symbols: "01234567", wrap: { width: 8, separator: "\n" } });
 const order: "most-significant-first" | "least-significant-first" = octal.specification().bitOrder;
@@ -33,5 +39,5 @@ new Encoding({ symbols: "01", ingore: " " });
 BASE64.name = "other";
 
 export default [
-  text, shared, written, read, kind, order, bytes, parts, version, SpecificationError,
+  text, shared, written, optional, kind, json, order, bytes, parts, version, SpecificationError,
 ];
