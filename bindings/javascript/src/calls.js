@@ -95,12 +95,21 @@ const SHORT_TEXT = 1024;
 const SHORT_TEXT_LENGTH = BigInt(SHORT_TEXT);
 const TOO_SHORT = 4;
 
-/** The text of short data, as `take` takes it; undefined if it is longer than that. */
-function encodeShort(key, data, take) {
-  const output = machine.reserve(data.length, SHORT_TEXT);
-  machine.putInput(data);
+/** Writes `data` to the room, after the bytes of `held`. */
+function putData(data, held) {
+  if (held.length > 0) {
+    machine.putInput(held);
+  }
+  machine.putInput(data, held.length);
+}
+
+/** Returns the text of short data, taken by `take`, or undefined if the text is long. */
+function encodeShort(key, data, take, held) {
+  const size = held.length + data.length;
+  const output = machine.reserve(size, SHORT_TEXT);
+  putData(data, held);
   const status = key.calls.encode(
-    key.first, INPUT, BigInt(data.length), BigInt(output), SHORT_TEXT_LENGTH, RESULT_ADDRESS,
+    key.first, INPUT, BigInt(size), BigInt(output), SHORT_TEXT_LENGTH, RESULT_ADDRESS,
   );
   if (status === TOO_SHORT) {
     return undefined;
@@ -109,18 +118,23 @@ function encodeShort(key, data, take) {
   return take(output, machine.numberIn(RESULT));
 }
 
-/** The text of the data, as `take` takes it of its address and length: `part` or `stringAt` of the
- * machine. */
-export function encode(key, data, take) {
-  const short = data.length <= SHORT_DATA ? encodeShort(key, data, take) : undefined;
+const NOTHING = new Uint8Array();
+
+/**
+ * Returns the text of the data, taken by `take` at its address and length: `part` or `stringAt` of
+ * the machine. Bytes of `held` come before the data.
+ */
+export function encode(key, data, take, held = NOTHING) {
+  const size = held.length + data.length;
+  const short = size <= SHORT_DATA ? encodeShort(key, data, take, held) : undefined;
   if (short !== undefined) {
     return short;
   }
-  const length = encodeLen(key, data.length);
-  const output = machine.reserve(data.length, length);
-  machine.putInput(data);
+  const length = encodeLen(key, size);
+  const output = machine.reserve(size, length);
+  putData(data, held);
   needsOk(
-    key.calls.encode(key.first, INPUT, BigInt(data.length), BigInt(output), BigInt(length),
+    key.calls.encode(key.first, INPUT, BigInt(size), BigInt(output), BigInt(length),
       RESULT_ADDRESS),
   );
   return take(output, length);

@@ -2,6 +2,7 @@ import { bytesOf, textOf } from "./bytes.js";
 import * as calls from "./calls.js";
 import { keyOf } from "./encoding.js";
 import { DecodeError } from "./errors.js";
+import { stringAt } from "./machine.js";
 
 /** The bytes of both, one after the other. */
 function joined(front, back) {
@@ -13,29 +14,33 @@ function joined(front, back) {
 
 /** Encodes data that comes in pieces. The texts of the pieces, joined, are that of the whole. */
 export class Encoder {
-  #encoding;
+  #key;
   #align;
   #held = new Uint8Array();
 
   /** @param {import("./encoding.js").Encoding} encoding */
   constructor(encoding) {
-    keyOf(encoding);
-    this.#encoding = encoding;
+    this.#key = keyOf(encoding);
     this.#align = encoding.encodeAlign;
   }
 
-  /** The text of what is whole with this piece. */
+  /** Returns the text of the blocks that this piece completes. */
   push(piece) {
-    const data = joined(this.#held, bytesOf(piece, "data"));
-    const cut = data.length - (data.length % this.#align);
-    const text = this.#encoding.encode(data.subarray(0, cut));
+    const data = bytesOf(piece, "data");
+    const size = this.#held.length + data.length;
+    if (size < this.#align) {
+      this.#held = joined(this.#held, data);
+      return "";
+    }
+    const cut = data.length - (size % this.#align);
+    const text = calls.encode(this.#key, data.subarray(0, cut), stringAt, this.#held);
     this.#held = data.slice(cut);
     return text;
   }
 
-  /** The text of what is left. The next piece begins other data. */
+  /** Returns the text of the remaining bytes. The next piece begins other data. */
   finish() {
-    const text = this.#encoding.encode(this.#held);
+    const text = calls.encode(this.#key, this.#held, stringAt);
     this.#held = new Uint8Array();
     return text;
   }
