@@ -73,13 +73,13 @@ class Bundle:
 def script(web: pathlib.Path, package: pathlib.Path) -> str:
     bundle = Bundle(package)
     bundle.name(web / "src/main.js")
-    # Where the page can't run, it says why.
+    # The page has a message that it does not work, unless this script hides it.
     return f"""
+const broken = document.querySelector("#broken");
 try {{
-{"".join(bundle.functions)}}} catch (error) {{
-  const broken = document.querySelector("#broken");
-  broken.textContent = error.message;
-  broken.hidden = false;
+{"".join(bundle.functions)}  broken.hidden = true;
+}} catch (error) {{
+  broken.append(` The reason: ${{error.message}}.`);
   document.querySelector("#sides").inert = true;
   throw error;
 }}

@@ -161,6 +161,43 @@ class Page(unittest.TestCase):
             self.assertEqual(self.shown("data").encode(), data, text)
             self.assertIn(said.rpartition(" at ")[2], self.text_of("#text-fault"))
 
+    def test_blanks_and_characters_of_two_units(self) -> None:
+        for text, said in (
+            ("\ufeffZm9v", "Byte order mark at 0: BASE64 ignores none"),
+            ("SGVs\U0001f600G8=", "Not a symbol of BASE64, at 4: \U0001f600"),
+        ):
+            self.clear("text")
+            self.firefox.type("#text textarea", text)
+            self.assertEqual(self.text_of("#text-fault"), said)
+
+    def test_data_that_is_not_text(self) -> None:
+        self.firefox.type("#text textarea", "AP9I")
+        self.assertEqual(self.shown("data"), "00 ff 48")
+        self.assertEqual(self.text_of("#data-note"),
+                         "These bytes are not UTF-8: they are shown in hex.")
+        self.clear("text")
+        self.firefox.type("#text textarea", "Zm9v")
+        self.assertEqual(self.shown("data"), "foo")
+
+    def test_a_long_text(self) -> None:
+        """It is converted after a pause."""
+        self.firefox.run("""
+            const area = document.querySelector("#data textarea");
+            area.value = "x".repeat(100_000);
+            area.dispatchEvent(new InputEvent("input"));""")
+        self.assertEqual(self.shown("text"), "")
+        end = time.monotonic() + 60
+        while self.shown("text") == "":
+            self.assertLess(time.monotonic(), end)
+            time.sleep(0.1)
+        self.assertEqual(len(self.shown("text")), 133_336)
+
+    def test_level(self) -> None:
+        tops = [self.firefox.run(
+            "return document.querySelector(arguments[0]).getBoundingClientRect().top",
+            f"#{side} .field") for side in ("data", "text")]
+        self.assertEqual(*tops)
+
     def test_an_encoding_of_ones_own(self) -> None:
         own = self.firefox.run(
             "return [...document.querySelector('#encoding').options].at(-1).text")

@@ -8,6 +8,7 @@ import hashlib
 import json
 import os
 import pathlib
+import re
 import shlex
 import shutil
 import subprocess
@@ -85,7 +86,8 @@ class Page(unittest.TestCase):
             message = json.loads(entry["message"])["message"]
             if message["method"] == "Network.requestWillBeSent":
                 url = message["params"]["request"]["url"]
-                self.assertTrue(url.startswith((PAGE.as_uri(), "blob:", "about:")), url)
+                self.assertTrue(url.startswith(
+                    (PAGE.as_uri(), ROOM.as_uri(), "blob:", "about:")), url)
 
     # What a person does.
 
@@ -253,7 +255,7 @@ class Sides(Page):
             ("BASE64", "Zm9vYh=="),
             ("BASE64", "Zm9v!==="),
             ("HEXLOWER", "4G"),
-            ("HEXLOWER", "48 65"),
+            ("HEXLOWER", "48-65"),
             ("BASE32_NOPAD", "MZXW1"),
             ("BASE64_MIME", "Zm9v\nZm*v"),
         ):
@@ -289,9 +291,48 @@ class Sides(Page):
         self.type("text", "Zm9v\u20ac \u00e9\u00e9")
         self.assertEqual((self.fault(), self.marked()),
                          ("Not a symbol of BASE64, at 4: \u20ac", "\u20ac"))
-        self.clear("text")
-        self.type("text", "Zm9v m9v")
-        self.assertEqual(self.fault(), "Not a symbol of BASE64, at 4: a space")
+
+    def test_blanks(self) -> None:
+        """A blank is named where it is the fault, and where it may be why the length is."""
+        for text, said, marked in (
+            ("Zm9v m9v", "Space at 4: BASE64 ignores none", " "),
+            (" Zm9v", "Space at 0: BASE64 ignores none", " "),
+            ("Zm9vYmF\v", "Control character 11 at 7: BASE64 ignores none", "\v"),
+            ("Zm9v\u00a0", "No-break space at 4: BASE64 ignores none", "\u00a0"),
+            ("\ufeffZm9v", "Byte order mark at 0: BASE64 ignores none", "\ufeff"),
+            ("\u200bZm9vYmFy", "Zero-width space at 0: BASE64 ignores none", "\u200b"),
+            ("\u2003Zm9v", "Blank at 0: BASE64 ignores none", "\u2003"),
+        ):
+            self.clear("text")
+            self.paste("text", text)
+            self.assertEqual((self.fault(), self.marked()), (said, marked))
+        file = ROOM / "marked.txt"
+        file.write_bytes(b"\xef\xbb\xbfZm9v")
+        self.pick("text", file)
+        self.until(lambda: self.fault() == "Byte order mark at 0: BASE64 ignores none")
+
+    def test_characters_of_two_units(self) -> None:
+        """A position counts characters, as Python does, and what is marked is there."""
+        grin = "\U0001f600"
+        for text, said, marked, index in (
+            (f"SGVs{grin}G8=", f"Not a symbol of BASE64, at 4: {grin}", grin, 4),
+            (f"{grin}SGVsG8=", f"Not a symbol of BASE64, at 0: {grin}", grin, 0),
+            (f"SGVsb{grin}{grin}!", f"Not a symbol of BASE64, at 5: {grin}", grin, 5),
+            (f"SGVs{grin}", "Not a length of BASE64: the text is cut short, or too long; "
+             "4 of 5 characters are whole", grin, 4),
+            (f"SGVs{grin} Z", "Space at 5: BASE64 ignores none", " ", 6),
+        ):
+            self.clear("text")
+            self.paste("text", text)
+            self.assertEqual((self.fault(), self.marked()), (said, marked), text)
+            self.assertEqual(self.find("#text .size").text, f"{len(text)} characters")
+            self.press(Keys.F8)
+            self.assertEqual(self.find("#text textarea").get_property("selectionStart"), index)
+        self.hex(True)
+        self.clear("data")
+        self.paste("data", f"48{grin}65")
+        self.assertEqual((self.fault("data"), self.marked("data")),
+                         (f"Not a symbol of hexadecimal digits, at 2: {grin}", grin))
 
     def test_line_ends(self) -> None:
         for name, text, said, marked in (
@@ -317,8 +358,9 @@ class Sides(Page):
         self.assertFalse(self.find("#text .unshaded").is_displayed())
         long = short + short[:-4] + "AA!A"
         self.paste("text", long)
-        self.assertEqual(self.fault(), f"Not a symbol of BASE64, at {len(long) - 2}: !")
-        self.assertIn("nothing is marked", self.find("#text .unshaded").text)
+        said = f"Not a symbol of BASE64, at {len(long) - 2}: !"
+        self.until(lambda: self.fault() == said)
+        self.assertIn("Nothing is marked", self.find("#text .unshaded").text)
         self.assertLess(len(self.find("#text .shades").get_property("textContent")), 10)
         self.press(Keys.F8)
         area = self.find("#text textarea")
@@ -330,7 +372,8 @@ class Sides(Page):
         self.assertFalse(self.is_too_wide())
         # As in the field, so in that of the data.
         self.paste("data", 100_000 * "x")
-        self.assertIn("nothing is marked", self.find("#data .unshaded").text)
+        self.until(lambda: self.find("#data .size").text == "100000 bytes")
+        self.assertTrue(self.find("#data .unshaded").is_displayed())
         self.hex(True)
         self.assertEqual(self.find("#data .addresses").text.count("\n"), 6249)
         self.hex(False)
@@ -342,9 +385,17 @@ class Sides(Page):
         """A key in a mebibyte takes less than twice what it takes in a field of that alone."""
         text = 350_000 * "Zm9v"
         self.paste("text", text)
-        took = self.driver.execute_script(A_KEY, self.find("#text textarea"))
+        self.until(lambda: len(self.shown("data")) == 3 * 350_000)
+        took, length = self.driver.execute_script(
+            A_KEY, self.find("#text textarea"), self.find("#data textarea"))
         plain = self.driver.execute_script(A_PLAIN_KEY, text)
-        self.assertLess(took, 2 * plain + 500)
+        self.assertLess(took, 2 * plain)
+        # It is converted after a pause, or once the field is left.
+        self.assertEqual(length, 3 * 350_000)
+        self.until(lambda: len(self.shown("data")) == 3 * 350_003)
+        self.driver.execute_script(A_KEY, self.find("#text textarea"), self.find("#data textarea"))
+        self.find("#text .copy").click()
+        self.assertEqual(len(self.shown("data")), 3 * 350_006)
 
     def test_lines_of_what_is_done(self) -> None:
         self.type("data", "Hello")
@@ -397,10 +448,6 @@ class Sides(Page):
         self.assertEqual(self.shown("data"), "00 ff 48 65 6c 6c 6f")
         self.assertEqual(self.find("#data .addresses").text, "00000000")
         self.assertEqual(self.find("#data .characters").text, "..Hello")
-        self.hex(False)
-        self.assertTrue(self.find("#data textarea").get_property("readOnly"))
-        self.assertIn("hex view", self.find("#data-note").text)
-        self.hex(True)
         self.clear("data")
         self.type("data", "4g")
         self.assertEqual(self.fault("data"), "Not a symbol of hexadecimal digits, at 1: g")
@@ -410,6 +457,43 @@ class Sides(Page):
         self.type("data", "486")
         self.assertEqual(self.fault("data"), "The last digit is half of a byte")
         self.assertEqual(self.shown("text"), "SA==")
+
+    def test_data_that_is_not_text(self) -> None:
+        """It is shown in hex, with the reason, until there is data that is text."""
+        def view() -> str:
+            return self.find("#data [name=view]:checked").get_property("value")
+
+        for text, digits, reason in (
+            ("AP9I", "00 ff 48", "These bytes are not UTF-8: they are shown in hex."),
+            ("4pw=", "e2 9c", "These bytes are not UTF-8: they are shown in hex."),
+            ("4oa1", "e2 86 b5", "This text contains \u21b5, which means a carriage return in this "
+             "field: it is shown in hex."),
+        ):
+            self.clear("text")
+            self.assertEqual(view(), "text")
+            self.type("text", text)
+            self.assertEqual((view(), self.shown("data")), ("hex", digits))
+            self.assertEqual(self.find("#data-note").text, reason)
+            self.hex(False)
+            self.assertEqual((view(), self.find("#data-note").text), ("hex", reason))
+        self.clear("text")
+        self.type("text", "4pyT")
+        self.assertEqual((view(), self.shown("data"), self.find("#data-note").text),
+                         ("text", "\u2713", ""))
+        # What is chosen stays.
+        self.hex(True)
+        self.clear("text")
+        self.type("text", "Zm9v")
+        self.assertEqual((view(), self.shown("data"), self.find("#data-note").text),
+                         ("hex", "66 6f 6f", ""))
+        self.hex(False)
+        self.assertEqual(self.shown("data"), "foo")
+        # Digits that are typed there are data, which may be text.
+        self.clear("text")
+        self.type("text", "/w==")
+        self.type("data", Keys.BACKSPACE * 2, "48")
+        self.assertEqual((view(), self.shown("text"), self.find("#data-note").text),
+                         ("hex", "SA==", ""))
 
     def test_hex_of_a_text(self) -> None:
         self.choose("HEXLOWER")
@@ -650,15 +734,20 @@ class Files(Page):
         self.find("#job .save").click()
         self.assertEqual(self.saved("faulty.bin"), program("decode", "BASE64", given=text)[0])
 
-    def test_a_line_end_after_a_large_file(self) -> None:
+    def test_blanks_around_a_large_file(self) -> None:
         text = 100_000 * b"Zm9v"
         faulty = ROOM / "ended.txt"
-        for end in b"\n", b"\r\n":
-            faulty.write_bytes(text + end)
+        for front, end, said in (
+            (b"", b"\n", "Line end at 400000: BASE64 ignores none, BASE64_MIME does"),
+            (b"", b"\r\n", "Line end at 400000: BASE64 ignores none, BASE64_MIME does"),
+            (b"\xef\xbb\xbf", b"", "Byte order mark at 0: BASE64 ignores none"),
+            (b"    ", b"", "Space at 0: BASE64 ignores none"),
+        ):
+            faulty.write_bytes(front + text + end)
             self.pick("text", faulty)
+            self.until(lambda: self.find("#job .fault").text == said)
             self.ended("Decoded before it")
-            self.assertEqual(self.find("#job .fault").text, "Line end at 400000: "
-                             "BASE64 ignores none, BASE64_MIME does")
+            self.find("#job .close").click()
 
     def test_another_file(self) -> None:
         """It takes the place of one that is being converted, and that is said."""
@@ -683,6 +772,49 @@ class Files(Page):
         self.assertFalse(self.find("#job .save").is_displayed())
 
 
+class Broken(Page):
+    """Where the page does not run, it has a message, and its fields can't be used."""
+    NEEDS = ("This page does not run here. It needs Chromium 115, Firefox 112, Safari 16.4 or a "
+             "later version.")
+
+    def broken(self) -> str:
+        self.until(lambda: self.find("#broken").is_displayed())
+        self.assertTrue(self.find("#sides").get_property("inert"))
+        self.assertNotEqual(self.driver.get_log("browser"), [])
+        return self.find("#broken").text
+
+    def test_where_it_runs(self) -> None:
+        self.assertFalse(self.find("#broken").is_displayed())
+        self.assertFalse(self.find("#sides").get_property("inert"))
+
+    def test_without_classes_of_today(self) -> None:
+        """A word that no browser knows is for this one what a new word is for an older one."""
+        page = ROOM / "older.html"
+        text = PAGE.read_text(encoding="utf-8")
+        text = re.sub("<meta http-equiv[^>]*>", "", text).replace("static {", "static of {")
+        page.write_text(text, encoding="utf-8")
+        self.driver.get(page.as_uri())
+        self.assertEqual(self.broken(), self.NEEDS)
+
+    def test_without_web_assembly(self) -> None:
+        added = self.driver.execute_cdp_cmd("Page.addScriptToEvaluateOnNewDocument", {
+            "source": "delete globalThis.WebAssembly"})
+        self.open()
+        self.driver.execute_cdp_cmd("Page.removeScriptToEvaluateOnNewDocument", added)
+        self.assertEqual(self.broken(),
+                         f"{self.NEEDS} The reason: there is no WebAssembly here.")
+
+    def test_without_scripts(self) -> None:
+        self.driver.execute_cdp_cmd("Emulation.setScriptExecutionDisabled", {"value": True})
+        try:
+            self.open()
+            self.until(lambda: self.find("#broken").is_displayed())
+            self.assertEqual(self.find("#broken").get_property("innerText"),
+                             f"{self.NEEDS} JavaScript is switched off.")
+        finally:
+            self.driver.execute_cdp_cmd("Emulation.setScriptExecutionDisabled", {"value": False})
+
+
 class Shapes(Page):
     def test_shapes(self) -> None:
         """At each width, in both schemes: nothing is wider than the page, and all can be read."""
@@ -696,6 +828,13 @@ class Shapes(Page):
                     self.assertEqual(self.driver.execute_script(CONTRAST), [], (width, scheme))
                     self.hex(True)
                     self.assertFalse(self.is_too_wide(), (width, scheme, address, "hex"))
+
+    def test_level(self) -> None:
+        """The two fields are at one height."""
+        for on in (False, True):
+            self.hex(on)
+            tops = [self.find(f"#{side} .field").rect["y"] for side in ("data", "text")]
+            self.assertEqual(*tops)
 
     def test_labels(self) -> None:
         """Each thing that takes the focus has a name, and shows that it has the focus."""
@@ -741,7 +880,7 @@ class Shapes(Page):
 # How long a key takes until the field is laid out, in milliseconds: in the page, and in a plain
 # field. The least of three: others may use the machine.
 KEYS = """
-const times = [40, 41, 42].map((at) => {
+const times = [40, 44, 48].map((at) => {
     area.focus();
     area.setSelectionRange(at, at);
     const began = performance.now();
@@ -752,9 +891,9 @@ const times = [40, 41, 42].map((at) => {
 });
 """
 A_KEY = f"""
-const [area] = arguments;
+const [area, other] = arguments;
 {KEYS}
-return Math.min(...times);
+return [Math.min(...times), other.value.length];
 """
 A_PLAIN_KEY = f"""
 const area = document.createElement("textarea");

@@ -3,17 +3,24 @@
 import { decoded } from "./decoded.js";
 import { DIGITS, addressesOf, charactersOf, linesOf } from "./hex.js";
 import { Side } from "./side.js";
-import { characterAt, sentenceOf } from "./words.js";
+import { RETURN, characterAt, indexOf, sentenceOf, singled } from "./words.js";
 
-const decoder = new TextDecoder("utf-8", { ignoreBOM: true });
+const decoder = new TextDecoder("utf-8", { fatal: true, ignoreBOM: true });
 const encoder = new TextEncoder();
 
-const isSame = (one, other) =>
-  one.length === other.length && one.every((byte, at) => byte === other[at]);
+const NOT_UTF8 = "These bytes are not UTF-8: they are shown in hex.";
+const HAS_RETURN =
+  `This text contains ${RETURN}, which means a carriage return in this field: it is shown in hex.`;
 
-const NOT_TEXT =
-  "These bytes are not text that a field keeps: it is shown as far as it can be, and the hex " +
-  "view has the bytes.";
+/** Returns the text of the data, or the reason why the field can't show it as text. */
+function readText(data) {
+  try {
+    const text = decoder.decode(data);
+    return text.includes(RETURN) ? { reason: HAS_RETURN } : { text };
+  } catch {
+    return { reason: NOT_UTF8 };
+  }
+}
 
 /** The widths in characters from which a line has sixteen bytes and their characters, and from
  * which eight have theirs. */
@@ -40,11 +47,21 @@ export class DataSide extends Side {
     this.addresses = section.querySelector(".addresses");
     this.characters = section.querySelector(".characters");
     this.views = [...section.querySelectorAll("[name=view]")];
+    this.chosen = "text";
     for (const view of this.views) {
-      view.addEventListener("change", () => this.show(this.data));
+      view.addEventListener("change", () => {
+        this.chosen = view.value;
+        this.show(this.data);
+      });
     }
     this.area.addEventListener("blur", () => this.#tidy());
-    new ResizeObserver(() => this.#tidy()).observe(section);
+    // The height changes with the lines, which depend on the width alone.
+    new ResizeObserver(([{ contentRect }]) => {
+      if (contentRect.width !== this.width) {
+        this.width = contentRect.width;
+        this.#tidy();
+      }
+    }).observe(section);
   }
 
   get isHex() {
@@ -62,8 +79,9 @@ export class DataSide extends Side {
   }
 
   #typed(value) {
+    this.note.textContent = "";
     if (this.isHex) {
-      const { data, error } = decoded(DIGITS, value);
+      const { data, error } = decoded(DIGITS, singled(value));
       this.data = data;
       this.#describe();
       this.#showDigitFault(error, value);
@@ -82,46 +100,41 @@ export class DataSide extends Side {
       const sentence = { words: "The last digit is half of a byte" };
       this.showFault(sentence, { from: value.trimEnd().length - 1, to: value.trimEnd().length });
     } else {
-      const character = characterAt(value, error.position);
+      const from = indexOf(value, error.position);
+      const character = characterAt(value, from);
       const sentence = sentenceOf(error, "hexadecimal digits", character, value.length);
-      this.showFault(sentence, { from: error.position, to: error.position + character.length });
+      this.showFault(sentence, { from, to: from + character.length });
     }
   }
 
-  /** Shows other data. */
+  /** Shows other data in the chosen view, or in hex if the field can't show it as text. */
   show(data) {
     this.data = data;
-    const { isHex } = this;
+    const { text, reason } = this.chosen === "text" ? readText(data) : {};
+    const isHex = text === undefined;
+    for (const view of this.views) {
+      view.checked = (view.value === "hex") === isHex;
+    }
+    this.note.textContent = reason ?? "";
     this.field.classList.toggle("hex", isHex);
     this.addresses.hidden = !isHex;
-    this.area.readOnly = false;
-    this.note.textContent = "";
+    this.characters.hidden = !isHex;
     if (isHex) {
-      this.characters.hidden = false;
       this.#showLines();
     } else {
-      this.characters.hidden = true;
-      this.#showText();
+      this.text = text;
     }
     this.showFault(null, null);
     this.#describe();
   }
 
-  #showText() {
-    this.text = decoder.decode(this.data);
-    if (!isSame(encoder.encode(this.text), this.data)) {
-      this.area.readOnly = true;
-      this.note.textContent = NOT_TEXT;
-    }
-  }
-
   #showLines() {
     const columns = this.#columns();
     this.characters.hidden = columns < NARROW;
-    this.area.value = linesOf(this.data, columns >= WIDE ? 16 : 8);
+    this.text = linesOf(this.data, columns >= WIDE ? 16 : 8);
   }
 
-  /** Lays out the lines of digits anew, where they have no fault and nothing is typed. */
+  /** Lays out the lines of digits again, if they are valid and nothing is typed. */
   #tidy() {
     if (this.isHex && this.mark === null && document.activeElement !== this.area) {
       this.#showLines();

@@ -2,7 +2,7 @@
 
 import { DecodeError, Decoder, Encoder } from "../../bindings/javascript/src/index.js";
 import { download } from "./side.js";
-import { characterAt, lineEndOf, lineEndSentence, sentenceOf, sized } from "./words.js";
+import { blankOf, blankSentence, characterAt, sentenceOf, sized } from "./words.js";
 
 /** So much of a file is read at a time. */
 const PIECE = 1 << 20;
@@ -28,24 +28,41 @@ class Output {
   }
 }
 
-/** How many characters around a fault are shown. */
+const decoder = new TextDecoder("utf-8", { ignoreBOM: true });
+
+/** Returns a part of a file as text, with a byte order mark if it has one. */
+async function textOf(file, from, to) {
+  return decoder.decode(await file.slice(from, to).arrayBuffer());
+}
+
+/** The number of characters before a fault that are shown, and after it. */
 const AROUND = 24;
 
-/** The text around a fault: before it, the faulty character, and after. */
+/** Returns the text before a fault, the faulty character, and the text after it. */
 async function around(file, position) {
   const from = Math.max(0, position - AROUND);
-  const text = await file.slice(from, position + AROUND).text();
+  const text = await textOf(file, from, position + AROUND);
   const at = position - from;
   const character = characterAt(text, at);
   return [text.slice(0, at), character, text.slice(at + character.length)];
 }
 
-/** The sentence of a fault, if a line end at it, or at the end of the text, is its reason. */
-async function ofLineEnd(error, file, encoding) {
-  const from = error.kind === "length" ? Math.max(0, file.size - 2) : error.position;
-  const last = await file.slice(from, from + 2).text();
-  const at = lineEndOf({ kind: error.kind, position: 0 }, last, encoding);
-  return at === undefined ? undefined : lineEndSentence(from + at, encoding);
+/** The length of a byte order mark, which is longer than a line end. */
+const BLANK = 3;
+
+/**
+ * Returns the sentence of a fault that is a blank, or undefined. An invalid length may be due to a
+ * blank at the start of the text or at its end.
+ */
+async function ofBlank({ kind, position }, file, encoding) {
+  for (const from of kind === "length" ? [0, Math.max(0, file.size - BLANK)] : [position]) {
+    const text = await textOf(file, from, from + BLANK);
+    const at = blankOf({ kind, position: 0 }, text, encoding);
+    if (at !== undefined) {
+      return blankSentence(from + at, text[at], encoding);
+    }
+  }
+  return undefined;
 }
 
 export class Job {
@@ -168,7 +185,7 @@ export class Job {
   async #showFault(error, file, encoding) {
     const [before, character, after] = await around(file, error.position);
     const { words, word, character: named } =
-      (await ofLineEnd(error, file, encoding)) ??
+      (await ofBlank(error, file, encoding)) ??
       sentenceOf(error, encoding.name ?? "your own encoding", character, file.size);
     this.fault.textContent = [words, word ?? named].filter((it) => it !== undefined).join(": ");
     const mark = document.createElement("span");

@@ -11,7 +11,7 @@ import { OwnForm, encodingOf } from "./own.js";
 import { shadesOf } from "./shades.js";
 import { Side, download, say } from "./side.js";
 import {
-  characterAt, characters, lineEndOf, lineEndSentence, sentenceOf, unknownSentence,
+  blankOf, blankSentence, characterAt, characters, indexOf, sentenceOf, singled, unknownSentence,
 } from "./words.js";
 
 /** A file up to this length is shown, and any other converted in pieces. */
@@ -60,40 +60,39 @@ const text = new Side(find("#text"), {
 const job = new Job(find("#job"));
 const form = new OwnForm(find("#own"), () => takeOwn());
 
-/** What a fault marks: the faulty character, or the rest of a text whose length is the fault. */
-function markOf({ kind, position }, value) {
-  const from = Math.min(position, Math.max(value.length - 1, 0));
-  const to = kind === "length" ? value.length : from + characterAt(value, from).length;
-  return { from, to };
-}
-
-function describeText() {
-  text.size.textContent = characters(text.text.length);
+/** Returns the part of the text to mark: one character, or from the position to the end. */
+function markOf(value, position, isToEnd) {
+  const from = indexOf(value, position);
+  return { from, to: isToEnd ? value.length : from + characterAt(value, from).length };
 }
 
 function encode() {
   text.text = encoding.encode(data.data);
   text.showFault(null, null);
-  describeText();
+  text.size.textContent = characters(text.text.length);
 }
 
 function decode() {
   const value = text.text;
-  const { data: found, error } = decoded(encoding, value);
+  const single = singled(value);
+  const { data: found, error } = decoded(encoding, single);
   data.show(found);
-  describeText();
+  text.size.textContent = characters(single.length);
   if (error === null) {
     text.showFault(null, null);
     return;
   }
-  const lineEnd = lineEndOf(error, value, encoding);
-  if (lineEnd !== undefined) {
-    text.showFault(lineEndSentence(lineEnd, encoding), { from: lineEnd, to: lineEnd + 1 });
+  const blank = blankOf(error, single, encoding);
+  if (blank !== undefined) {
+    text.showFault(blankSentence(blank, single[blank], encoding), markOf(value, blank, false));
     return;
   }
-  const character = characterAt(value, error.position);
-  const sentence = sentenceOf(error, nameOf(), character, value.length);
-  text.showFault(sentence, value === "" ? null : markOf(error, value));
+  const { kind, position } = error;
+  const character = characterAt(value, indexOf(value, position));
+  const sentence = sentenceOf(error, nameOf(), character, single.length);
+  // At the end of a text the last character is marked.
+  const marked = Math.min(position, single.length - 1);
+  text.showFault(sentence, value === "" ? null : markOf(value, marked, kind === "length"));
 }
 
 /** The side that was typed in last gives the other anew. */

@@ -24,7 +24,14 @@ const noShade = () => "";
  * than the text itself. index.html has the number. */
 const SHADED = 65_536;
 
+/** The pause in typing after which a text longer than that is converted, in milliseconds: in a
+ * mebibyte a conversion takes a second. */
+const PAUSE = 300;
+
 export class Side {
+  /** The timer of a text that waits for a pause in typing. */
+  #waiting;
+
   /**
    * @param {HTMLElement} section
    * @param {{ typed(value: string): void, opened(file: File): void, cleared(): void,
@@ -45,10 +52,17 @@ export class Side {
     this.goButton = find(".go");
     this.mark = null;
     this.shadeOf = noShade;
+    this.typed = events.typed;
     this.area.addEventListener("input", () => {
       this.taken.textContent = "";
-      events.typed(meant(this.area.value));
+      this.#stopWaiting();
+      if (this.area.value.length > SHADED) {
+        this.#waiting = setTimeout(() => this.settle(), PAUSE);
+      } else {
+        this.typed(this.text);
+      }
     });
+    this.area.addEventListener("blur", () => this.settle());
     this.goButton.addEventListener("click", () => this.go());
     this.#takeFiles(events.opened, find(".file"), find(".open"));
     this.#keepReturns();
@@ -99,17 +113,17 @@ export class Side {
   #keepReturns() {
     this.area.addEventListener("paste", (event) => {
       const text = event.clipboardData.getData("text/plain");
-      if (text.includes("\r") && !event.defaultPrevented && !this.area.readOnly) {
+      if (text.includes("\r") && !event.defaultPrevented) {
         event.preventDefault();
         document.execCommand("insertText", false, shown(text));
       }
     });
     for (const kind of ["copy", "cut"]) {
       this.area.addEventListener(kind, (event) => {
-        const { selectionStart, selectionEnd, value, readOnly } = this.area;
+        const { selectionStart, selectionEnd, value } = this.area;
         event.preventDefault();
         event.clipboardData.setData("text/plain", meant(value.slice(selectionStart, selectionEnd)));
-        if (kind === "cut" && !readOnly) {
+        if (kind === "cut") {
           document.execCommand("delete");
         }
       });
@@ -122,12 +136,21 @@ export class Side {
   }
 
   set text(text) {
+    this.#stopWaiting();
     this.area.value = shown(text);
   }
 
-  /** Whether the field shows this text as it is. */
-  holds(text) {
-    return this.text === text;
+  #stopWaiting() {
+    clearTimeout(this.#waiting);
+    this.#waiting = undefined;
+  }
+
+  /** Converts the text if it waits for a pause in typing. */
+  settle() {
+    if (this.#waiting !== undefined) {
+      this.#stopWaiting();
+      this.typed(this.text);
+    }
   }
 
   /** Shows the fault of the field, or that there is none. */
@@ -158,8 +181,9 @@ export class Side {
     shade(this.shades, isLong ? "" : value, this.shadeOf, isLong ? null : this.mark);
   }
 
-  /** Goes to the fault. */
+  /** Goes to the fault. Returns false if there is none. */
   go() {
+    this.settle();
     if (this.mark === null) {
       return false;
     }

@@ -19,9 +19,26 @@ export const RETURN = "\u21b5";
 export const shown = (text) => text.replaceAll("\r", RETURN);
 export const meant = (value) => value.replaceAll(RETURN, "\r");
 
-/** The character at a position, whole. */
-export const characterAt = (text, position) =>
-  position < text.length ? String.fromCodePoint(text.codePointAt(position)) : "";
+/** Returns the character at an index of a string, with both its units if it has two. */
+export const characterAt = (text, index) =>
+  index < text.length ? String.fromCodePoint(text.codePointAt(index)) : "";
+
+const TWO_UNITS = /[\ud800-\udbff][\udc00-\udfff]/g;
+
+/**
+ * Returns the text with one unit for each character, so that an index counts characters. Another
+ * character that is not ASCII replaces those of two units.
+ */
+export const singled = (text) => text.replace(TWO_UNITS, "\ufffd");
+
+/** Returns the index in `text` of the character at a position of `singled(text)`. */
+export function indexOf(text, position) {
+  let index = 0;
+  for (let count = 0; count < position; count++) {
+    index += text.codePointAt(index) > 0xffff ? 2 : 1;
+  }
+  return index;
+}
 
 /** How a character is spoken of: its name in words, or itself. */
 export function spoken(character) {
@@ -48,12 +65,12 @@ const SENTENCES = {
 };
 
 /**
- * The fault of a text as a sentence, and the character that it names, if it names one.
+ * Returns the sentence of a fault, and the character that it names, if it names one.
  *
  * @param {{ kind: string, position: number }} fault
- * @param {string} name That of the encoding.
- * @param {string} character The one at the fault, or "" at the end of the text.
- * @param {number} length That of the text.
+ * @param {string} name The name of the encoding.
+ * @param {string} character The character at the fault, or "" at the end of the text.
+ * @param {number} length The number of characters of the text.
  */
 export function sentenceOf({ kind, position }, name, character, length) {
   if (kind === "length") {
@@ -64,21 +81,28 @@ export function sentenceOf({ kind, position }, name, character, length) {
   return character === "" ? { words: `${words}: the end` } : { words, ...spoken(character) };
 }
 
+/** Blanks, line ends and characters without a width. */
+const BLANK = /[\s\u200b]/;
 const LINE_END = /[\r\n]/;
 const LINES = "BASE64_MIME";
 
-/** The position of a line end that makes the text faulty; undefined if none does. A length that no
- * text has may be due to it, too. */
-export function lineEndOf({ kind, position }, text, encoding) {
-  const at = text.search(LINE_END);
+/**
+ * Returns the position of the first blank, if it is the fault of the text or may be the reason of an
+ * invalid length, or undefined.
+ */
+export function blankOf({ kind, position }, text, encoding) {
+  const at = text.search(BLANK);
   const isFault = at >= 0 && (kind === "length" || position === at);
   return isFault && !encoding.specification().ignore.includes(text[at]) ? at : undefined;
 }
 
-/** Why a line end is a fault, as a sentence. */
-export function lineEndSentence(at, { name }) {
-  const other = name === "BASE64" ? `, ${LINES} does` : "";
-  return { words: `Line end at ${at}: ${name ?? "your own encoding"} ignores none${other}` };
+/** Returns the sentence of a blank that is a fault. */
+export function blankSentence(at, blank, { name }) {
+  const isLineEnd = LINE_END.test(blank);
+  const what = isLineEnd ? "line end" : (spoken(blank).word ?? "blank").replace(/^(a|the) /, "");
+  const place = `${what[0].toUpperCase()}${what.slice(1)} at ${at}`;
+  const other = isLineEnd && name === "BASE64" ? `, ${LINES} does` : "";
+  return { words: `${place}: ${name ?? "your own encoding"} ignores none${other}` };
 }
 
 /** That no encoding has this name, as a sentence, with the one that differs by case alone. */
