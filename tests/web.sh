@@ -36,6 +36,12 @@ is 'what the page asks for' "default-src 'none'" \
 is 'addresses in the page' '' "$(grep -oE '(src|href|url)[=(]["'"'"']?(https?:)?//[^ "]*' "$page")"
 is 'one file' basecode.html "$(ls "$room/page")"
 
+# browsers FILE: the oldest versions that it names.
+browsers() {
+    tr '\n' ' ' <"$1" | grep -oE 'Chromium [0-9]+, +Firefox [0-9]+, Safari [0-9.]+[0-9]' | tr -s ' '
+}
+is 'the browsers of docs/INSTALL.md' "$(browsers docs/INSTALL.md)" "$(browsers "$page")"
+
 if PYTHONDONTWRITEBYTECODE=1 "$python" tests/web/page.py "$page" "$program" ${picture:+"$picture"} \
     >"$room/said" 2>&1; then
     pass
