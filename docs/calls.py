@@ -60,7 +60,7 @@ class Call:
 
     def keys(self):
         """The keys of the definitions that its clauses name, in the order in which they do."""
-        names = names_in(" ".join(clauses(self.block).values()))
+        names = names_in(" ".join(clauses(self.header).values()))
         return [self.imported[name] for name in names if name in self.imported]
 
 
@@ -106,13 +106,7 @@ def summary(lines, start):
     while at and re.match(r"\s*(///|#\[)", lines[at - 1]):
         at -= 1
     texts = [line.strip()[3:].strip() for line in lines[at:start] if line.strip().startswith("///")]
-    return linked(" ".join(texts[:texts.index("")] if "" in texts else texts))
-
-
-def linked(text):
-    """The text, in which links to calls, as rustdoc knows them, lead to their headings."""
-    return re.sub(r"\]\((?:crate::)?(\w+(?:::\w+)+)\)",
-                  lambda link: f"](#{link[1].lower().replace(':', '')})", text)
+    return " ".join(texts[:texts.index("")] if "" in texts else texts)
 
 
 def dedented(lines):

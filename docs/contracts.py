@@ -38,22 +38,17 @@ def page_of(crate, call):
 
 def complete(call, shown_at):
     """Adds to the block the definitions that are whole clauses, the records of clauses, and those of
-    the crates in `SHOWN` that it or one of these names, unless another block has them. Returns the call
-    that shows the record of its clauses, if another one does."""
+    the crates in `SHOWN` that a clause names, unless another block has them. Returns the call that
+    shows the record of its clauses, if another one does."""
     texts = clauses(call.block).values()
     elsewhere = None
     for key in call.keys():
-        more = [key]
         if key[2] in RECORD_NAMES and key in shown_at:
             elsewhere = shown_at[key]
-        elif key[0] in SHOWN:
-            more += [it for it in IMPORTS.below(key) if it[0] == key[0]]
-        elif key[2] not in RECORD_NAMES and key[2] not in texts:
-            continue
-        for it in [it for it in more if it not in shown_at]:
-            comment = KNOWN[it].comment if key[0] in SHOWN or len(texts) > 1 else []
-            call.block += ["", *comment, *KNOWN[it].lines]
-            shown_at[it] = call
+        elif key not in shown_at and (key[2] in (*RECORD_NAMES, *texts) or key[0] in SHOWN):
+            comment = KNOWN[key].comment if key[0] in SHOWN or len(texts) > 1 else []
+            call.block += ["", *comment, *KNOWN[key].lines]
+            shown_at[key] = call
     return elsewhere
 
 
@@ -96,9 +91,13 @@ def wrapped(text, indent=""):
 
 
 def links_of(call):
-    """The line with the definitions that the clauses name and the block does not show."""
-    shown = {it[1] for it in map(HEAD.match, call.block) if it}
-    links = [f"[`{key[2]}`]({KNOWN[key].file})" for key in call.keys() if key[2] not in shown]
+    """The line with the definitions that the clauses name, or their record or a definition of the crates
+    in `SHOWN` does, and that the block does not show."""
+    keys = call.keys()
+    keys = keys + [it for key in keys if key[2] in RECORD_NAMES or key[0] in SHOWN
+                   for it in IMPORTS.below(key)]
+    shown = {it[1] for it in map(HEAD.match, call.block) if it} | set(RECORD_NAMES)
+    links = [f"[`{key[2]}`]({KNOWN[key].file})" for key in dict.fromkeys(keys) if key[2] not in shown]
     return wrapped(f"Definitions: {', '.join(links)}.") + [""] if links else []
 
 
@@ -165,10 +164,19 @@ def page(name, crates, old, wrong):
     return re.sub(r"\n{3,}", "\n\n", "\n".join(lines)).rstrip("\n") + "\n"
 
 
+def linked(text, homes):
+    """The text with rustdoc's links to calls as links to their headings, and without its other links."""
+    def link(it):
+        target = re.sub(r"^crate::|[^a-z0-9_:]", "", (it[2] or it[1]).lower()).replace(":", "")
+        if (it[2] or "").startswith("http"):
+            return it[0]
+        return f"[{it[1]}](#{target})" if target in homes else it[1]
+
+    return re.sub(r"\[(`[^`]+`)\](?:\(([^)]+)\))?", link, text)
+
+
 def resolved(text, name, homes):
     """The text of a page, in which links to calls lead to the pages that have them."""
-    text = re.sub(r"\[(`\w+(?:::\w+)+(?:\(\))?`)\](?!\()",
-                  lambda it: f"[{it[1]}](#{re.sub('[^a-z0-9_]', '', it[1].lower())})", text)
     return re.sub(r"\]\(#([\w-]+)\)", lambda it: it[0] if homes.get(it[1], name) == name
                   else f"]({homes[it[1]]}#{it[1]})", text)
 
@@ -181,6 +189,8 @@ def by_page():
             name = page_of(crate, call)
             pages.setdefault(name, {}).setdefault(crate, []).append(call)
             homes[call.anchor] = name
+    for call in (call for crates in pages.values() for calls in crates.values() for call in calls):
+        call.summary = linked(call.summary, homes)
     return pages, homes
 
 

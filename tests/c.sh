@@ -103,6 +103,10 @@ fi
 if command -v c++ >/dev/null; then
     program 'calls in C++' c++ -std=c++11 "${strict[@]:1}" -x c++ tests/c/calls.c -x none \
         "$lib/libdata_encoding.a"
+    holds 'the lengths in C++, without casts of C' c++ -std=c++11 -Wold-style-cast "${strict[@]:1}" \
+        -fsyntax-only -x c++ - <<<'#include "data_encoding.h"
+char text[DE_BASE64_ENCODED_LEN(5) + DE_HEXLOWER_ENCODED_LEN(5)];
+char data[DE_BASE64_DECODED_LEN(8) + DE_HEXLOWER_DECODED_LEN(8)];'
 else
     skip 'calls in C++: no c++'
 fi
@@ -268,15 +272,18 @@ is 'no library' 1 "$(status "$install" prefix prefix)"
 is 'nothing was installed' '644 lib/other' "$(files "$room/prefix")"
 
 mapfile -t commands < <(block docs/C.md sh)
-block README.md c >"$room/hello.c"
-is 'the program of README.md' SGVsbG8= "$(in_room bash -c "${commands[1]} && ./hello" 2>&1)"
+is 'the commands of docs/C.md' "data-encoding-c-$version-x86_64-linux/install.sh /usr/local
+crates/data_encoding_c/build.sh lib
+crates/data_encoding_c/install.sh lib /usr/local" \
+    "$(printf '%s\n' "${commands[@]}" | grep -v '^cc ')"
+is 'those that compile' 2 "$(printf '%s\n' "${commands[@]}" | grep -c '^cc ')"
 block docs/C.md c >"$room/hello.c"
-is 'the commands of docs/C.md' 4 "${#commands[@]}"
-is 'the first of docs/C.md' 'crates/data_encoding_c/build.sh lib' "${commands[0]}"
-is 'the third of docs/C.md' 'crates/data_encoding_c/install.sh lib /usr/local' "${commands[2]}"
-is 'the program of docs/C.md' SGVsbG8= "$(in_room bash -c "${commands[1]} && ./hello" 2>&1)"
+is 'the program of docs/C.md' $'SGVsbG8=\ninvalid symbol at 3' \
+    "$(in_room bash -c "${commands[3]} && ./hello" 2>&1)"
+block README.md c >"$room/hello.c"
+is 'the program of README.md' SGVsbG8= "$(in_room bash -c "${commands[3]} && ./hello" 2>&1)"
 
-# size OPTION..: the length of the program of docs/C.md, linked with these options.
+# size OPTION..: the length of the program of README.md, linked with these options.
 size() {
     "$cc" "-I$lib" "$@" "$room/hello.c" "$lib/libdata_encoding.a" -s -o "$room/sized" &&
         "$room/sized" >"$room/said" && stat -c %s "$room/sized"
@@ -299,7 +306,7 @@ mkdir "$room/moved to"
 mv "$room/first" "$room/moved to/usr"
 moved="$room/moved to/usr"
 
-# by_pkg_config LIB FOLDER COMMAND: what the program of docs/C.md prints that the command builds,
+# by_pkg_config LIB FOLDER COMMAND: what the program of README.md prints that the command builds,
 # with the library in LIB and its file for pkg-config in the folder.
 by_pkg_config() {
     rm -f "$room/hello"
@@ -309,19 +316,19 @@ by_pkg_config() {
 if command -v pkg-config >/dev/null; then
     is 'pkg-config: the version' "$version" \
         "$(PKG_CONFIG_PATH=$lib pkg-config --modversion data_encoding)"
-    is 'pkg-config' SGVsbG8= "$(by_pkg_config "$lib" "$lib" "${commands[3]}")"
+    is 'pkg-config' SGVsbG8= "$(by_pkg_config "$lib" "$lib" "${commands[1]}")"
     is 'pkg-config, of an installed library' SGVsbG8= \
-        "$(by_pkg_config "$moved/lib" "$moved/lib/pkgconfig" "eval \"${commands[3]}\"")"
+        "$(by_pkg_config "$moved/lib" "$moved/lib/pkgconfig" "eval \"${commands[1]}\"")"
     multi=$room/multi/$multiarch
     is 'pkg-config, of another folder for libraries' SGVsbG8= \
-        "$(by_pkg_config "$multi" "$multi/pkgconfig" "${commands[3]}")"
+        "$(by_pkg_config "$multi" "$multi/pkgconfig" "${commands[1]}")"
     is 'pkg-config: the prefix' "$(realpath "$room/multi")" \
         "$(realpath "$(PKG_CONFIG_PATH=$multi/pkgconfig pkg-config --variable=prefix data_encoding)")"
 else
     skip 'the file for pkg-config: no pkg-config'
 fi
 
-# by_cmake FOLDER: what the program of docs/C.md prints that CMake builds by its block of that page,
+# by_cmake FOLDER: what the program of README.md prints that CMake builds by its block of that page,
 # with the library in the folder.
 by_cmake() {
     rm -rf "$room/built"

@@ -12,20 +12,19 @@ check() {
 
 holds 'the pages are what the sources make' check .
 
-# copy: makes "$room/copy", which has what the pages are made of.
-copy() {
-    rm -rf "$room/copy"
-    mkdir -p "$room/copy/docs"
-    cp docs/*.py docs/*.svg docs/CONTRACTS*.md docs/PROVED.md "$room/copy/docs"
-    cp crates.txt "$room/copy"
-    find crates -path '*/out' -prune -o \( -path '*/src/*' -o -path '*/specs/*' \) -type f -print0 |
-        xargs -0 cp --parents -t "$room/copy"
-}
+# What the pages are made of, in "$room/copy".
+mkdir -p "$room/copy"
+cp --parents docs/*.py crates.txt "$room/copy"
+find crates -path '*/out' -prune -o \( -path '*/src/*' -o -path '*/specs/*' \) -type f -print0 |
+    xargs -0 cp --parents -t "$room/copy"
+last=crates.txt
 
-# planted FILE OLD NEW: makes a copy in which OLD, in a line of FILE, became NEW.
+# planted FILE OLD NEW: in a line of a file of the copy, OLD becomes NEW. All others are as they are here.
 planted() {
-    copy
-    sed -i "s~$2~$3~" "$room/copy/$1"
+    cp "$last" "$room/copy/$last"
+    cp docs/*.svg docs/CONTRACTS*.md docs/PROVED.md "$room/copy/docs"
+    last=$1
+    sed -i "${4-}s~$2~$3~" "$room/copy/$1"
     ! cmp -s "$1" "$room/copy/$1"
 }
 
@@ -58,7 +57,7 @@ sees 'a link to a definition that was edited' docs/CONTRACTS.md '/text/Text.antt
 text=crates/data_encoding_meaning/specs/text
 sees 'a printed definition that changed' $text/Text.antt '^text_of base bytes = .*' \
     'text_of base bytes = padded_text base bytes'
-sees 'a comment of a printed definition that changed' $text/Grammar.antt '^-- The group is' '-- A group is'
+sees 'a comment of a printed definition that changed' $text/Grammar.antt '^pub record GroupMeans ' '-- More.\n&'
 sees 'a printed definition that is gone' $text/Text.antt '^abbrev pub in_lines' 'abbrev pub by_lines'
 sees 'a printed definition that was edited' docs/PROVED.md '^Means base text bytes =' 'Means base bytes text ='
 sees 'a call that docs/PROVED.md shows and there is not' docs/PROVED.md 'shows `encode_stream`' 'shows `encodes_stream`'
@@ -67,10 +66,10 @@ sees 'the size of the specification that was edited' docs/PROVED.md \
     '^The five core definitions reach [0-9]*' 'The five core definitions reach 9'
 sees 'a crate that uses another less' crates.txt '^examples: anyhow data_encoding .*' 'examples: anyhow data_encoding'
 
-# A twin with other clauses, in a copy whose page is written again.
+# differs NAME FILE OLD NEW: twins differ in a copy whose page is written again, after the first OLD
+# became NEW.
 differs() {
-    copy
-    sed -i "0,/$3/s//$4/" "$room/copy/$2"
+    holds "$1: an edit" planted "$2" "$3" "$4" "0,/$3/"
     "$room/copy/docs/contracts.py" >/dev/null
     is "$1" 1 "$("$room/copy/docs/contracts.py" --check | grep -c 'has not the clauses of')"
 }
@@ -80,7 +79,7 @@ differs 'a clause that one twin lacks' $encode '        ensures ascii .*' ''
 
 # Words on a clause are kept while the clause stays, and dropped with it.
 words=$(grep -c '^- \*' docs/CONTRACTS.md)
-copy
+planted $encode 'byte < 128) output.new' 'byte < 127) output.new'
 "$room/copy/docs/contracts.py" >/dev/null
 is 'words that stay' "$words" "$(grep -c '^- \*' "$room/copy/docs/CONTRACTS.md")"
 planted crates/data_encoding/src/write.rt '{ 510 ≤ output_len }' '{ 511 ≤ output_len }'

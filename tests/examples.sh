@@ -79,8 +79,8 @@ try_commands() {
     '(cd crates/basecode && rt try --test)') holds "$1: $2" quietly bash -e -c "$2" ;;
     # It runs this test.
     'tests/setup && tests/all') holds "$1: $2" [ -x tests/setup -a -x tests/all ] ;;
-    # They use a file of a release.
-    'sha256sum --check SHA256SUMS' | 'basecode-0.1.0-x86_64-linux/install.sh --remove ~/.local') ;;
+    # release/check runs these.
+    'sha256sum --check SHA256SUMS' | "basecode-$version-x86_64-linux/install.sh --remove ~/.local") ;;
     *) is "$1: a block of sh" 'one that is known here' "$2" ;;
     esac
 }
@@ -138,9 +138,12 @@ while IFS= read -r -d '' block; do
 done < <(sed -n '/^\.EX$/,/^\.EE$/ { s/\\-/-/g; s/\\e/\\/g; s/^\.EE$/\x00/; /^\.EX$/d; p }' \
     crates/basecode/basecode.1)
 
-# anchors PAGE: those of its headings.
+# anchors FILE: those of the headings of a page, or of the lines of another file.
 anchors() {
-    sed -nE 's/\]\([^)]*\)//g; s/^#+ (.*)/\1/p' "$1" | tr 'A-Z ' 'a-z-' | sed 's/[^a-z0-9_-]//g'
+    case $1 in
+    *.md) sed -nE 's/\]\([^)]*\)//g; s/^#+ (.*)/\1/p' "$1" | tr 'A-Z ' 'a-z-' | sed 's/[^a-z0-9_-]//g' ;;
+    *) sed -n '=' "$1" | sed 's/^/L/' ;;
+    esac
 }
 
 # links PAGE: where its links within the repository lead.
@@ -149,10 +152,14 @@ links() {
 }
 
 for page in *.md docs/*.md; do
+    last=
     while IFS='#' read -r target anchor; do
         [ -n "$target" ] && target=$(dirname "$page")/$target || target=$page
-        if [ ! -f "$target" ] || { [ -n "$anchor" ] && ! anchors "$target" | grep -qxF "$anchor"; }
-        then
+        if [ -n "$anchor" ] && [ -f "$target" ] && [ "$target" != "$last" ]; then
+            anchors "$target" >"$room/anchors"
+            last=$target
+        fi
+        if [ ! -f "$target" ] || { [ -n "$anchor" ] && ! grep -qxF -e "$anchor" "$room/anchors"; }; then
             echo "$page: $target $anchor"
         fi
     done < <(links "$page")
@@ -177,7 +184,7 @@ is 'the table of docs/FORMATS.md has each encoding, canonical or not' \
     "$(for name in $(basecode list); do
         echo "$name $(basecode canonical "$name" | sed 's/true/yes/; s/false/no/')"
     done)" \
-    "$(sed -n 's/^| \([A-Z0-9_]*\) | .* | \(yes\|no\) | .*/\1 \2/p' docs/FORMATS.md)"
+    "$(sed -n 's/^| \([A-Z0-9_]*\) | [^|]*| \(yes\|no\) | .*/\1 \2/p' docs/FORMATS.md)"
 
 [ "$passed" -ge 20 ] || fail 'the pages have fewer than 20 examples'
 finish

@@ -56,8 +56,9 @@ else
     skip 'the layout of the files: this cargo has no fmt'
 fi
 
-wanted="DATA_ENCODING_DIR has to be the absolute path of a folder with libdata_encoding.a, which \
-\`crates/data_encoding_c/build.sh FOLDER\` makes from the sources of Bamsturk"
+wanted="DATA_ENCODING_DIR has to be the absolute path of a folder with libdata_encoding.a: the files \
+data-encoding-c of a release have one, and \`crates/data_encoding_c/build.sh FOLDER\` makes one from \
+the sources of Bamsturk"
 for folder in '' "$room" lib; do
     given=$(cd "$crate" && DATA_ENCODING_DIR=$folder cargo check 2>&1 | sed -n 's/^ *\(DATA_.*FOLDER.*\)/\1/p')
     is "without a library in '$folder'" "$wanted" "$given"
@@ -152,7 +153,7 @@ new_package program 2.11 <<END
 between = { path = "../between" }
 macros = { path = "../macros" }
 
-$(block docs/RUST.md toml | sed "s:\"data-encoding-rust-.*\":\"$crate\":")
+$(block docs/RUST.md toml 'Replace the original' | sed "s:\"data-encoding-rust-.*\":\"$crate\":")
 END
 {
     block docs/RUST.md rust

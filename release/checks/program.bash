@@ -35,6 +35,9 @@ install.sh' "$(cd "$name" && find . -type f | sed 's:^\./::' | sort)"
             "$(printf Hello | by-hand/usr/bin/basecode encode BASE64)"
         is 'the program that they install' "$room/Command line/.local/bin/basecode" \
             "$(find "$room/Command line/.local" -name basecode -perm -1)"
+        holds 'the command of docs/INSTALL.md that removes it' env -C "Command line" \
+            "HOME=$room/Command line" bash -ec "$(script "$pages/docs/INSTALL.md" 'The program' | head -n 1)"
+        is 'what is left of it' '' "$(find "Command line/.local" -type f)"
     fi
     [ "$(printf '%s\n' "$(newest_glibc "$name"/bin/*)" 2.34 | sort -V | tail -n 1)" = 2.34 ]
     is 'the program needs no newer glibc than docs/INSTALL.md says' 0 $?

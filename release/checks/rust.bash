@@ -24,14 +24,8 @@ if has '*.crate' && ! lacks 'the crates for Rust' "${CARGO:-cargo}" cargo; then
     done
     tar -C crates -xf "$files/data-encoding-rust-$version.tar.gz"
     name=bamsturk-data-encoding
-    new_program crates/by-path <<END
-[dependencies]
-data-encoding = { package = "$name", path = "../$name-$version" }
-
-[patch.crates-io]
-$name-sys = { path = "../$name-sys-$version" }
-END
-    is 'a program with the crate' SGVsbG8= "$(cargo_in crates/by-path run --quiet 2>&1)"
+    block "$pages/docs/RUST.md" toml 'The crate files' | new_program crates/by-path
+    is 'a program with the crate, as docs/RUST.md says' SGVsbG8= "$(cargo_in crates/by-path run --quiet 2>&1)"
     cargo() {
         "$CARGO" "$@"
     }

@@ -47,8 +47,9 @@ fn main() {
     if let Some(folder) = env::var_os("DATA_ENCODING_DIR").map(PathBuf::from) {
         if !folder.is_absolute() || !folder.join(ARCHIVE).is_file() {
             eprintln!(
-                "DATA_ENCODING_DIR has to be the absolute path of a folder with {ARCHIVE}, which \
-                 `crates/data_encoding_c/build.sh FOLDER` makes from the sources of Bamsturk"
+                "DATA_ENCODING_DIR has to be the absolute path of a folder with {ARCHIVE}: the \
+                 files data-encoding-c of a release have one, and \
+                 `crates/data_encoding_c/build.sh FOLDER` makes one from the sources of Bamsturk"
             );
             process::exit(1);
         }

@@ -495,11 +495,16 @@ de_status de_encoding_specification(const de_encoding *encoding, de_specificatio
  * de_decode_len writes it if a valid text has that length. Both are constants for a constant n, for
  * the size of an array. n must not have side effects, and is at most DE_ENCODE_LIMIT or
  * DE_DECODE_LIMIT. */
+#ifdef __cplusplus
+#define DE_SIZE(n) static_cast<size_t>(n)
+#else
+#define DE_SIZE(n) ((size_t)(n))
+#endif
 #define DE_LEN_BITS(n, bits)                                                                       \
-    ((size_t)(n) / (bits) * 8 + ((size_t)(n) % (bits) * 8 + (bits) - 1) / (bits))
-#define DE_DATA_BITS(n, bits) ((size_t)(n) / 8 * (bits) + (size_t)(n) % 8 * (bits) / 8)
-#define DE_LEN_GROUPS(n, bytes, symbols) (((size_t)(n) + (bytes) - 1) / (bytes) * (symbols))
-#define DE_DATA_GROUPS(n, bytes, symbols) ((size_t)(n) / (symbols) * (bytes))
+    (DE_SIZE(n) / (bits) * 8 + (DE_SIZE(n) % (bits) * 8 + (bits) - 1) / (bits))
+#define DE_DATA_BITS(n, bits) (DE_SIZE(n) / 8 * (bits) + DE_SIZE(n) % 8 * (bits) / 8)
+#define DE_LEN_GROUPS(n, bytes, symbols) ((DE_SIZE(n) + (bytes) - 1) / (bytes) * (symbols))
+#define DE_DATA_GROUPS(n, bytes, symbols) (DE_SIZE(n) / (symbols) * (bytes))
 #define DE_LEN_LINES(len) ((len) + ((len) + 75) / 76 * 2)
 #define DE_HEXLOWER_ENCODED_LEN(n) DE_LEN_BITS(n, 4)
 #define DE_HEXLOWER_DECODED_LEN(n) DE_DATA_BITS(n, 4)
