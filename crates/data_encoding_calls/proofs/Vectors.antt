@@ -100,8 +100,8 @@ encode_statuses :
     × (encode_status base (codes "Hello") 7 ≡ short_buffer))
 encode_statuses = (refl, refl, (refl, refl))
 
--- a text of 5 bytes, where there is room for the most bytes of its length, for the data, and for a
--- byte less; a text with a fault, with that room and with none; and one of no valid length
+-- A text of 5 bytes, with room for the most bytes of its length, for the data, and for a byte less.
+-- A text with a fault, with room for its most bytes and with none, and one of no valid length.
 decode_statuses :
     (status_of_len (Ok 6) ≡ ok) × (status_of_len (Err symbol_at_4) ≡ 7)
     × (status_by_room None 5 5 ≡ ok) × (status_by_room None 5 4 ≡ short_buffer)
@@ -854,9 +854,9 @@ stopped_told : (base : Base) (text output : List ℕ) (decoded : Decoded)
 stopped_told base text output decoded stopped =
     (stopped.read, stopped.written, stopped.position, stopped.means)
 
--- what a decoding returned and wrote: of a text that means data, also where there is no room; of
--- one with a fault of its length; of one that stopped at a fault, also where there is less room than
--- for its most bytes; and of one that is too long
+-- What a decoding returned and wrote: of a text that means data, also without room for it, of one
+-- with a fault of its length, of one with a fault, also with less room than for its most bytes, and
+-- of one that is too long.
 decoding_told :
     Has base64_fields (λ base. (text output : List ℕ) (decoded : Decoded) (answer : ℕ)
     → (Decodes base (codes "SGVsbG8=") (codes ".....") output (counts 7 7 7) decoded answer

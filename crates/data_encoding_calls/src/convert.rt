@@ -64,7 +64,7 @@ pub struct Decoded {
     pub read: usize,
 
     /// The number of bytes of data that they mean. These are at the start of the output. If the
-    /// data does not fit, its length; the other numbers are then 0.
+    /// data does not fit, this is its length, and the other numbers are 0.
     pub written: usize,
 
     /// The position of the fault of the text, or the length of the text if it has none.
@@ -173,10 +173,10 @@ pub(crate) fn decode_by(
     }
 }
 
-/// Like [`decode_by`], for an output that may be too short for the data. It is slower.
+/// Like [`decode_by`], for an output that may be too short for the data.
 ///
 /// If the data does not fit, the status is `SHORT_BUFFER`, and `decoded.written` is its length.
-// A separate function, so that a call with room for every text of the length keeps little.
+// A function of its own, so that `decode_by` saves no registers for it.
 #[inline(never)]
 fn decode_to_fit(
     encoding: &EncodingRef<'_>,

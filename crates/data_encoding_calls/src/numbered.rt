@@ -56,9 +56,9 @@ pub fn numbered_decode_len(number: u32, len: usize, most: &mut usize) -> u32
 /// `decoded` gets the numbers of bytes read and written, and the position of the fault. If `number`
 /// is unknown or `input` is too long, `output` and `decoded` are unchanged.
 ///
-/// `output` may have fewer bytes than `numbered_decode_len` writes, if it holds the data. If it does
-/// not, the status is 4, and `decoded.written` is the length of the data. After a fault such an
-/// output holds no data, and both numbers are 0.
+/// Any output that holds the data is long enough. If the data does not fit, the status is 4,
+/// `decoded.written` is its length, and `output` is unspecified. If `output` has fewer bytes than
+/// `numbered_decode_len` writes, no data is left in it after a fault, and both numbers are 0.
 pub fn numbered_decode(number: u32, input: &[u8], output: &mut [u8], decoded: &mut Decoded) -> u32
     ensures { DecodesByNumber number input.now output.old output.new decoded.old decoded.new
         result }
