@@ -37,6 +37,7 @@ program() {
 
 program 'calls in C' tests/c/calls.c "$arm/libdata_encoding.a"
 program 'calls of the shared library' tests/c/calls.c "-L$arm" -ldata_encoding
+program 'outputs that hold the data' tests/c/fits.c "$arm/libdata_encoding.a"
 program 'texts in pieces' tests/c/pieces.c "$arm/libdata_encoding.a"
 program 'data in pieces' tests/c/blocks.c "$arm/libdata_encoding.a"
 program 'what is written to a bool' tests/c/bools.c "$glue"/*.c "$arm/libdata_encoding.a" \

@@ -55,6 +55,7 @@ program 'calls of the shared library' "$cc" "${strict[@]}" tests/c/calls.c "-L$l
     -ldata_encoding "-Wl,-rpath,$lib"
 program 'calls with short enums' "$cc" "${strict[@]}" -fshort-enums tests/c/calls.c \
     "$lib/libdata_encoding.a"
+program 'outputs that hold the data' "$cc" "${strict[@]}" tests/c/fits.c "$lib/libdata_encoding.a"
 program 'texts in pieces' "$cc" "${strict[@]}" tests/c/pieces.c "$lib/libdata_encoding.a"
 program 'data in pieces' "$cc" "${strict[@]}" tests/c/blocks.c "$lib/libdata_encoding.a"
 program 'what is written to a bool' "$cc" "${strict[@]}" tests/c/bools.c "$glue"/*.c \
@@ -93,6 +94,8 @@ echo 'int main(void) { return 0; }' >"$room/empty.c"
 if "$cc" "${sanitized[@]}" "$room/empty.c" -o "$room/empty" 2>/dev/null; then
     program 'calls with sanitizers' "$cc" "${strict[@]}" "${sanitized[@]}" tests/c/calls.c \
         "$glue"/*.c "$lib/libdata_encoding.a"
+    program 'outputs that hold the data, with sanitizers' "$cc" "${strict[@]}" "${sanitized[@]}" \
+        tests/c/fits.c "$glue"/*.c "$lib/libdata_encoding.a"
     program 'texts in pieces with sanitizers' "$cc" "${strict[@]}" "${sanitized[@]}" \
         tests/c/pieces.c "$glue"/*.c "$lib/libdata_encoding.a"
     program 'data in pieces with sanitizers' "$cc" "${strict[@]}" "${sanitized[@]}" \
@@ -278,7 +281,7 @@ crates/data_encoding_c/install.sh lib /usr/local" \
     "$(printf '%s\n' "${commands[@]}" | grep -v '^cc ')"
 is 'those that compile' 2 "$(printf '%s\n' "${commands[@]}" | grep -c '^cc ')"
 block docs/C.md c >"$room/hello.c"
-is 'the program of docs/C.md' $'SGVsbG8=\ninvalid symbol at 3' \
+is 'the program of docs/C.md' $'SGVsbG8=\nno fault, 32 bytes\ninvalid symbol at 3' \
     "$(in_room bash -c "${commands[3]} && ./hello" 2>&1)"
 block README.md c >"$room/hello.c"
 is 'the program of README.md' SGVsbG8= "$(in_room bash -c "${commands[3]} && ./hello" 2>&1)"

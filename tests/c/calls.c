@@ -209,10 +209,12 @@ static void statuses(void) {
     is("too long", DE_TOO_LONG,
        de_decode(DE_BASE64, far, DE_DECODE_LIMIT + 1, data, 8, &decoded));
     is("short", DE_SHORT_BUFFER, de_encode(DE_BASE64, "foobarf", 7, text, 8, &size));
-    is("short", DE_SHORT_BUFFER, de_decode(DE_BASE64, "Zm9v", 4, data, 2, &decoded));
     holds("nothing is changed", memcmp(text, "untold!", 8) == 0 && size == 77 && given);
     holds("nothing is changed", memcmp(data, "untold!", 8) == 0 && decoded.read == 77 &&
                                     decoded.written == 78 && decoded.position == 79);
+    is("short", DE_SHORT_BUFFER, de_decode(DE_BASE64, "Zm9v", 4, data, 2, &decoded));
+    holds("what is needed",
+          decoded.read == 0 && decoded.written == 3 && decoded.position == 0);
 
     is("the limit", DE_OK, de_encode_len(DE_HEXLOWER, DE_ENCODE_LIMIT, &size));
     is("the limit", 2 * DE_ENCODE_LIMIT, size);

@@ -63,15 +63,23 @@ static size_t encode(const struct by *by, const unsigned char *data, size_t len,
     return written;
 }
 
-static void decode(const struct by *by, const char *text, size_t len) {
+/* After DE_SHORT_BUFFER the output is unspecified. Returns the length of the data. */
+static size_t decode_to(const struct by *by, const char *text, size_t len, size_t room) {
     static unsigned char output[ROOM];
     de_decoded decoded = {0, 0, 0};
     de_status status = by->own != NULL
-                           ? de_encoding_decode(by->own, text, len, output, ROOM, &decoded)
-                           : de_decode(by->number, text, len, output, ROOM, &decoded);
-    told(status, decoded.written, output);
+                           ? de_encoding_decode(by->own, text, len, output, room, &decoded)
+                           : de_decode(by->number, text, len, output, room, &decoded);
+    told(status, decoded.written, status != DE_SHORT_BUFFER ? output : NULL);
     add_number(decoded.read);
     add_number(decoded.position);
+    return decoded.written;
+}
+
+/* To an output with room for any text, and to one of about the length of the data. */
+static void decode(const struct by *by, const char *text, size_t len) {
+    size_t room = decode_to(by, text, len, ROOM) + draw(4);
+    decode_to(by, text, len, room > 0 ? room - 1 : 0);
 }
 
 static void decode_pieces(const struct by *by, const char *text, size_t len) {

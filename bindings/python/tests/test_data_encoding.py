@@ -223,15 +223,30 @@ class Calls(unittest.TestCase):
         self.assertEqual((output[:4], output[6:]), (b"foob", b".."))
         self.assertEqual(BASE64.decode_into("Zm9v", memoryview(output)[5:]), 3)
         self.assertEqual(output[5:], b"foo")
-        with self.assertRaises(ValueError) as refused:
-            BASE64.decode_into("Zm9vYg==", bytearray(5))
-        self.assertEqual(str(refused.exception), "output too short")
-        with self.assertRaises(DecodeError) as caught:
-            BASE64.decode_into("Zm9vY!==", output)
-        self.assertEqual(caught.exception.args, ("symbol", 5, b"foo"))
+        for room in (8, 3, 2):
+            with self.assertRaises(DecodeError) as caught:
+                BASE64.decode_into("Zm9vY!==", bytearray(room))
+            self.assertEqual(caught.exception.args, ("symbol", 5, b"foo"))
         self.assertRaises(DecodeError, BASE64.decode_into, "Zm9vY", output)
         self.assertRaises(TypeError, BASE64.decode_into, "Zm9v", b"........")
         self.assertRaises(TypeError, BASE64.decode_into, 5, output)
+
+    def test_decode_into_each_length(self) -> None:
+        for encoding in every():
+            for size in (0, 1, 2, 3, 31, 32, 33, 319, 320, 321, 383, 384, 385, 1000):
+                data = random.randbytes(size)
+                text = encoding.encode(data)
+                for room in range(max(0, size - 3), size + 4):
+                    output = bytearray(room)
+                    if room < size:
+                        with self.assertRaises(ValueError) as refused:
+                            encoding.decode_into(text, output)
+                        self.assertEqual(
+                            str(refused.exception), f"output too short: the data has {size} bytes"
+                        )
+                    else:
+                        self.assertEqual(encoding.decode_into(text, output), size)
+                        self.assertEqual(output[:size], data)
 
     def test_decode_into_the_text(self) -> None:
         text = bytearray(b"Zm9v....")

@@ -289,7 +289,7 @@ pub(crate) fn decode(
 ///
 /// # Panics
 ///
-/// Panics if `most` is less than `decode_len` says, or the text is over the limit.
+/// Panics if the data has more than `most` bytes, or the text is over the limit.
 #[cfg(feature = "alloc")]
 #[inline]
 pub(crate) fn decode_new(

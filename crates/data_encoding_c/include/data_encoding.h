@@ -86,7 +86,7 @@ const char *de_version(void);
 
 /* The status of a call. After DE_OK and the four DE_INVALID_ statuses of an invalid text, the
  * outputs are as the call describes. After any other status nothing has changed, except *detail
- * where the status sets it. */
+ * where the status sets it, and the outputs of de_decode after DE_SHORT_BUFFER. */
 typedef uint32_t de_status;
 enum {
     DE_OK = 0,
@@ -100,7 +100,8 @@ enum {
     /* The data is longer than DE_ENCODE_LIMIT, or the text than DE_DECODE_LIMIT. */
     DE_TOO_LONG = 3,
 
-    /* The output is too short: de_encode_len and de_decode_len return how much is needed. */
+    /* The output is too short. de_encode_len writes the length that a text needs, and de_decode the
+     * length that its data needs. */
     DE_SHORT_BUFFER = 4,
 
     /* No valid text has this length. */
@@ -182,17 +183,21 @@ enum {
     DE_BASE64URL_NOPAD = 17
 };
 
-/* The result of decoding, if the status is DE_OK or one of the four of an invalid text. */
+/* The result of decoding, if the status is DE_OK, one of the four of an invalid text, or
+ * DE_SHORT_BUFFER of de_decode. */
 typedef struct de_decoded {
     /* The number of bytes of the text that were read; they decode to the bytes that were written.
-     * For an invalid text, these are at least the bytes before the first faulty group. */
+     * For an invalid text, these are at least the bytes before the first faulty group, or 0 if the
+     * output is shorter than de_decode_len writes. After DE_SHORT_BUFFER it is 0. */
     size_t read;
 
-    /* The number of bytes that were written. */
+    /* The number of bytes that were written. After DE_SHORT_BUFFER, the length of the data, which
+     * is the length that the output needs. */
     size_t written;
 
-    /* After DE_OK, the length of the text. Otherwise the index of the invalid byte or, for an
-     * invalid length in an encoding that ignores no byte, the greatest valid length below it. */
+    /* After DE_OK, the length of the text. After DE_SHORT_BUFFER it is 0. Otherwise the index of
+     * the invalid byte or, for an invalid length in an encoding that ignores no byte, the greatest
+     * valid length below it. */
     size_t position;
 } de_decoded;
 
@@ -214,11 +219,17 @@ DE_EXPORT DE_NODISCARD DE_NONNULL(3)
 de_status de_decode_len(de_number number, size_t len, size_t *most);
 
 /* Writes the data of the text input to the start of output, and how far the text was decoded to
- * *decoded. The output needs the length that de_decode_len writes. The status of an invalid text
- * is one of the four DE_INVALID_: the first *decoded.read bytes of input then decode to the
- * first *decoded.written bytes of output. Within the length of de_decode_len, output after these
- * bytes is unspecified. If de_decode_len refuses the length, nothing is read. DE_TOO_LONG,
- * DE_SHORT_BUFFER. */
+ * *decoded. Any output that holds the data is long enough. If the data of a valid text does not
+ * fit, the status is DE_SHORT_BUFFER, and decoded->written is the length of the data.
+ *
+ * The status of an invalid text is one of the four DE_INVALID_. If output has the length that
+ * de_decode_len writes, the first decoded->read bytes of input then decode to the first
+ * decoded->written bytes of output. In a shorter output no data is left: both numbers are 0. If
+ * de_decode_len refuses the length, nothing is read and output is unchanged.
+ *
+ * Within the length of de_decode_len, output after the decoded->written bytes is unspecified. After
+ * DE_SHORT_BUFFER all of output is. A long text is decoded faster to an output of the length that
+ * de_decode_len writes. DE_TOO_LONG. */
 DE_EXPORT DE_NODISCARD DE_NONNULL(6)
 de_status de_decode(de_number number, const char *input, size_t input_len, void *output,
                     size_t output_len, de_decoded *decoded);

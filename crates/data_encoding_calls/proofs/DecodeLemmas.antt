@@ -1,17 +1,18 @@
 -- A decoding that stops at a fault: its status, and the bytes that are due for what was read.
-use Rattle.std.proofs.Common.{◌≡◌, ℕ, zero, suc, ◌*◌, ◌/◌, ◌≤◌, Bool, true, false, if◌then◌else◌, List, ◌++◌, length, take, drop, Option, None, Some, Result, Ok, refl, sym, ap, ◌∙◌, length-take-le, arith}
+use Rattle.std.proofs.Common.{◌≡◌, ℕ, zero, suc, ◌*◌, ◌/◌, ◌<◌, ◌≤◌, Bool, true, false, if◌then◌else◌, List, ◌++◌, length, take, drop, Option, None, Some, Result, Ok, Err, refl, sym, ap, ◌∙◌, length-take-le, arith}
 use Rattle.std.proofs.Math.Nat.{div-mul-le_self, div-zero, le-div_iff_mul-le, mul-le-mul_left, mul-le-mul_right}
-use Rattle.std.proofs.lemmas.Bool.{le-ltb}
+use Rattle.std.proofs.lemmas.Bool.{le-ltb, lt-ltb}
 use Rattle.std.proofs.lemmas.Slice.{drop-append-drop}
 use Rattle.std.specs.Result.{IsOkAnd}
 use Rattle.data_encoding.specs.declared.error.DecodeError.{DecodeError}
 use Rattle.data_encoding.specs.declared.error.DecodePartial.{DecodePartial}
 use Rattle.data_encoding.specs.Base.{Base, group_bytes, group_symbols, is_padded}
-use Rattle.data_encoding.specs.Fault.{fault_of}
+use Rattle.data_encoding.specs.Fault.{fault_of, first_fault, or_else, sound_bytes}
+use Rattle.data_encoding.specs.Grammar.{groups}
 use Rattle.data_encoding.specs.Lengths.{decoded_len, length_fault, most_bytes, unless_fault}
 use Rattle.data_encoding.specs.Partial.{partial_by, partial_of}
-use Rattle.data_encoding_calls.specs.Calls.{decode_status, status_by_len}
-use Rattle.data_encoding_calls.specs.Status.{short_buffer, status_of_fault, too_long}
+use Rattle.data_encoding_calls.specs.Calls.{decode_status, status_by_room}
+use Rattle.data_encoding_calls.specs.Status.{ok, short_buffer, status_of_kind, too_long}
 
 error_in : Option DecodePartial → Option DecodeError
 error_in None = None
@@ -32,18 +33,39 @@ unfolding error_in
 fault-stopped base text partial is =
     stopped-fault base text (fault_of base text) ∙ ap error_in is
 
--- the status of a text for whose length this many bytes are due, which the room holds
-pub status-known : (base : Base) (text : List ℕ) (room most : ℕ) (fault : Option DecodeError)
-    → length text ≤ 2305843009213693951 → decoded_len base (length text) ≡ Ok most → most ≤ room
-    → fault_of base text ≡ fault → status_of_fault fault ≡ decode_status base text room
-status-known base text room most fault few due fits is =
+-- a fault of the length is the fault of the text
+err-unless : (fault other : Option DecodeError) (most : ℕ) (error : DecodeError)
+    → unless_fault fault most ≡ Err error → or_else fault other ≡ Some error
+err-unless None other most error is = absurd (cc is)
+err-unless (Some fault) other most error is = cc is
+
+pub length-faulty : (base : Base) (text : List ℕ) (error : DecodeError)
+    → decoded_len base (length text) ≡ Err error → fault_of base text ≡ Some error
+length-faulty base text error is =
+    err-unless (length_fault base (length text)) (first_fault base (groups base text))
+    (most_bytes base (length text)) error is
+
+-- the status of a text within the limit
+pub status-known : (base : Base) (text : List ℕ) (room : ℕ)
+    → length text ≤ 2305843009213693951
+    → status_by_room (fault_of base text) (length (sound_bytes base text)) room
+    ≡ decode_status base text room
+status-known base text room few =
     sym (ap (λ (long : Bool). if long then too_long
-    else status_by_len (decoded_len base (length text)) (fault_of base text) room)
-    (le-ltb 2305843009213693951 (length text) few)
-    ∙ ap (λ r. status_by_len r (fault_of base text) room) due
-    ∙ ap (λ (short : Bool). if short then short_buffer else status_of_fault (fault_of base text))
-    (le-ltb room most fits)
-    ∙ ap status_of_fault is)
+    else status_by_room (fault_of base text) (length (sound_bytes base text)) room)
+    (le-ltb 2305843009213693951 (length text) few))
+
+-- the statuses of a fault, and of data that does not fit
+pub status-faulty : (fault : Option DecodeError) (len room : ℕ) (error : DecodeError)
+    → fault ≡ Some error → status_of_kind error.kind ≡ status_by_room fault len room
+status-faulty fault len room error is =
+    sym (ap (λ (found : Option DecodeError). status_by_room found len room) is)
+
+pub status-short : (fault : Option DecodeError) (len room : ℕ) → fault ≡ None → room < len
+    → short_buffer ≡ status_by_room fault len room
+status-short fault len room is misses =
+    sym (ap (λ (found : Option DecodeError). status_by_room found len room) is
+    ∙ ap (λ (short : Bool). if short then short_buffer else ok) (lt-ltb room len misses))
 
 div-grows : (k m n : ℕ) → m ≤ n → m / k ≤ n / k
 div-grows zero m n few = omega (arith, div-zero m, div-zero n)

@@ -1,4 +1,5 @@
 mod DecodeLemmas
+mod FitLemmas
 mod NumberLemmas
 mod NameLemmas
 pub mod PieceLemmas

@@ -1,5 +1,5 @@
 -- Worked rows of what calls return and write.
-use Rattle.std.proofs.Common.{◌≡◌, ◌∙◌, ◌⊎◌, ℕ, ◌<◌, ◌≤◌, true, false, List, [], ◌∷◌, ◌++◌, map, length, take, drop, IsSome, codes, replicate, Some, None, Result, Ok, Err, refl, zero, suc, sym, ap, subst, inl, inr, lit<, lit≤, arith}
+use Rattle.std.proofs.Common.{◌≡◌, ◌∙◌, ◌⊎◌, ℕ, ◌<◌, ◌≤◌, true, false, List, [], ◌∷◌, ◌++◌, map, length, take, drop, IsSome, codes, replicate, Option, Some, None, Result, Ok, Err, refl, zero, suc, sym, ap, subst, inl, inr, lit<, lit≤, arith}
 use Rattle.std.proofs.lemmas.Bool.{false≢true}
 use Rattle.std.proofs.lemmas.List.{append-nil}
 use Rattle.data_encoding.specs.declared.encoding.BitOrder.TheVariants.{MostSignificantFirst, LeastSignificantFirst}
@@ -32,7 +32,7 @@ use Rattle.data_encoding_calls.specs.declared.make.Made.{Made}
 use Rattle.data_encoding_calls.specs.declared.pieces.PlainKept.{PlainKept}
 use Rattle.data_encoding_calls.specs.Blocks.{if_kept, last_text, DataPlaces, EncodesPiece, EndsData, TellsDue}
 use Rattle.data_encoding_calls.specs.Blocks.{piece_status as data_status}
-use Rattle.data_encoding_calls.specs.Calls.{decode_len_status, decode_status, encode_len_status, encode_status, front_status, over, status_by_len, status_of_len, ByNumber, Decodes, Encodes, HasStopped, TellsCanonical, TellsMost, TellsTextLength, WritesFront}
+use Rattle.data_encoding_calls.specs.Calls.{decode_len_status, decode_status, encode_len_status, encode_status, front_status, over, status_by_room, status_of_len, ByNumber, Decodes, Encodes, HasStopped, TellsCanonical, TellsMost, TellsTextLength, WritesFront}
 use Rattle.data_encoding_calls.specs.Facts.{texts_of, AsksFor, GivesBack, SpecificationPlaces, TellsAlignment, TellsWidth}
 use Rattle.data_encoding_calls.specs.Custom.{fields_asked, order_asked, padding_asked, Makes, MakesOfLayout}
 use Rattle.data_encoding_calls.specs.Names.{FindsNumber, WritesName}
@@ -100,19 +100,28 @@ encode_statuses :
     × (encode_status base (codes "Hello") 7 ≡ short_buffer))
 encode_statuses = (refl, refl, (refl, refl))
 
--- a text of 8 characters means at most 6 bytes; one of 7 has a fault of its length
+-- A text of 5 bytes, with room for the most bytes of its length, for the data, and for a byte less.
+-- A text with a fault, with room for its most bytes and with none, and one of no valid length.
 decode_statuses :
     (status_of_len (Ok 6) ≡ ok) × (status_of_len (Err symbol_at_4) ≡ 7)
-    × (status_by_len (Ok 6) None 6 ≡ ok) × (status_by_len (Ok 6) None 5 ≡ short_buffer)
-    × (status_by_len (Ok 6) (Some symbol_at_4) 6 ≡ 7)
-    × (status_by_len (Err symbol_at_4) None 0 ≡ 7)
+    × (status_by_room None 5 5 ≡ ok) × (status_by_room None 5 4 ≡ short_buffer)
+    × (status_by_room (Some symbol_at_4) 3 6 ≡ 7) × (status_by_room (Some symbol_at_4) 3 0 ≡ 7)
     × Has base64_fields (λ base. (decode_len_status base 8 ≡ ok) × (decode_len_status base 7 ≡ 6)
     × (decode_len_status base 2305843009213693952 ≡ too_long)
     × (decode_status base (codes "SGVsbG8=") 6 ≡ ok)
-    × (decode_status base (codes "SGVsbG8=") 5 ≡ short_buffer)
-    × (decode_status base (codes "SGVs!G8=") 6 ≡ 7) × (decode_status base (codes "SGVsbG8") 6 ≡ 6))
-decode_statuses =
-    (refl, refl, refl, refl, refl, refl, (refl, refl, refl, refl, refl, refl, refl))
+    × (decode_status base (codes "SGVsbG8=") 5 ≡ ok)
+    × (decode_status base (codes "SGVsbG8=") 4 ≡ short_buffer)
+    × (decode_status base (codes "SGVs!G8=") 6 ≡ 7) × (decode_status base (codes "SGVs!G8=") 0 ≡ 7)
+    × (decode_status base (codes "SGVsbG8") 6 ≡ 6) × (decode_status base (codes "SGVsbG8") 0 ≡ 6))
+decode_statuses = (
+  refl,
+  refl,
+  refl,
+  refl,
+  refl,
+  refl,
+  (refl, refl, refl, refl, refl, refl, refl, refl, refl, refl),
+)
 
 empty : Has base64_fields (λ base.
     (bytes : List ℕ) → length bytes ≡ 0 → length (text_of base bytes) ≡ 0)
@@ -173,13 +182,15 @@ most_told = (
 abbrev counts : ℕ → ℕ → ℕ → Decoded
 counts read written position = record { read = read; written = written; position = position }
 
--- a text that means data, where there is no room for the data, and where there is
+-- a text that means 5 bytes, in an output of 4, of 5, and of the most bytes of its length
 text_decoded :
     Has base64_fields (λ base.
-    Decodes base (codes "SGVsbG8=") (codes ".....") (codes ".....") (counts 7 7 7) (counts 7 7 7)
+    Decodes base (codes "SGVsbG8=") (codes "....") (codes "Hel.") (counts 7 7 7) (counts 0 5 0)
     short_buffer
     × (Means base (codes "SGVsbG8=") (codes "Hello")
-    → Decodes base (codes "SGVsbG8=") (codes "......") (codes "Hello.") (counts 7 7 7)
+    → Decodes base (codes "SGVsbG8=") (codes ".....") (codes "Hello") (counts 7 7 7)
+    (counts 8 5 8) ok
+    × Decodes base (codes "SGVsbG8=") (codes "......") (codes "Hello.") (counts 7 7 7)
     (counts 8 5 8) ok))
 text_decoded = (
   record {
@@ -187,33 +198,76 @@ text_decoded = (
     means = λ is. absurd (cc is);
     all = λ is. absurd (cc is);
     end = λ is. absurd (cc is);
-    refused = λ _. (refl, refl);
+    refused = λ is. absurd (cc is);
+    needed = λ _. refl;
     by_length = λ error few is. absurd (never-err is);
-    fault = λ partial most few short. absurd (short refl);
-    within = inl refl;
-    after = λ most is. refl;
+    fault = λ partial most few due fits stopped. absurd (never-stopped stopped);
+    short_fault = λ error most few due misses faulty. absurd (cc faulty);
+    within = λ short. absurd (short refl);
+    after = λ most is. six-left most (same-most is) (codes "Hel.") (codes "....") refl;
   },
-  λ means. record {
-    status = refl;
-    means = λ _. means;
-    all = λ _. refl;
-    end = λ _. refl;
-    refused = λ is. absurd (not_refused is);
-    by_length = λ error few is. absurd (never-err is);
-    fault = λ partial most few short due stopped. absurd (never-stopped stopped);
-    within = inr (lit≤ tt);
-    after = λ most is. after_six most (same-most is);
-  },
+  λ means. (
+    record {
+      status = refl;
+      means = λ _. means;
+      all = λ _. refl;
+      end = λ _. refl;
+      refused = λ is. absurd (cc is);
+      needed = λ is. absurd (cc is);
+      by_length = λ error few is. absurd (never-err is);
+      fault = λ partial most few due fits stopped. absurd (never-stopped stopped);
+      short_fault = λ error most few due misses faulty. absurd (cc faulty);
+      within = λ _. inr (lit≤ tt);
+      after = λ most is. six-left most (same-most is) (codes "Hello") (codes ".....") refl;
+    },
+    record {
+      status = refl;
+      means = λ _. means;
+      all = λ _. refl;
+      end = λ _. refl;
+      refused = λ is. absurd (cc is);
+      needed = λ is. absurd (cc is);
+      by_length = λ error few is. absurd (never-err is);
+      fault = λ partial most few due fits stopped. absurd (never-stopped stopped);
+      short_fault = λ error most few due misses faulty. absurd (cc faulty);
+      within = λ _. inr (lit≤ tt);
+      after = λ most is. six-left most (same-most is) (codes "Hello.") (codes "......") refl;
+    },
+  ),
 ) where
-  not_refused : (ok ≡ too_long) ⊎ (ok ≡ short_buffer) → ⊥
-  not_refused (inl is) = absurd (cc is)
-  not_refused (inr is) = absurd (cc is)
-
   never-stopped : {partial : DecodePartial} → None ≡ Some partial → ⊥
   never-stopped is = absurd (cc is)
 
-  after_six : (most : ℕ) → 6 ≡ most → drop most (codes "Hello.") ≡ drop most (codes "......")
-  after_six most is = subst (λ n. drop n (codes "Hello.") ≡ drop n (codes "......")) is refl
+  six-left : (most : ℕ) → 6 ≡ most → (new old : List ℕ) → drop 6 new ≡ drop 6 old
+      → drop most new ≡ drop most old
+  six-left most is new old same = subst (λ n. drop n new ≡ drop n old) is same
+
+-- a text with a fault, in an output shorter than the most bytes of its length
+short_faulty :
+    Has base64_fields (λ base.
+    Decodes base (codes "SGVs!G8=") (codes ".....") (codes "Hel..") (counts 7 7 7) (counts 0 0 4)
+    7)
+short_faulty = record {
+  status = refl;
+  means = λ is. absurd (cc is);
+  all = λ is. absurd (cc is);
+  end = λ is. absurd (cc is);
+  refused = λ is. absurd (cc is);
+  needed = λ is. absurd (cc is);
+  by_length = λ error few is. absurd (never-err is);
+  fault = λ partial most few due fits stopped.
+      absurd (no-room most (same-most due) fits);
+  short_fault = λ error most few due misses faulty. ap (counts 0 0) (ap position_in faulty);
+  within = λ _. inr (lit≤ tt);
+  after = λ most is.
+      subst (λ n. drop n (codes "Hel..") ≡ drop n (codes ".....")) (same-most is) refl;
+} where
+  no-room : (most : ℕ) → 6 ≡ most → most ≤ 5 → ⊥
+  no-room most is fits = omega (arith, is, fits)
+
+  position_in : Option DecodeError → ℕ
+  position_in None = 0
+  position_in (Some error) = error.position
 
 -- a text that has a fault by its length
 refused_by_length :
@@ -225,15 +279,14 @@ refused_by_length = record {
   means = λ is. absurd (cc is);
   all = λ is. absurd (cc is);
   end = λ is. absurd (cc is);
-  refused = λ is. absurd (not_refused is);
+  refused = λ is. absurd (cc is);
+  needed = λ is. absurd (cc is);
   by_length = λ error few is. (refl, ap (counts 0 0) (ap position_of is));
-  fault = λ partial most few short due. absurd (never-ok due);
-  within = inr (lit≤ tt);
+  fault = λ partial most few due. absurd (never-ok due);
+  short_fault = λ error most few due. absurd (never-ok due);
+  within = λ _. inr (lit≤ tt);
   after = λ most is. refl;
-} where
-  not_refused : (6 ≡ too_long) ⊎ (6 ≡ short_buffer) → ⊥
-  not_refused (inl is) = absurd (cc is)
-  not_refused (inr is) = absurd (cc is)
+}
 
 abbrev partial_at_4 : DecodePartial
 partial_at_4 = record { read = 4; written = 3; error = symbol_at_4 }
@@ -657,8 +710,8 @@ twelve = record { fields = base64_fields; is_known = refl; is_built = refl }
 
 done_by_number :
     EncodesByNumber 12 (codes "Hello") (codes "..........") (codes "SGVsbG8=..") 7 8 ok
-    × DecodesByNumber 12 (codes "SGVsbG8=") (codes ".....") (codes ".....") (counts 7 7 7)
-    (counts 7 7 7) short_buffer
+    × DecodesByNumber 12 (codes "SGVsbG8=") (codes "....") (codes "Hel.") (counts 7 7 7)
+    (counts 0 5 0) short_buffer
     × EndsTextByNumber 12 plain_of_none (codes "...") (codes "...") (counts 7 7 7) (counts 7 7 7)
     no_decoder
     × EndsDataByNumber 12 whole_block (codes "....") (codes "....") 7 7 no_encoder
@@ -668,8 +721,8 @@ done_by_number :
 done_by_number = (
   by-known (λ base. Encodes base (codes "Hello") (codes "..........") (codes "SGVsbG8=..") 7 8 ok)
       twelve hello_encoded,
-  by-known (λ base. Decodes base (codes "SGVsbG8=") (codes ".....") (codes ".....") (counts 7 7 7)
-      (counts 7 7 7) short_buffer) twelve text_decoded.0,
+  by-known (λ base. Decodes base (codes "SGVsbG8=") (codes "....") (codes "Hel.") (counts 7 7 7)
+      (counts 0 5 0) short_buffer) twelve text_decoded.0,
   by-known (λ base. EndsText base plain_of_none (codes "...") (codes "...") (counts 7 7 7)
       (counts 7 7 7) no_decoder) twelve (numbers_refused _).1,
   by-known (λ base. EndsData base whole_block (codes "....") (codes "....") 7 7 no_encoder)
@@ -743,9 +796,6 @@ never-six-ok is = absurd (cc is)
 never-seven : 7 ≡ too_long → ⊥
 never-seven is = absurd (cc is)
 
-never-seven-four : 7 ≡ short_buffer → ⊥
-never-seven-four is = absurd (cc is)
-
 -- where a call returned 0, it wrote; where it returned anything else, nothing is changed
 front_told : (output : List ℕ) (written answer : ℕ)
     → (WritesFront (codes "Hi") (codes "....") output 0 written answer → answer ≡ ok)
@@ -804,36 +854,49 @@ stopped_told : (base : Base) (text output : List ℕ) (decoded : Decoded)
 stopped_told base text output decoded stopped =
     (stopped.read, stopped.written, stopped.position, stopped.means)
 
--- what a decoding returned and wrote: of a text that means data, where there is no room, of one
--- with a fault of its length, and of one that stopped at a fault
+-- What a decoding returned and wrote: of a text that means data, also without room for it, of one
+-- with a fault of its length, of one with a fault, also with less room than for its most bytes, and
+-- of one that is too long.
 decoding_told :
-    Has base64_fields (λ base. (output : List ℕ) (decoded : Decoded) (answer : ℕ)
-    → (Decodes base (codes "SGVsbG8=") (codes "......") output (counts 7 7 7) decoded answer
+    Has base64_fields (λ base. (text output : List ℕ) (decoded : Decoded) (answer : ℕ)
+    → (Decodes base (codes "SGVsbG8=") (codes ".....") output (counts 7 7 7) decoded answer
     → answer ≡ ok)
-    × (Decodes base (codes "SGVsbG8=") (codes "......") output (counts 7 7 7) decoded ok
+    × (Decodes base (codes "SGVsbG8=") (codes ".....") output (counts 7 7 7) decoded ok
     → Means base (codes "SGVsbG8=") (take decoded.written output) × (decoded.read ≡ 8)
     × (decoded.position ≡ 8))
-    × (Decodes base (codes "SGVsbG8=") (codes ".....") output (counts 7 7 7) decoded short_buffer
-    → (output ≡ codes ".....") × (decoded ≡ counts 7 7 7))
+    × (Decodes base (codes "SGVsbG8=") (codes "....") output (counts 7 7 7) decoded answer
+    → answer ≡ short_buffer)
+    × (Decodes base (codes "SGVsbG8=") (codes "....") output (counts 7 7 7) decoded short_buffer
+    → decoded ≡ counts 0 5 0)
     × (Decodes base (codes "SGVsbG8") (codes "......") output (counts 7 7 7) decoded 6
     → (output ≡ codes "......") × (decoded ≡ counts 0 0 4))
     × (Decodes base (codes "SGVs!G8=") (codes "......") output (counts 7 7 7) decoded 7
     → HasStopped base (codes "SGVs!G8=") output partial_at_4 decoded)
+    × (Decodes base (codes "SGVs!G8=") (codes ".....") output (counts 7 7 7) decoded 7
+    → decoded ≡ counts 0 0 4)
     × (Decodes base (codes "SGVsbG8=") (codes "........") output (counts 7 7 7) decoded ok
-    → drop 6 output ≡ codes ".."))
-decoding_told output decoded answer = (
+    → drop 6 output ≡ codes "..")
+    × (Decodes base text (codes "......") output (counts 7 7 7) decoded too_long
+    → (output ≡ codes "......") × (decoded ≡ counts 7 7 7)))
+decoding_told text output decoded answer = (
   λ done. done.status,
   λ done. (done.means refl, done.all refl, done.end refl),
-  λ done. done.refused (inr refl),
+  λ done. done.status,
+  λ done. done.needed refl,
   λ done. done.by_length (record { position = 4; kind = Length }) never-six refl,
-  λ done. done.fault partial_at_4 6 never-seven never-seven-four refl refl,
+  λ done. done.fault partial_at_4 6 never-seven refl (lit≤ tt) refl,
+  λ done. done.short_fault symbol_at_4 6 never-seven refl (lit< tt) refl,
   λ done. done.after 6 refl,
+  λ done. done.refused refl,
 )
 
 -- no more was written than the output has, if anything was
-within_told : (base : Base) (text : List ℕ) (answer : ℕ)
-    → Decodes base text [] [] (counts 7 7 7) (counts 8 1 8) answer → ⊥
-within_told base text answer done = none done.within where
+within_told : (base : Base) (text : List ℕ)
+    → Decodes base text [] [] (counts 7 7 7) (counts 8 1 8) ok → ⊥
+within_told base text done = none (done.within never-zero) where
+  never-zero : ok ≡ short_buffer → ⊥
+  never-zero is = absurd (cc is)
+
   none : (counts 8 1 8 ≡ counts 7 7 7) ⊎ (1 ≤ 0) → ⊥
   none (inl is) =
       let eight : ◌≡◌ {A = ℕ} 8 7 = ap (λ decoded. decoded.read) is in

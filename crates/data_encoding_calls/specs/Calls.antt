@@ -1,17 +1,17 @@
 -- The results and the effects of calls.
-use Rattle.std.specs.Prelude.{◌≡◌, ◌↔◌, ◌⊎◌, ℕ, ◌≤◌, nat_lt, Bool, List, ◌++◌, length, take, drop, if◌then◌else◌, Option, Some, None, Result, Ok, Err, IsTrue}
+use Rattle.std.specs.Prelude.{◌≡◌, ◌↔◌, ◌⊎◌, ℕ, ◌<◌, ◌≤◌, nat_lt, Bool, List, ◌++◌, length, take, drop, if◌then◌else◌, Option, Some, None, Result, Ok, Err, IsTrue}
 use Rattle.data_encoding.specs.declared.error.DecodeError.{DecodeError}
 use Rattle.data_encoding.specs.declared.error.DecodePartial.{DecodePartial}
 use Rattle.data_encoding.specs.Base.{Base}
 use Rattle.data_encoding.specs.Canonical.{IsCanonical}
-use Rattle.data_encoding.specs.Fault.{fault_of}
+use Rattle.data_encoding.specs.Fault.{fault_of, sound_bytes}
 use Rattle.data_encoding.specs.Grammar.{Means}
 use Rattle.data_encoding.specs.Lengths.{decoded_len}
 use Rattle.data_encoding.specs.Named.{IsNumbered, fields_numbered}
 use Rattle.data_encoding.specs.Partial.{partial_of}
 use Rattle.data_encoding.specs.Text.{text_of}
 use Rattle.data_encoding_calls.specs.declared.convert.Decoded.{Decoded}
-use Rattle.data_encoding_calls.specs.Status.{ok, unknown_encoding, too_long, short_buffer, status_of_kind, status_of_fault}
+use Rattle.data_encoding_calls.specs.Status.{ok, unknown_encoding, too_long, short_buffer, status_of_kind}
 
 -- The output `old` with its start replaced by `bytes`.
 abbrev pub over : List ℕ → List ℕ → List ℕ
@@ -42,18 +42,17 @@ abbrev pub decode_len_status : Base → ℕ → ℕ
 decode_len_status base len =
     if nat_lt 2305843009213693951 len then too_long else status_of_len (decoded_len base len)
 
--- The status of a text with the given fault or none, from the result for its length and the room
--- for its data.
-abbrev pub status_by_len : Result ℕ DecodeError → Option DecodeError → ℕ → ℕ
-status_by_len (Err error) fault room = status_of_kind error.kind
-status_by_len (Ok most) fault room =
-    if nat_lt room most then short_buffer else status_of_fault fault
+-- The status of a text with the given fault or none, from the length of its data and the room for
+-- it.
+abbrev pub status_by_room : Option DecodeError → ℕ → ℕ → ℕ
+status_by_room (Some error) len room = status_of_kind error.kind
+status_by_room None len room = if nat_lt room len then short_buffer else ok
 
--- The status of decoding to an output of `room` bytes.
+-- The status of decoding to an output of `room` bytes. The data of a valid text is its sound bytes.
 abbrev pub decode_status : Base → List ℕ → ℕ → ℕ
 decode_status base text room =
     if nat_lt 2305843009213693951 (length text) then too_long
-    else status_by_len (decoded_len base (length text)) (fault_of base text) room
+    else status_by_room (fault_of base text) (length (sound_bytes base text)) room
 
 -- The decoding stopped at a fault, and the bytes that were read mean the bytes that were written.
 pub record HasStopped (base : Base) (text output : List ℕ) (partial : DecodePartial)
@@ -96,24 +95,32 @@ pub record TellsMost (base : Base) (len old new answer : ℕ) : Type 0 where
   pub refused : answer ≡ too_long → new ≡ old
 
 -- The call wrote the data of the text to the start of the output, or stopped at the fault of the
--- text, or failed and changed nothing.
+-- text, or wrote the length of data that does not fit, or failed and changed nothing. If the output
+-- has fewer bytes than a text of this length may mean, no data is left in it after a fault.
 pub record Decodes (base : Base) (text output_old output_new : List ℕ)
     (decoded_old decoded_new : Decoded) (answer : ℕ) : Type 0 where
   pub status : answer ≡ decode_status base text (length output_old)
   pub means : answer ≡ ok → Means base text (take decoded_new.written output_new)
   pub all : answer ≡ ok → decoded_new.read ≡ length text
   pub end : answer ≡ ok → decoded_new.position ≡ length text
-  pub refused : (answer ≡ too_long) ⊎ (answer ≡ short_buffer)
-      → (output_new ≡ output_old) × (decoded_new ≡ decoded_old)
+  pub refused : answer ≡ too_long → (output_new ≡ output_old) × (decoded_new ≡ decoded_old)
+  pub needed : answer ≡ short_buffer
+      → decoded_new
+      ≡ record { read = 0; written = length (sound_bytes base text); position = 0 }
   pub by_length : (error : DecodeError) → (answer ≡ too_long → ⊥)
       → decoded_len base (length text) ≡ Err error
       → (output_new ≡ output_old)
       × (decoded_new ≡ record { read = 0; written = 0; position = error.position })
-  pub fault : (partial : DecodePartial) (most : ℕ)
-      → (answer ≡ too_long → ⊥) → (answer ≡ short_buffer → ⊥)
-      → decoded_len base (length text) ≡ Ok most → partial_of base text ≡ Some partial
+  pub fault : (partial : DecodePartial) (most : ℕ) → (answer ≡ too_long → ⊥)
+      → decoded_len base (length text) ≡ Ok most → most ≤ length output_old
+      → partial_of base text ≡ Some partial
       → HasStopped base text output_new partial decoded_new
-  pub within : (decoded_new ≡ decoded_old) ⊎ (decoded_new.written ≤ length output_new)
+  pub short_fault : (error : DecodeError) (most : ℕ) → (answer ≡ too_long → ⊥)
+      → decoded_len base (length text) ≡ Ok most → length output_old < most
+      → fault_of base text ≡ Some error
+      → decoded_new ≡ record { read = 0; written = 0; position = error.position }
+  pub within : (answer ≡ short_buffer → ⊥)
+      → (decoded_new ≡ decoded_old) ⊎ (decoded_new.written ≤ length output_new)
   pub after : (most : ℕ) → decoded_len base (length text) ≡ Ok most
       → drop most output_new ≡ drop most output_old
 

@@ -1,14 +1,18 @@
 //! The effect of each call for an encoding, whether it is given by number or as plain data.
 
-ghost use Rattle.std.specs.Prelude.{◌≡◌, ◌↔◌, ◌≤◌, ◌⊎◌, ℕ, List, length, take, drop, IsTrue, Ok, Err, Some};
+ghost use Rattle.std.specs.Prelude.{◌≡◌, ◌↔◌, ◌<◌, ◌≤◌, ◌⊎◌, ℕ, List, length, take, drop, IsTrue, Ok, Err, Some};
+ghost use Rattle.data_encoding.specs.declared.decode.TheConstants.{DECODE_LIMIT};
 ghost use Rattle.data_encoding.specs.Canonical.{IsCanonical};
+ghost use Rattle.data_encoding.specs.Fault.{fault_of, sound_bytes};
 ghost use Rattle.data_encoding.specs.Grammar.{Means};
 ghost use Rattle.data_encoding.specs.Lengths.{decoded_len};
 ghost use Rattle.data_encoding.specs.Partial.{partial_of};
 ghost use Rattle.data_encoding.specs.Text.{text_of};
-ghost use Rattle.data_encoding_calls.specs.Calls.{decode_len_status, decode_status, encode_len_status, encode_status, over, HasStopped};
+ghost use Rattle.data_encoding_calls.specs.Calls.{decode_len_status, decode_status, encode_len_status, encode_status, over, status_by_room, HasStopped};
 
+use crate::fit::decode_what_fits;
 use crate::status::{OK, SHORT_BUFFER, TOO_LONG, status_of_kind};
+use data_encoding::laws::sound_text;
 use data_encoding::{DECODE_LIMIT, DecodeError, DecodePartial, ENCODE_LIMIT, EncodingRef};
 
 /// Writes the length of the text of `len` bytes to `text_len`.
@@ -59,7 +63,8 @@ pub struct Decoded {
     /// The number of bytes of the text that were read.
     pub read: usize,
 
-    /// The number of bytes of data that they mean. These are at the start of the output.
+    /// The number of bytes of data that they mean. These are at the start of the output. If the
+    /// data does not fit, this is its length, and the other numbers are 0.
     pub written: usize,
 
     /// The position of the fault of the text, or the length of the text if it has none.
@@ -92,7 +97,8 @@ pub(crate) fn decode_len_by(encoding: &EncodingRef<'_>, len: usize, most: &mut u
 
 /// Writes the data that the text `input` means to the start of `output`.
 ///
-/// Uses only as many bytes of `output` as a text of that length may mean.
+/// Uses only as many bytes of `output` as a text of that length may mean. If `output` has fewer,
+/// the data may still fit.
 #[inline(always)]
 pub(crate) fn decode_by(
     encoding: &EncodingRef<'_>,
@@ -105,18 +111,27 @@ pub(crate) fn decode_by(
         (take decoded.new.written output.new) }
     ensures all { result ≡ OK → decoded.new.read ≡ length input.now }
     ensures end { result ≡ OK → decoded.new.position ≡ length input.now }
-    ensures refused { (result ≡ TOO_LONG) ⊎ (result ≡ SHORT_BUFFER)
+    ensures refused { result ≡ TOO_LONG
         → (output.new ≡ output.old) × (decoded.new ≡ decoded.old) }
+    ensures needed { result ≡ SHORT_BUFFER → decoded.new ≡ record {
+      read = 0;
+      written = length (sound_bytes encoding.now input.now);
+      position = 0;
+    } }
     ensures by_length { (error : DecodeError) → (result ≡ TOO_LONG → ⊥)
         → decoded_len encoding.now (length input.now) ≡ Err error
         → (output.new ≡ output.old)
         × (decoded.new ≡ record { read = 0; written = 0; position = error.position }) }
-    ensures fault { (partial : DecodePartial) (most : ℕ)
-        → (result ≡ TOO_LONG → ⊥) → (result ≡ SHORT_BUFFER → ⊥)
-        → decoded_len encoding.now (length input.now) ≡ Ok most
+    ensures fault { (partial : DecodePartial) (most : ℕ) → (result ≡ TOO_LONG → ⊥)
+        → decoded_len encoding.now (length input.now) ≡ Ok most → most ≤ length output.old
         → partial_of encoding.now input.now ≡ Some partial
         → HasStopped encoding.now input.now output.new partial decoded.new }
-    ensures within { decoded.new ≡ decoded.old ⊎ decoded.new.written ≤ length output.new }
+    ensures short_fault { (error : DecodeError) (most : ℕ) → (result ≡ TOO_LONG → ⊥)
+        → decoded_len encoding.now (length input.now) ≡ Ok most → length output.old < most
+        → fault_of encoding.now input.now ≡ Some error
+        → decoded.new ≡ record { read = 0; written = 0; position = error.position } }
+    ensures within { (result ≡ SHORT_BUFFER → ⊥)
+        → decoded.new ≡ decoded.old ⊎ decoded.new.written ≤ length output.new }
     ensures after { (most : ℕ) → decoded_len encoding.now (length input.now) ≡ Ok most
         → drop most output.new ≡ drop most output.old }
     ensures len { length output.new ≡ length output.old }
@@ -136,7 +151,7 @@ pub(crate) fn decode_by(
         }
     };
     if output.len() < most {
-        return SHORT_BUFFER;
+        return decode_to_fit(encoding, input, output, decoded);
     }
     match encoding.decode_mut(input, &mut output[..most]) {
         Ok(written) => {
@@ -156,6 +171,49 @@ pub(crate) fn decode_by(
             status_of_kind(partial.error.kind)
         }
     }
+}
+
+/// Like [`decode_by`], for an output that may be too short for the data.
+///
+/// If the data does not fit, the status is `SHORT_BUFFER`, and `decoded.written` is its length.
+// A function of its own, so that `decode_by` saves no registers for it.
+#[inline(never)]
+fn decode_to_fit(
+    encoding: &EncodingRef<'_>,
+    input: &[u8],
+    output: &mut [u8],
+    decoded: &mut Decoded,
+) -> u32
+    requires limit { length input.now ≤ DECODE_LIMIT }
+    ensures status { result ≡ status_by_room (fault_of encoding.now input.now)
+        (length (sound_bytes encoding.now input.now)) (length output.old) }
+    ensures means { result ≡ OK → Means encoding.now input.now
+        (take decoded.new.written output.new) }
+    ensures all { result ≡ OK → decoded.new.read ≡ length input.now }
+    ensures end { result ≡ OK → decoded.new.position ≡ length input.now }
+    ensures needed { result ≡ SHORT_BUFFER → decoded.new ≡ record {
+      read = 0;
+      written = length (sound_bytes encoding.now input.now);
+      position = 0;
+    } }
+    ensures fault { (error : DecodeError) → fault_of encoding.now input.now ≡ Some error
+        → decoded.new ≡ record { read = 0; written = 0; position = error.position } }
+    ensures within { (result ≡ SHORT_BUFFER → ⊥) → decoded.new.written ≤ length output.new }
+    ensures len { length output.new ≡ length output.old }
+{
+    sound_text();
+    let (needed, verdict) = decode_what_fits(encoding, input, output);
+    let (read, written, position, status) = match verdict {
+        Ok(()) if needed <= output.len() => (input.len(), needed, input.len(), OK),
+        Ok(()) => (0, needed, 0, SHORT_BUFFER),
+        Err(error) => (0, 0, error.position, status_of_kind(error.kind)),
+    };
+    *decoded = Decoded {
+        read,
+        written,
+        position,
+    };
+    status
 }
 
 /// Sets `answer` to `true` if no two different texts mean the same data, and to `false` otherwise.

@@ -11,6 +11,7 @@ mod custom;
 mod decoder;
 mod encoder;
 mod facts;
+mod fit;
 mod make;
 mod names;
 mod numbered;

@@ -54,7 +54,11 @@ pub fn numbered_decode_len(number: u32, len: usize, most: &mut usize) -> u32
 /// fault.
 ///
 /// `decoded` gets the numbers of bytes read and written, and the position of the fault. If `number`
-/// is unknown, `input` is too long or `output` is too short, `output` and `decoded` are unchanged.
+/// is unknown or `input` is too long, `output` and `decoded` are unchanged.
+///
+/// Any output that holds the data is long enough. If the data does not fit, the status is 4,
+/// `decoded.written` is its length, and `output` is unspecified. If `output` has fewer bytes than
+/// `numbered_decode_len` writes, no data is left in it after a fault, and both numbers are 0.
 pub fn numbered_decode(number: u32, input: &[u8], output: &mut [u8], decoded: &mut Decoded) -> u32
     ensures { DecodesByNumber number input.now output.old output.new decoded.old decoded.new
         result }

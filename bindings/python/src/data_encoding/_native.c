@@ -570,10 +570,15 @@ static PyObject *decode_to(const encoding *it, const struct input *input, Py_buf
     if (status == DE_OK) {
         return PyLong_FromSize_t(decoded.written);
     }
+    if (status == DE_SHORT_BUFFER) {
+        return PyErr_Format(PyExc_ValueError, "output too short: the data has %zu bytes",
+                            decoded.written);
+    }
     if (kind_of(status) == NULL) {
         return refused(status);
     }
-    data = PyBytes_FromStringAndSize(output->buf, (Py_ssize_t)decoded.written);
+    /* The output may be too short for the data before the fault. */
+    data = decode_input(it, input, &status, &decoded);
     if (data != NULL) {
         raise_fault(status, decoded.position, data);
         Py_DECREF(data);
@@ -963,8 +968,8 @@ static PyMethodDef encoding_methods[] = {
      "text is invalid."},
     {"decode_into", BY_ARRAY(decode_into),
      "decode_into($self, text, output, /)\n--\n\nWrites the data of `text` to the start of "
-     "`output`, and returns its length. Raises ValueError if `output` has fewer bytes than "
-     "`decode_len` returns for the length of `text`, and DecodeError if the text is invalid."},
+     "`output`, and returns its length. Raises ValueError with that length if `output` is shorter, "
+     "and DecodeError if the text is invalid. The contents of `output` are then unspecified."},
     {"encode_len", encode_len, METH_O,
      "encode_len($self, len, /)\n--\n\nReturns the length of the text of `len` bytes."},
     {"decode_len", decode_len, METH_O,

@@ -15,8 +15,10 @@ returns c =
       all = ensured.all;
       end = ensured.end;
       refused = ensured.refused;
+      needed = ensured.needed;
       by_length = ensured.by_length;
       fault = ensured.fault;
+      short_fault = ensured.short_fault;
       within = ensured.within;
       after = ensured.after;
     })

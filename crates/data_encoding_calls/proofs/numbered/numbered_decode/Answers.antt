@@ -18,8 +18,10 @@ returns c =
       all = c.decode_by.ensures.all;
       end = c.decode_by.ensures.end;
       refused = c.decode_by.ensures.refused;
+      needed = c.decode_by.ensures.needed;
       by_length = c.decode_by.ensures.by_length;
       fault = c.decode_by.ensures.fault;
+      short_fault = c.decode_by.ensures.short_fault;
       within = c.decode_by.ensures.within;
       after = c.decode_by.ensures.after;
     })
