@@ -275,7 +275,7 @@ is 'no library' 1 "$(status "$install" prefix prefix)"
 is 'nothing was installed' '644 lib/other' "$(files "$room/prefix")"
 
 mapfile -t commands < <(block docs/C.md sh)
-is 'the commands of docs/C.md' "data-encoding-c-$version-x86_64-linux/install.sh /usr/local
+is 'the commands of docs/C.md' "data-encoding/install.sh /usr/local
 crates/data_encoding_c/build.sh lib
 crates/data_encoding_c/install.sh lib /usr/local" \
     "$(printf '%s\n' "${commands[@]}" | grep -v '^cc ')"
