@@ -10,7 +10,7 @@ ghost use Rattle.data_encoding.specs.Partial.{partial_of};
 ghost use Rattle.data_encoding.specs.Text.{text_of};
 ghost use Rattle.data_encoding_calls.specs.Calls.{decode_len_status, decode_status, encode_len_status, encode_status, over, status_by_room, HasStopped};
 
-use crate::fit::decode_what_fits;
+use crate::fit::decode_and_count;
 use crate::status::{OK, SHORT_BUFFER, TOO_LONG, status_of_kind};
 use data_encoding::laws::sound_text;
 use data_encoding::{DECODE_LIMIT, DecodeError, DecodePartial, ENCODE_LIMIT, EncodingRef};
@@ -202,7 +202,7 @@ fn decode_to_fit(
     ensures len { length output.new ≡ length output.old }
 {
     sound_text();
-    let (needed, verdict) = decode_what_fits(encoding, input, output);
+    let (needed, verdict) = decode_and_count(encoding, input, output);
     let (read, written, position, status) = match verdict {
         Ok(()) if needed <= output.len() => (input.len(), needed, input.len(), OK),
         Ok(()) => (0, needed, 0, SHORT_BUFFER),

@@ -20,7 +20,7 @@ const ROOM: usize = PIECE + 8;
 ///
 /// Returns the length of the data before a fault, and the verdict on the text. If the data does not
 /// fit, `output` is unspecified.
-pub(crate) fn decode_what_fits(
+pub(crate) fn decode_and_count(
     encoding: &EncodingRef<'_>,
     input: &[u8],
     output: &mut [u8],

@@ -9,7 +9,7 @@ pub returns-in-Ok-clause-means : goal.returns-in-Ok-clause-means
 returns-in-Ok-clause-means c = λ _.
     let base = c.args.encoding.now in
     let text = c.args.input.now in
-    let what = c.decode_what_fits-needed in
+    let what = c.decode_and_count-needed in
     let none : fault_of base text ≡ None =
     fault-none (fault_of base text) what.result.1 c.in-Ok.field-0 c.in-Ok.is
     what.ensures.verdict in
@@ -21,7 +21,7 @@ pub returns-in-Ok-2-clause-status : goal.returns-in-Ok-2-clause-status
 returns-in-Ok-2-clause-status c =
     let base = c.args.encoding.now in
     let text = c.args.input.now in
-    let what = c.decode_what_fits-needed in
+    let what = c.decode_and_count-needed in
     status-short (fault_of base text) (length (sound_bytes base text)) (length c.args.output.now)
     (fault-none (fault_of base text) what.result.1 c.in-Ok-2.field-0 c.in-Ok-2.is
     what.ensures.verdict)

@@ -4,7 +4,7 @@ use Rattle.data_encoding.specs.Fault.{sound_bytes}
 use Rattle.data_encoding.specs.Pieces.{whole_bytes}
 use Rattle.encoding_stream.specs.Pieces.{kept_by, Keeps}
 use Rattle.data_encoding_calls.proofs.FitLemmas.{Copied, copied-more, reads-part}
-use Rattle.data_encoding_calls.proofs.fit.decode_what_fits.Goals as goal
+use Rattle.data_encoding_calls.proofs.fit.decode_and_count.Goals as goal
 
 pub loop-read-preserved : goal.loop-read-preserved
 loop-read-preserved c =

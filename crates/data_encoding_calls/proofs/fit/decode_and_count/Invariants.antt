@@ -2,7 +2,7 @@ use Rattle.std.proofs.Common.{◌≡◌, ◌-◌, ◌*◌, ◌≤◌, length, ta
 use Rattle.data_encoding.specs.Pieces.{whole_bytes}
 use Rattle.encoding_stream.specs.Pieces.{base_of_pieces, kept_by, Keeps}
 use Rattle.data_encoding_calls.proofs.FitLemmas.{Copied}
-use Rattle.data_encoding_calls.proofs.fit.decode_what_fits.Given as goal
+use Rattle.data_encoding_calls.proofs.fit.decode_and_count.Given as goal
 
 abbrev pub invariant-loop-read : goal.invariant-loop-read
 invariant-loop-read l = record {
