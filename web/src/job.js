@@ -4,13 +4,13 @@ import { DecodeError, Decoder, Encoder } from "../../bindings/javascript/src/ind
 import { download } from "./side.js";
 import { blankOf, blankSentence, characterAt, sentenceOf, sized } from "./words.js";
 
-/** So much of a file is read at a time. */
+/** The number of bytes that are read at a time. */
 const PIECE = 1 << 20;
 
-/** So many pieces are joined: what is joined the browser may keep on a disk. */
+/** The number of pieces that are joined: the browser may keep a joined one on a disk. */
 const JOINED = 16;
 
-/** What is written, in parts. */
+/** The result, in parts. */
 class Output {
   #parts = [];
   #joined = [];

@@ -26,7 +26,7 @@ let isTextLast = false;
 
 const nameOf = () => encoding.name ?? "your own encoding";
 
-/** The side that was typed in last decides what the lines of other languages do. */
+/** The side that was typed in last decides if the lines of other languages encode or decode. */
 function setTextLast(isText) {
   if (isTextLast !== isText) {
     isTextLast = isText;
@@ -95,7 +95,7 @@ function decode() {
   text.showFault(sentence, value === "" ? null : markOf(value, marked, kind === "length"));
 }
 
-/** The side that was typed in last gives the other anew. */
+/** Converts the side that was typed in last. */
 function convert() {
   if (isTextLast) {
     decode();
@@ -154,14 +154,14 @@ function take(other) {
   convert();
 }
 
-/** Whether there is an encoding that the page can be used with. */
+/** Shows the sides and the facts, or not if there is no encoding. */
 function setUsable(isUsable) {
   find("#sides").inert = !isUsable;
   find("#facts").hidden = !isUsable;
   find("#lines").hidden = !isUsable;
 }
 
-/** Takes what the form asks for, or shows where that has a fault. */
+/** Takes the encoding of the form, or shows the fault of a field. */
 function takeOwn() {
   const { encoding: made, fault } = encodingOf(form.fields);
   form.show(fault);
@@ -172,7 +172,7 @@ function takeOwn() {
   }
 }
 
-/** Takes what is chosen in the list. */
+/** Takes the encoding that is chosen in the list. */
 function choose() {
   const isOwn = choice.value === OWN;
   find("#own").hidden = !isOwn;
@@ -195,7 +195,7 @@ function showUnknown(isUnknown) {
     : "";
 }
 
-/** Takes what the address says. */
+/** Takes the encoding of the address. */
 function readAddress() {
   const found = read(location.hash);
   const said = found ?? { name: "BASE64" };

@@ -1,4 +1,4 @@
-// A side of the page: a field with shades, its size, its fault, and what can be done with it.
+// A side of the page: a field with shades, its size, its fault and its buttons.
 
 import { shade } from "./shades.js";
 import { shown, meant } from "./words.js";
@@ -35,7 +35,7 @@ export class Side {
   /**
    * @param {HTMLElement} section
    * @param {{ typed(value: string): void, opened(file: File): void, cleared(): void,
-   *   saved(): void }} events What is done when something is typed, when a file is opened or
+   *   saved(): void }} events Called when something is typed, when a file is opened or
    *   dropped, and by the buttons.
    */
   constructor(section, events) {
@@ -109,7 +109,7 @@ export class Side {
     });
   }
 
-  /** A field takes a carriage return for the end of a line: what is pasted and copied keeps it. */
+  /** A field takes a carriage return for the end of a line. The clipboard keeps it. */
   #keepReturns() {
     this.area.addEventListener("paste", (event) => {
       const text = event.clipboardData.getData("text/plain");
@@ -130,7 +130,7 @@ export class Side {
     }
   }
 
-  /** What the field means. */
+  /** The text of the field, with its carriage returns. */
   get text() {
     return meant(this.area.value);
   }
@@ -199,7 +199,7 @@ export class Side {
     return true;
   }
 
-  /** Scrolls a field that has no shades: what comes before the position is laid out once. */
+  /** Scrolls a field without shades: the text before the position is laid out once. */
   #scrollTo(position) {
     const { area, field, shades } = this;
     const scrolled = field.classList.contains("long") ? area : field;

@@ -12,7 +12,7 @@ const NAMES = {
   0xfeff: "a byte order mark",
 };
 
-/** What a field has in place of a carriage return, which it would take for the end of a line. */
+/** The character of a field for a carriage return, which a field takes for the end of a line. */
 export const RETURN = "\u21b5";
 
 /** The text of a field, as it is, and back. */
@@ -87,8 +87,8 @@ const LINE_END = /[\r\n]/;
 const LINES = "BASE64_MIME";
 
 /**
- * Returns the position of the first blank, if it is the fault of the text or may be the reason of an
- * invalid length, or undefined.
+ * Returns the position of the first blank if it is the fault of the text, or may be the reason of
+ * an invalid length.
  */
 export function blankOf({ kind, position }, text, encoding) {
   const at = text.search(BLANK);

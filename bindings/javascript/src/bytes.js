@@ -1,4 +1,4 @@
-// What the calls take as data and as texts, and the strings that they give.
+// Data and texts as the calls take them, and the strings that they return.
 
 const getterOf = (prototype, name) => Object.getOwnPropertyDescriptor(prototype, name).get;
 
@@ -19,12 +19,12 @@ function bufferLength(value) {
   return undefined;
 }
 
-/** What kind of value it is, in a word. */
+/** Returns the name of the type of a value. */
 export function kindOf(value) {
   return value === null ? "null" : (value?.constructor?.name ?? typeof value);
 }
 
-/** A view of the bytes, whose length stays what it is; undefined where the value has none. */
+/** Returns a view of the bytes with a fixed length, or undefined if the value has no bytes. */
 function viewOf(value) {
   if (ArrayBuffer.isView(value)) {
     return new Uint8Array(value.buffer, value.byteOffset, value.byteLength);
@@ -33,7 +33,7 @@ function viewOf(value) {
   return length === undefined ? undefined : new Uint8Array(value, 0, length);
 }
 
-/** A view of the bytes of a buffer, or of a view of one. */
+/** Returns a view of the bytes of a buffer, or of a view of one. */
 export function bytesOf(value, what) {
   const view = viewOf(value);
   if (view === undefined) {
@@ -42,7 +42,7 @@ export function bytesOf(value, what) {
   return view;
 }
 
-/** A string, or a view of the bytes of a text. */
+/** Returns a string, or a view of the bytes of a text. */
 export function textOf(value) {
   if (typeof value === "string") {
     return value;
@@ -62,7 +62,7 @@ const decoder = new TextDecoder();
 /** Up to this length a loop over characters takes less time than a call of the platform. */
 const SHORT = 16;
 
-/** A byte of no symbol, which a character that is not ASCII becomes. */
+/** The byte of a character that is not ASCII. It is not a symbol. */
 const NO_SYMBOL = 128;
 
 function writeCharacters(text, output) {
@@ -72,7 +72,7 @@ function writeCharacters(text, output) {
   }
 }
 
-/** Writes a byte for each character of the text to the output, which is as long. */
+/** Writes a byte for each character of the text to the output, which has the same length. */
 export function writeText(text, output) {
   if (typeof text !== "string") {
     output.set(text);
@@ -87,9 +87,9 @@ export function writeText(text, output) {
   }
 }
 
-/** The string of ASCII characters. */
+/** Returns the string of ASCII characters. */
 export const stringOf = (bytes) =>
   bytes.length <= SHORT ? String.fromCharCode.apply(null, bytes) : decoder.decode(bytes);
 
-/** The bytes of a string; a character that is not ASCII has several, and none is ASCII. */
+/** Returns the bytes of a string. A character that is not ASCII has several, none of them ASCII. */
 export const utf8 = (text) => encoder.encode(text);

@@ -1,5 +1,5 @@
-// The calls of the module over values of JavaScript: each copies what it reads into the room, and
-// makes a status an error. What is returned as a view is part of the room, until the next call.
+// The calls of the module over values of JavaScript. Each copies its input into the room, and
+// throws an error for a status. A view that it returns is part of the room, until the next call.
 
 import { stringOf, writeText } from "./bytes.js";
 import { DecodeError } from "./errors.js";
@@ -15,7 +15,7 @@ const OK = 0;
 const REASONS = { 1: "unknown encoding", 3: "too long", 4: "output too short", 19: "no decoder" };
 const KINDS = { 6: "length", 7: "symbol", 8: "trailing", 9: "padding" };
 
-/** Throws what a refused call is reported by. */
+/** Throws the error of a refused call. */
 function refused(status) {
   const Refusal = status === 3 || status === 4 ? RangeError : Error;
   throw new Refusal(REASONS[status] ?? `status ${status}`);
@@ -27,7 +27,7 @@ function needsOk(status) {
   }
 }
 
-/** The kind of the fault of a text, or undefined where it has none. */
+/** Returns the kind of the fault of a text, or undefined if the text is valid. */
 function faultOf(status) {
   const kind = KINDS[status];
   if (kind === undefined) {
@@ -36,7 +36,7 @@ function faultOf(status) {
   return kind;
 }
 
-/** The calls by the number of a predefined encoding, or by the tables of another. */
+/** Returns the calls for the number of a predefined encoding, or for the tables of another. */
 function callsBy(kind) {
   return {
     encodeLen: calls[`de_${kind}_encode_len`],
@@ -53,14 +53,14 @@ function callsBy(kind) {
 const BY_NUMBER = callsBy("numbered");
 const BY_TABLES = callsBy("custom");
 
-/** The encoding whose tables are on the desk. */
+/** The encoding with its tables on the desk. */
 let onDesk;
 
-/** What the calls know an encoding by. */
+/** An encoding for the calls. */
 export class Key {
   /**
-   * @param {Uint8Array} tables Those of the encoding.
-   * @param {number} [number] That of a predefined encoding, whose calls are by this.
+   * @param {Uint8Array} tables The tables of the encoding.
+   * @param {number} [number] The number of a predefined encoding.
    */
   constructor(tables, number) {
     this.tables = tables;
@@ -68,12 +68,12 @@ export class Key {
     this.calls = number === undefined ? BY_TABLES : BY_NUMBER;
   }
 
-  /** What a call has as its first argument. */
+  /** The first argument of a call. */
   get first() {
     return this.number ?? this.address;
   }
 
-  /** The address of the tables, which are then on the desk. */
+  /** The address of the tables, after a copy to the desk. */
   get address() {
     if (onDesk !== this) {
       machine.put(TABLES, this.tables);
@@ -83,7 +83,7 @@ export class Key {
   }
 }
 
-/** The length of the text of that many bytes. */
+/** Returns the length of the text of `length` bytes. */
 export function encodeLen(key, length) {
   needsOk(key.calls.encodeLen(key.first, BigInt(length), RESULT_ADDRESS));
   return machine.numberIn(RESULT);
@@ -140,7 +140,7 @@ export function encode(key, data, take, held = NOTHING) {
   return take(output, length);
 }
 
-/** The greatest number of bytes that a text of this length may mean. */
+/** Returns the greatest number of bytes that a text of this length decodes to. */
 export function decodeLen(key, length) {
   const status = key.calls.decodeLen(key.first, BigInt(length), RESULT_ADDRESS);
   const kind = faultOf(status);
@@ -152,8 +152,8 @@ export function decodeLen(key, length) {
 }
 
 /**
- * How far a text is decoded: a view of the data of what was read, and the kind and the position of
- * its fault; the kind is undefined where it has none.
+ * Decodes a text up to its fault. Returns a view of the data, the number of characters that were
+ * decoded, and the kind and the position of the fault. The kind is undefined if the text is valid.
  */
 export function decode(key, text) {
   const { length } = text;
@@ -166,7 +166,7 @@ export function decode(key, text) {
   return verdict(status, output);
 }
 
-/** What a call left of how far it came, with the data in the output. */
+/** Returns the result of a call, with the data in the output. */
 function verdict(status, output) {
   const kind = faultOf(status);
   const read = machine.numberIn(RESULT);
@@ -180,13 +180,13 @@ export function isCanonical(key) {
   return machine.byteIn(RESULT) !== 0;
 }
 
-/** What a decoder keeps of no text. */
+/** Returns the state of a decoder that has read nothing. */
 export function newDecoder() {
   calls.de_plain_decoder_new(DECODER_ADDRESS);
   return machine.copyOf(DECODER, DECODER_SIZE);
 }
 
-/** A view of the data that a piece completes, and what is kept then. */
+/** Returns a view of the data that a piece completes, and the state after it. */
 export function decoderRead(key, kept, piece) {
   const length = BigInt(piece.length);
   const { first } = key;
@@ -205,10 +205,10 @@ export function decoderRead(key, kept, piece) {
   };
 }
 
-/** The greatest number of bytes that a last group may mean. */
+/** The greatest number of bytes that a last group decodes to. */
 const LAST = 5;
 
-/** The data of a last group, and the verdict on the text. */
+/** Returns the data of a last group, and the verdict on the text. */
 export function decoderFinish(key, kept) {
   machine.put(DECODER, kept);
   const output = machine.reserve(0, LAST);
@@ -221,7 +221,7 @@ export function decoderFinish(key, kept) {
 /** The greatest length of the name of a predefined encoding. */
 const NAME = 22;
 
-/** The name of the predefined encoding of a number, or undefined where there is none. */
+/** Returns the name of the predefined encoding of a number, or undefined if none has it. */
 export function nameOf(number) {
   const output = machine.reserve(0, NAME);
   const status = calls.de_numbered_name(number, BigInt(output), BigInt(NAME), RESULT_ADDRESS);
@@ -233,7 +233,7 @@ export function nameOf(number) {
 /** The greatest length of a layout. */
 const LAYOUT = 770;
 
-/** A view of the layout of an encoding. */
+/** Returns a view of the layout of an encoding. */
 export function layoutOf(key) {
   const output = machine.reserve(0, LAYOUT);
   needsOk(

@@ -4,7 +4,7 @@ import { DecodeError } from "./errors.js";
 import { part, stringAt } from "./machine.js";
 import { alignmentOf, keyOfLayout, keyOfSpecification, specificationOf } from "./specification.js";
 
-/** The key of an encoding; a TypeError for anything else. */
+/** Returns the key of an encoding. Throws a TypeError for any other value. */
 export let keyOf;
 
 /** The predefined encodings by their names. */
@@ -20,7 +20,7 @@ function lengthOf(value) {
   return value;
 }
 
-/** Writes the bytes to the start of the output, and returns how many there are. */
+/** Writes the bytes to the start of the output, and returns their number. */
 function copyTo(output, bytes) {
   if (output.length < bytes.length) {
     throw new RangeError("output too short");
@@ -29,10 +29,10 @@ function copyTo(output, bytes) {
   return bytes.length;
 }
 
-/** The error of a text that has a fault. */
+/** Returns the error of a text with a fault. */
 const errorOf = ({ kind, position, data }) => new DecodeError(kind, position, data.slice());
 
-/** An encoding: how data is written as text, and which texts are data. It never changes. */
+/** A way to write data as text, and to read it back. Immutable. */
 export class Encoding {
   #key;
 
@@ -46,7 +46,7 @@ export class Encoding {
   }
 
   /**
-   * The encoding that a specification asks for.
+   * Makes the encoding of a specification.
    *
    * @param {import("./index.js").Specification} specification
    */
@@ -56,12 +56,12 @@ export class Encoding {
     Object.freeze(this);
   }
 
-  /** The names of the predefined encodings. */
+  /** Returns the names of the predefined encodings. */
   static names() {
     return [...PREDEFINED.keys()];
   }
 
-  /** The predefined encoding of a name. */
+  /** Returns the predefined encoding of a name. */
   static named(name) {
     const found = PREDEFINED.get(name);
     if (found === undefined) {
@@ -70,7 +70,7 @@ export class Encoding {
     return found;
   }
 
-  /** The encoding of a layout. */
+  /** Returns the encoding of a layout. */
   static fromLayout(layout) {
     const key = keyOfLayout(layout);
     if (key === undefined) {
@@ -80,36 +80,36 @@ export class Encoding {
     return [...PREDEFINED.values()].find((it) => it.equals(made)) ?? made;
   }
 
-  /** The name of a predefined encoding, and null for any other. */
+  /** The name of a predefined encoding, or null for any other. */
   get name() {
     const { number } = this.#key;
     return number === undefined ? null : Encoding.names()[number];
   }
 
-  /** Bytes that say all of the encoding, to be stored or sent. */
+  /** Bytes that describe the encoding completely, to store or send. */
   get layout() {
     return calls.layoutOf(this.#key).slice();
   }
 
-  /** Data may be cut at multiples of this many bytes: the texts of the pieces, joined, are the
-   * text of the whole. */
+  /** The block size in bytes of data. If data is cut at multiples of it, the joined texts of the
+   * pieces are the text of the whole. */
   get encodeAlign() {
     return alignmentOf(calls.layoutOf(this.#key));
   }
 
-  /** What asks for this encoding. */
+  /** Returns a specification of this encoding, with every field. */
   specification() {
     return specificationOf(calls.layoutOf(this.#key));
   }
 
-  /** Whether both are the same encoding, wherever they come from. */
+  /** Returns true if both encodings have the same layout. */
   equals(other) {
     const one = this.layout;
     const two = calls.layoutOf(keyOf(other));
     return one.length === two.length && one.every((byte, at) => byte === two[at]);
   }
 
-  /** The text of the data. */
+  /** Returns the text of the data. */
   encode(data) {
     return calls.encode(this.#key, bytesOf(data, "data"), stringAt);
   }
@@ -120,7 +120,7 @@ export class Encoding {
     return copyTo(target, calls.encode(this.#key, bytesOf(data, "data"), part));
   }
 
-  /** The data that the text means. */
+  /** Returns the data of the text. */
   decode(text) {
     const found = calls.decode(this.#key, textOf(text));
     if (found.kind !== undefined) {
@@ -129,7 +129,7 @@ export class Encoding {
     return new Uint8Array(found.data);
   }
 
-  /** Writes the data that the text means to the start of the output, and returns its length. */
+  /** Writes the data of the text to the start of the output, and returns its length. */
   decodeInto(text, output) {
     const target = bytesOf(output, "the output");
     const found = calls.decode(this.#key, textOf(text));
@@ -139,14 +139,14 @@ export class Encoding {
     return copyTo(target, found.data);
   }
 
-  /** How far the text is decoded: all of it, or as far as what was read means something. */
+  /** Decodes the text up to its fault, if it has one. */
   decodePartial(text) {
     const found = calls.decode(this.#key, textOf(text));
     const error = found.kind === undefined ? null : errorOf(found);
     return { data: error?.data ?? new Uint8Array(found.data), read: found.read, error };
   }
 
-  /** The length of the text of that many bytes. */
+  /** Returns the length of the text of `length` bytes. */
   encodeLen(length) {
     const found = calls.encodeLen(this.#key, lengthOf(length));
     if (!Number.isSafeInteger(found)) {
@@ -155,12 +155,12 @@ export class Encoding {
     return found;
   }
 
-  /** The greatest number of bytes that a text of that many characters may mean. */
+  /** Returns the greatest number of bytes that a text of `length` characters decodes to. */
   decodeLen(length) {
     return calls.decodeLen(this.#key, lengthOf(length));
   }
 
-  /** Whether no two different texts decode to the same data. */
+  /** Returns true if no two different texts decode to the same data. */
   isCanonical() {
     return calls.isCanonical(this.#key);
   }
@@ -174,13 +174,13 @@ export class Encoding {
     return this.name ?? `Encoding(${JSON.stringify(this.specification())})`;
   }
 
-  /** What Node prints of it. */
+  /** Returns the line that Node prints. */
   [Symbol.for("nodejs.util.inspect.custom")]() {
     return this.toString();
   }
 }
 
-/** Adds the predefined encoding of a name, whose calls the module has by its number. */
+/** Adds a predefined encoding. The module has calls for its number. */
 export function predefined(name, specification) {
   const found = new Encoding(keyOfSpecification(specification, PREDEFINED.size));
   PREDEFINED.set(name, found);

@@ -1,13 +1,13 @@
 // The module and its memory: the one file that knows addresses.
 //
-// After what the module itself uses comes the desk, with fields of a fixed size, and then the room,
-// with the input of a call and after it its output. A call is given addresses and lengths of these
-// alone.
+// The memory of the module itself comes first, then the desk, with fields of a fixed size, and then
+// the room, with the input of a call and its output after it. A call gets addresses and lengths of
+// these alone.
 
 import { stringOf } from "./bytes.js";
 import { ADDRESS_BITS, MODULE } from "./module.js";
 
-/** A module of 13 bytes whose memory has 64-bit addresses. */
+/** A module of 13 bytes with a memory of 64-bit addresses. */
 const PROBE = Uint8Array.of(0, 97, 115, 109, 1, 0, 0, 0, 5, 3, 1, 4, 1);
 
 const LACKING =
@@ -56,7 +56,7 @@ const aligned = (size) => Math.ceil(size / ALIGNMENT) * ALIGNMENT;
 
 const module = compiled();
 
-/** The version that the module says it has. */
+/** The version in the module. */
 export const version = new TextDecoder().decode(
   WebAssembly.Module.customSections(module, "version")[0],
 );
@@ -68,7 +68,7 @@ const { memory } = calls;
 const desk = aligned(Number(calls.__heap_base.value));
 const room = desk + ROOM;
 
-/** Node 20 counts the pages of a 64-bit memory by a number, and what came after it by a BigInt. */
+/** Returns the type of a number of pages of 64-bit memory: Number in Node 20, later BigInt. */
 function countOf() {
   try {
     memory.grow(0n);
@@ -78,8 +78,8 @@ function countOf() {
   }
 }
 
-/** The memory as a buffer of Node, which makes strings sooner than a TextDecoder does; undefined
- * elsewhere. */
+/** Returns the memory as a buffer of Node, which makes strings faster than a TextDecoder. Elsewhere
+ * it is undefined. */
 function nodeBuffer() {
   const { Buffer } = globalThis;
   const hasSlices = typeof Buffer?.prototype?.latin1Slice === "function";
@@ -108,7 +108,7 @@ function growTo(size) {
   buffer = nodeBuffer();
 }
 
-/** Has the room hold an input and an output of these lengths, and returns where the output is. */
+/** Grows the room to an input and an output of these lengths, and returns the output's address. */
 export function reserve(inputLength, outputLength) {
   const output = room + aligned(inputLength);
   if (output + outputLength > bytes.length) {
@@ -117,12 +117,12 @@ export function reserve(inputLength, outputLength) {
   return output;
 }
 
-/** The part of the room from an address on; it is what it is until the next `reserve`. */
+/** Returns the part of the room from an address on. It is valid until the next `reserve`. */
 export const part = (address, length) => bytes.subarray(address, address + length);
 
 /**
  * Returns the string of the ASCII characters from an address on: Latin-1 has the same characters.
- * Throws a RangeError if the engine has no string of this length.
+ * Throws a RangeError if a string can't have this length.
  */
 export function stringAt(address, length) {
   try {
@@ -132,7 +132,7 @@ export function stringAt(address, length) {
   }
 }
 
-/** The room for an input of this length, which was reserved. */
+/** Returns the room for an input of this length, which was reserved. */
 export const inputPart = (length) => part(room, length);
 
 /** Writes bytes of an input to the room, which was reserved, from an index of the input on. */
@@ -140,7 +140,7 @@ export function putInput(values, index = 0) {
   bytes.set(values, room + index);
 }
 
-/** The number in a field of the desk, as its halves: a BigInt takes longer to make. */
+/** Returns the number in a field of the desk, made of its halves: a BigInt would take longer. */
 export const numberIn = (field) =>
   fields.getUint32(desk + field, true) + fields.getUint32(desk + field + 4, true) * 2 ** 32;
 
@@ -157,5 +157,5 @@ export function putNumber(field, value) {
   fields.setBigUint64(desk + field, BigInt(value), true);
 }
 
-/** A copy of the bytes of a field of the desk. */
+/** Returns a copy of the bytes of a field of the desk. */
 export const copyOf = (field, length) => bytes.slice(desk + field, desk + field + length);

@@ -4,7 +4,7 @@ import { keyOf } from "./encoding.js";
 import { DecodeError } from "./errors.js";
 import { stringAt } from "./machine.js";
 
-/** The bytes of both, one after the other. */
+/** Returns the bytes of both, one after the other. */
 function joined(front, back) {
   const bytes = new Uint8Array(front.length + back.length);
   bytes.set(front);
@@ -12,7 +12,7 @@ function joined(front, back) {
   return bytes;
 }
 
-/** Encodes data that comes in pieces. The texts of the pieces, joined, are that of the whole. */
+/** Encodes data that comes in pieces. The joined results are the text of all the data. */
 export class Encoder {
   #key;
   #align;
@@ -47,8 +47,8 @@ export class Encoder {
 }
 
 /**
- * Decodes a text that comes in pieces, which may be cut anywhere. The verdict on the text comes at
- * its end, and is that of `Encoding.decode` on the whole.
+ * Decodes a text that comes in pieces, which may be cut anywhere. `finish` has the verdict of
+ * `Encoding.decode` on the whole text.
  */
 export class Decoder {
   #key;
@@ -59,7 +59,7 @@ export class Decoder {
     this.#key = keyOf(encoding);
   }
 
-  /** The data of the groups that are whole with this piece; after a fault there is none. */
+  /** Returns the data of the groups that this piece completes. After a fault it is empty. */
   push(piece) {
     const { data, kept } = calls.decoderRead(this.#key, this.#kept, textOf(piece));
     this.#kept = kept;
@@ -67,8 +67,8 @@ export class Decoder {
   }
 
   /**
-   * The data of a last group. A text that means nothing is a DecodeError with the position in the
-   * whole text. The next piece begins another text.
+   * Returns the data of the last group. Throws a DecodeError if the text is invalid, with the
+   * position in the whole text. The next piece begins another text.
    */
   finish() {
     const { data, kind, position } = calls.decoderFinish(this.#key, this.#kept);

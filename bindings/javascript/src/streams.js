@@ -1,6 +1,6 @@
 import { Decoder, Encoder } from "./pieces.js";
 
-/** What passes on what is made of each piece, and of the end, where that is something. */
+/** Returns the transformer of a stream, which passes on the results that are not empty. */
 function transformer(converter) {
   const passOn = (controller, converted) => {
     if (converted.length > 0) {
@@ -13,7 +13,7 @@ function transformer(converter) {
   };
 }
 
-/** A stream that takes data and gives text, of any length. */
+/** Encodes a stream of data to a stream of text, of any length. */
 export class EncoderStream extends TransformStream {
   /** @param {import("./encoding.js").Encoding} encoding */
   constructor(encoding) {
@@ -21,8 +21,8 @@ export class EncoderStream extends TransformStream {
   }
 }
 
-/** A stream that takes a text and gives data, of any length. It fails where the text has a fault,
- * once that has ended. */
+/** Decodes a stream of text to a stream of data, of any length. It fails at the end of a text with
+ * a fault. */
 export class DecoderStream extends TransformStream {
   /** @param {import("./encoding.js").Encoding} encoding */
   constructor(encoding) {
