@@ -145,7 +145,7 @@ statuses() {
         given+=" $? |"
     done
     echo "| $1 $given" >output
-    grep -F "| $1 |" "$tables" | tail -n 1 >wanted
+    awk -v row="| $1 |" 'index($0, row) == 1' "$tables" >wanted
     same "the statuses of $1" output wanted
 }
 
