@@ -2,5 +2,6 @@
 pub mod TrailingBitLemmas
 pub mod OutputLemmas
 pub mod StepLemmas
-pub mod BlockLemmas
+pub mod ReadGroupLemmas
+pub mod PlacingLemmas
 pub mod GroupTableLemmas

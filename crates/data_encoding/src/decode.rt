@@ -1,14 +1,10 @@
 //! Decoding: from text to data.
 
-pub(crate) mod blocks;
-pub(crate) mod entries;
 pub(crate) mod group;
+pub(crate) mod groups;
 pub(crate) mod length;
 pub(crate) mod next_group;
-pub(crate) mod padded;
-pub(crate) mod parts;
-pub(crate) mod progress;
-pub(crate) mod runs;
+pub(crate) mod packed;
 pub(crate) mod steps;
 pub(crate) mod text;
 

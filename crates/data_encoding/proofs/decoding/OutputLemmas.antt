@@ -2,7 +2,7 @@
 use Rattle.std.proofs.Common.{◌≡◌, ℕ, ◌+◌, ◌-◌, ◌≤◌, List, length, take, drop, Ok, ap, sym, ◌∙◌, arith, length-drop}
 use Rattle.std.proofs.lemmas.List.{take-take}
 use Rattle.std.proofs.lemmas.Slice.{take-put_mid_below}
-use Rattle.data_encoding.specs.declared.decode.progress.Progress.{Progress}
+use Rattle.data_encoding.specs.declared.decode.steps.Progress.{Progress}
 use Rattle.data_encoding.specs.Progress.{GoesOn, HasExactOutput, HasReached}
 use Rattle.data_encoding_meaning.specs.text.Base.{Base, IsWidth}
 use Rattle.data_encoding_meaning.specs.decoding.Decoding.{IsIgnoredFront}

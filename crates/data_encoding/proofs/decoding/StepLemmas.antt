@@ -14,7 +14,7 @@ use Rattle.data_encoding_meaning.specs.declared.error.GroupFault.{GroupFault}
 use Rattle.data_encoding_meaning.specs.text.Base.{Base, IsWidth, group_bytes, group_symbols, is_padded, meaning, IsGroup}
 use Rattle.data_encoding_meaning.specs.decoding.Decoding.{HasFault, HasNoLastRun, HasRoom, IsDecoded, IsDecodedGroup, IsGathered, IsLastRun, IsIgnoredFront, run_bytes, valid_front, HasDecodedTo}
 use Rattle.data_encoding_kernel.specs.Runs.{IsRun}
-use Rattle.data_encoding.specs.declared.decode.progress.Progress.{Progress}
+use Rattle.data_encoding.specs.declared.decode.steps.Progress.{Progress}
 use Rattle.data_encoding.proofs.decoding.OutputLemmas.{exact-same, goes-nowhere}
 use Rattle.data_encoding.specs.Progress.{GoesOn, HasExactOutput, HasReached}
 use Rattle.data_encoding.specs.Steps.{HasStopped}

@@ -1,19 +1,46 @@
-//! Decoding step by step: a run of whole groups, and the group that follows it.
+//! Decoding of a text in a loop: groups where they stand, groups packed, and single groups.
 
-ghost use Rattle.std.specs.Prelude.{◌≡◌, ℕ, List, true, false, ◌≤◌, length};
-ghost use Rattle.data_encoding_meaning.specs.text.Base.{ignores_some};
-ghost use Rattle.data_encoding_meaning.specs.decoding.Decoding.{HasDecodedTo};
-ghost use Rattle.data_encoding.specs.Progress.{HasExactOutput, HasReached, IsCodedIn, ReadsBy};
+ghost use Rattle.std.specs.Prelude.{◌≡◌, ℕ, List, true, false, ◌+◌, ◌<◌, ◌≤◌, length, drop, IsTrue};
+ghost use Rattle.data_encoding_meaning.specs.text.Base.{Base, ignores_some};
+ghost use Rattle.data_encoding_meaning.specs.decoding.Decoding.{HasDecodedTo, IsIgnoredFront};
+ghost use Rattle.data_encoding_kernel.specs.Tables.{HoldsValues};
+ghost use Rattle.data_encoding.specs.Progress.{GoesOn, HasExactOutput, HasReached, IsCodedIn, ReadsBy};
 ghost use Rattle.data_encoding.specs.Steps.{HasEnded, HasStepped};
 
 use crate::decode::Stop;
-use crate::decode::entries::Entries;
-use crate::decode::progress::{Progress, progress_at};
-use crate::encoding::EncodingRef;
+use crate::decode::groups::Entries;
+use crate::decode::next_group::{ignored_front, starts_whole};
+use crate::encoding::{EncodingRef, IGNORED};
 use crate::error::DecodeKind;
 use data_encoding_kernel::group_size::GroupSize;
 use data_encoding_kernel::lanes::look_up::LookUp;
 use data_encoding_kernel::order::ConstantOrder;
+use data_encoding_kernel::platform::has_lanes;
+use data_encoding_kernel::words::entry_of;
+
+/// How far a text was read and its output written, and how many ignored bytes follow.
+#[derive(Clone, Copy, Drop)]
+pub(crate) struct Progress {
+    pub(crate) read: usize,
+    pub(crate) written: usize,
+    pub(crate) ignored: usize,
+}
+
+/// That so much of a text was read and written, and how many ignored bytes follow.
+#[inline(always)]
+pub(crate) fn progress_at(values: &[u8; 256], read: usize, written: usize, input: &[u8]) -> Progress
+    requires within { read ≤ length input.now }
+    ensures read { result.read ≡ read }
+    ensures written { result.written ≡ written }
+    ensures front { (base : Base) → HoldsValues base values.now
+        → IsIgnoredFront base (drop read input.now) result.ignored }
+{
+    Progress {
+        read,
+        written,
+        ignored: ignored_front(values, &input[read..]),
+    }
+}
 
 // How a step ended.
 #[derive(Clone, Copy, Drop)]
@@ -29,42 +56,117 @@ pub(crate) enum Step {
 }
 
 impl EncodingRef<'_> {
-    /// Decodes step by step, up to the end of the text or its first fault, and returns whether it
-    /// has none.
+    /// Decodes what follows a first run, up to the end of the text or its first fault. Returns
+    /// whether it has no fault.
+    ///
+    /// Each turn reads at least one group. It tries at most one iteration and one group in vain, and
+    /// packs no bytes that it does not decode, except once, before a fault.
     #[inline(always)]
     pub(crate) fn decode_steps<L: LookUp, O: ConstantOrder, G: GroupSize>(
         &self,
         entries: Entries<'_, L>,
+        first: Progress,
         input: &[u8],
         output: &mut [u8],
         stop: &mut Stop,
     ) -> bool
         requires entries { ReadsBy L.holds self.now entries G.WIDTH O.ORDER }
-        requires exact { HasExactOutput self.now input.now output.old }
-        requires so_far { HasDecodedTo self.now input.now stop.old.read stop.old.written false
-            output.old }
+        requires first { HasReached self.now input.now first output.old }
         ensures { HasEnded self.now input.now output.new stop.new result }
     {
-        let mut is_short = false;
-        let mut at = progress_at(entries.values, stop.read, stop.written, input);
+        let mut at = first;
+        let mut len = at.read;
         while at.read + at.ignored < input.len() {
-            at = self.decode_runs::<L, O, G>(entries, &mut is_short, at, input, output);
-            if is_short {
-                at = self.decode_by_blocks::<L, O, G>(at, input, output);
+            if at.ignored > 0 && is_line::<G>(len) {
+                at = self.decode_lines::<L, O, G>(entries, len, at, input, output);
+            } else {
+                let read = at.read;
+                if self.is_broken_next::<G>(entries.values, at, input) {
+                    at = self.decode_packed::<L, O, G>(at, input, output);
+                }
+                if at.read == read {
+                    match self.decode_next::<O, G>(self.fields.ignores, at, input, output, stop) {
+                        Step::More => at = progress_at(entries.values, stop.read, stop.written, input),
+                        Step::Ended => return true,
+                        Step::Faulty => return false,
+                    }
+                }
             }
-            let read = at.read;
-            at = self.decode_padded::<O, G>(entries.values, at, input, output);
-            if at.read > read {
-                continue;
-            }
-            match self.decode_next::<O, G>(self.fields.ignores, at, input, output, stop) {
-                Step::More => at = progress_at(entries.values, stop.read, stop.written, input),
-                Step::Ended => return true,
-                Step::Faulty => return false,
-            }
+            let start = at.read + at.ignored;
+            at = self.decode_in_place::<L, O, G>(entries, at, input, output);
+            len = at.read.saturating_sub(start);
         }
         stop.written = at.written;
         true
+    }
+
+    // Decodes lines of this length, as long as a byte is ignored where each would end: the next
+    // address then does not wait for a count.
+    #[inline(never)]
+    fn decode_lines<L: LookUp, O: ConstantOrder, G: GroupSize>(
+        &self,
+        entries: Entries<'_, L>,
+        len: usize,
+        at: Progress,
+        input: &[u8],
+        output: &mut [u8],
+    ) -> Progress
+        requires entries { ReadsBy L.holds self.now entries G.WIDTH O.ORDER }
+        requires some { 0 < len }
+        requires at { HasReached self.now input.now at output.old }
+        ensures { GoesOn self.now input.now at.read result output.new }
+    {
+        let values = entries.values;
+        let mut at = at;
+        for _ in 0..input.len() {
+            let rest = &input[at.read + at.ignored..];
+            if len >= rest.len() || entry_of(values, rest[len]) != IGNORED {
+                break;
+            }
+            let found = self.decode_line::<L, O, G>(entries, rest, len, &mut output[at.written..]);
+            if found.read != len {
+                break;
+            }
+            let read = at.read + at.ignored + len;
+            at = progress_at(values, read, at.written + found.written, input);
+        }
+        at
+    }
+
+    // Decodes groups where they stand, after the ignored bytes before them.
+    #[inline(always)]
+    fn decode_in_place<L: LookUp, O: ConstantOrder, G: GroupSize>(
+        &self,
+        entries: Entries<'_, L>,
+        at: Progress,
+        input: &[u8],
+        output: &mut [u8],
+    ) -> Progress
+        requires entries { ReadsBy L.holds self.now entries G.WIDTH O.ORDER }
+        requires at { HasReached self.now input.now at output.old }
+        ensures on { GoesOn self.now input.now at.read result output.new }
+        ensures past { at.read < result.read → at.read + at.ignored < result.read }
+    {
+        let start = at.read + at.ignored;
+        let rest = &input[start..];
+        let room = &mut output[at.written..];
+        let found = self.decode_groups::<L, O, G>(entries, rest, rest.len(), room);
+        if found.read == 0 {
+            return at;
+        }
+        progress_at(entries.values, start + found.read, at.written + found.written, input)
+    }
+
+    // Whether the next bytes are enough for a group, and some before or within it are ignored.
+    #[inline(always)]
+    fn is_broken_next<G: GroupSize>(&self, values: &[u8; 256], at: Progress, input: &[u8]) -> bool
+        requires { at.read + at.ignored ≤ length input.now }
+    {
+        if !has_lanes() || !self.fields.ignores {
+            return false;
+        }
+        let rest = &input[at.read + at.ignored..];
+        rest.len() >= 16 && (at.ignored > 0 || !starts_whole::<G>(values, rest))
     }
 
     /// Decodes the group after what was read, and judges it alone.
@@ -136,3 +238,14 @@ impl EncodingRef<'_> {
         false
     }
 }
+
+// Whether a run is so long that the next one is decoded where it stands.
+#[inline(always)]
+fn is_line<G: GroupSize>(len: usize) -> bool
+    ensures { IsTrue result → 0 < len }
+{
+    len >= LINE_LEN.max(8 * G::SYMBOLS)
+}
+
+// The least run after which the next one is decoded where it stands.
+const LINE_LEN: usize = 32;

@@ -1,5 +1,6 @@
 -- What flags pick of a list.
-use Rattle.std.proofs.Common.{◌≡◌, ℕ, zero, suc, Bool, true, false, cond, List, [], ◌∷◌, ◌++◌, length, map, drop, replicate, refl, ap, arith}
+use Rattle.std.proofs.Common.{◌≡◌, ◌+◌, ◌^◌, ℕ, zero, suc, Bool, true, false, cond, List, [], ◌∷◌, ◌++◌, length, map, drop, replicate, refl, ap, arith}
+use Rattle.std.proofs.Math.Nat.{pow-succ'}
 use Rattle.std.proofs.lemmas.Nat.{ones_le_self}
 use Rattle.std.specs.Int.RustNames.{count_ones}
 use Rattle.std.specs.List.{filter}
@@ -56,3 +57,15 @@ picked-later (suc first) [] (x ∷ xs) e = absurd (omega (arith, e))
 picked-later (suc first) (flag ∷ flags) [] e = absurd (omega (arith, e))
 picked-later (suc first) (flag ∷ flags) (x ∷ xs) e =
     picked-later first flags xs (omega (arith, e))
+
+-- all are picked by as many ones
+pub picked-all : (flags : List Bool) (xs : List ℕ) → length flags ≡ length xs
+    → mask_l flags + 1 ≡ 2 ^ length flags → picked flags xs ≡ xs
+picked-all [] [] e ones = refl
+picked-all [] (x ∷ xs) e ones = absurd (omega (arith, e))
+picked-all (flag ∷ flags) [] e ones = absurd (omega (arith, e))
+picked-all (false ∷ flags) (x ∷ xs) e ones =
+    absurd (omega (arith, ones, pow-succ' 2 (length flags)))
+picked-all (true ∷ flags) (x ∷ xs) e ones =
+    ap (λ l. x ∷ l)
+    (picked-all flags xs (omega (arith, e)) (omega (arith, ones, pow-succ' 2 (length flags))))

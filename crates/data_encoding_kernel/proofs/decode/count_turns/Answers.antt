@@ -1,38 +1,22 @@
-use Rattle.std.proofs.Common.{◌*◌, ◌/◌, ◌<◌, ◌≤◌, ap, arith}
-use Rattle.std.proofs.Math.Nat.{div-lt_iff_lt-mul, mul-le-mul_left, mul-le-mul_right}
+use Rattle.std.proofs.Common.{◌*◌, ◌/◌, refl, ap, arith}
+use Rattle.std.proofs.Math.Nat.{div-le_self}
 use Rattle.data_encoding_meaning.proofs.digits.SizeLemmas.{IsSmall-group}
-use Rattle.data_encoding_meaning.proofs.digits.WidthLemmas.{group_bytes-few}
-use Rattle.data_encoding_meaning.proofs.lists.PartLemmas.{IsWhole-same, groups-within}
+use Rattle.data_encoding_meaning.proofs.lists.PartLemmas.{IsWhole-group}
+use Rattle.data_encoding_kernel.proofs.decoding.SymbolRunLemmas.{turns-few, turns-room}
 use Rattle.data_encoding_kernel.proofs.decode.count_turns.Goals as goal
-use Rattle.data_encoding_kernel.proofs.decode.count_turns.Goals.{then-input_len-len, else-input_len-len}
 
-pub returns-then-output_len-count-clause-symbols :
-    goal.returns-then-output_len-count-clause-symbols
-returns-then-output_len-count-clause-symbols g c =
-    let symbols = 8 * c.SYMBOLS-symbols.result in
-    let bytes = 8 * c.BYTES-bytes.result in
-    let most = c.if-input_len-len.most in
-    let count = most / symbols in
-    let whole = IsWhole-same c.BYTES-bytes.ensures c.SYMBOLS-symbols.ensures
-    g.G.GroupSize.is_group in
-    let some : 0 < bytes = omega (arith, whole.some_bytes) in
-    let fewer = c.args.output_len / bytes in
-    let less : fewer < count =
-    (div-lt_iff_lt-mul {k = bytes} {x = c.args.output_len} {y = count} some).1
-    c.if-output_len-count.true in
-    let few : fewer ≤ count = omega (arith, less) in
-    let inside : most ≤ c.args.input_len =
-    elim c.if-input_len-len.branch [
-      | then-input_len-len w ↦ omega (arith, w.most-is)
-      | else-input_len-len w ↦ omega (arith, w.most-is, w.if-input_len-len.false, c.requires.few)
-    ] in
+pub overflow_sub-left : goal.overflow_sub-left
+overflow_sub-left g c =
     omega (
       arith,
-      mul-le-mul_right symbols few,
-      groups-within most symbols,
-      inside,
-      ap (λ s. fewer * (8 * s)) c.SYMBOLS-symbols.ensures,
+      turns-few {number = 8} {s = g.G.GroupSize.SYMBOLS} c.args.len refl c.SYMBOLS.ensures,
+      ap (λ s. c.args.len / c.SYMBOLS.result / 8 * (8 * s)) c.SYMBOLS-symbols.ensures,
     )
+
+pub overflow_mul-left : goal.overflow_mul-left
+overflow_mul-left g c = record {
+  fits = omega (arith, overflow_sub-left g c, c.ranges.len.fits);
+}
 
 pub overflow_mul-bytes : goal.overflow_mul-bytes
 overflow_mul-bytes g c = record {
@@ -43,24 +27,60 @@ overflow_mul-bytes g c = record {
   );
 }
 
-pub overflow_mul-count : goal.overflow_mul-count
-overflow_mul-count g c =
-    let group = g.G.GroupSize.is_group in
-    let symbols = 8 * c.SYMBOLS-symbols.result in
-    let bytes = 8 * c.BYTES-bytes.result in
-    let most = c.if-input_len-len.most in
-    let fewer : bytes ≤ symbols =
+pub returns-then-left-eq0-clause-symbols : goal.returns-then-left-eq0-clause-symbols
+returns-then-left-eq0-clause-symbols g c =
     omega (
       arith,
-      group_bytes-few g.G.GroupSize.WIDTH group.is_width,
-      group.has_bytes,
-      group.has_symbols,
-      c.BYTES-bytes.ensures,
+      turns-few {number = 8} {s = g.G.GroupSize.SYMBOLS} c.args.len refl c.SYMBOLS.ensures,
+      c.requires.few,
+    )
+
+pub overflow_mul-whole : goal.overflow_mul-whole
+overflow_mul-whole g c = record {
+  fits = omega (
+    arith,
+    turns-room {number = 8} c.args.len c.args.output_len g.G.GroupSize.BYTES refl
+        c.SYMBOLS.ensures c.requires.room,
+    ap (λ b. c.args.len / c.SYMBOLS.result / 8 * (8 * b)) c.BYTES-bytes.ensures,
+  );
+}
+
+pub returns-then-output_len-whole-clause-symbols :
+    goal.returns-then-output_len-whole-clause-symbols
+returns-then-output_len-whole-clause-symbols g c =
+    omega (
+      arith,
+      turns-few {number = 8} {s = g.G.GroupSize.SYMBOLS} c.args.len refl c.SYMBOLS.ensures,
+      c.requires.few,
+    )
+
+pub returns-then-output_len-whole-clause-bytes : goal.returns-then-output_len-whole-clause-bytes
+returns-then-output_len-whole-clause-bytes g c =
+    turns-room {number = 8} c.args.len c.args.output_len g.G.GroupSize.BYTES refl
+    c.SYMBOLS.ensures c.requires.room
+
+pub returns-clause-symbols : goal.returns-clause-symbols
+returns-clause-symbols g c =
+    omega (
+      arith,
+      turns-few {number = 8} {s = g.G.GroupSize.SYMBOLS} c.args.len refl c.SYMBOLS.ensures,
+      ap (λ s. c.args.len / c.SYMBOLS.result / 8 * (8 * s)) c.SYMBOLS-symbols.ensures,
       c.SYMBOLS-symbols.ensures,
-    ) in
-    record {
-      fits = omega (arith, mul-le-mul_left (most / symbols) fewer, groups-within most symbols);
-    }
+    )
+
+pub returns-clause-bytes : goal.returns-clause-bytes
+returns-clause-bytes g c =
+    omega (
+      arith,
+      turns-room {number = 8} c.args.len c.args.output_len g.G.GroupSize.BYTES refl
+          c.SYMBOLS.ensures c.requires.room,
+      ap (λ b. c.args.len / c.SYMBOLS.result / 8 * (8 * b)) c.BYTES-bytes.ensures,
+      c.BYTES-bytes.ensures,
+    )
+
+pub nonzero_div-whole : goal.nonzero_div-whole
+nonzero_div-whole g c =
+    omega (arith, (IsWhole-group _ _ _ g.G.GroupSize.is_group).some_symbols, c.SYMBOLS.ensures)
 
 pub overflow_mul-symbols : goal.overflow_mul-symbols
 overflow_mul-symbols g c = record {
@@ -74,48 +94,19 @@ overflow_mul-symbols g c = record {
 pub overflow_sub-input_len : goal.overflow_sub-input_len
 overflow_sub-input_len g c = c.requires.few
 
-pub nonzero_div-count : goal.nonzero_div-count
-nonzero_div-count g c =
-    let whole = IsWhole-same c.BYTES-bytes.ensures c.SYMBOLS-symbols.ensures
-    g.G.GroupSize.is_group in
-    omega (arith, whole.some_symbols)
+pub overflow_sub-symbols : goal.overflow_sub-symbols
+overflow_sub-symbols g c = omega (arith, c.if-left-symbols.false)
 
-pub nonzero_div-result : goal.nonzero_div-result
-nonzero_div-result g c =
-    let whole = IsWhole-same c.BYTES-bytes.ensures c.SYMBOLS-symbols.ensures
-    g.G.GroupSize.is_group in
-    omega (arith, whole.some_bytes)
-
-pub returns-then-output_len-count-clause-bytes : goal.returns-then-output_len-count-clause-bytes
-returns-then-output_len-count-clause-bytes g c =
-    let bytes = 8 * c.BYTES-bytes.result in
+pub overflow_sub-output_len : goal.overflow_sub-output_len
+overflow_sub-output_len g c =
     omega (
       arith,
-      groups-within c.args.output_len bytes,
-      ap (λ b. c.args.output_len / bytes * (8 * b)) c.BYTES-bytes.ensures,
+      turns-room {number = 8} c.args.len c.args.output_len g.G.GroupSize.BYTES refl
+          c.SYMBOLS.ensures c.requires.room,
+      ap (λ b. c.args.len / c.SYMBOLS.result / 8 * (8 * b)) c.BYTES-bytes.ensures,
     )
 
-pub returns-clause-symbols : goal.returns-clause-symbols
-returns-clause-symbols g c =
-    let symbols = 8 * c.SYMBOLS-symbols.result in
-    let most = c.if-input_len-len.most in
-    let inside : most ≤ c.args.input_len =
-    elim c.if-input_len-len.branch [
-      | then-input_len-len w ↦ omega (arith, w.most-is)
-      | else-input_len-len w ↦ omega (arith, w.most-is, w.if-input_len-len.false, c.requires.few)
-    ] in
-    omega (
-      arith,
-      groups-within most symbols,
-      inside,
-      ap (λ s. most / symbols * (8 * s)) c.SYMBOLS-symbols.ensures,
-    )
-
-pub returns-clause-bytes : goal.returns-clause-bytes
-returns-clause-bytes g c =
-    let count = c.if-input_len-len.most / (8 * c.SYMBOLS-symbols.result) in
-    omega (
-      arith,
-      c.if-output_len-count.false,
-      ap (λ b. count * (8 * b)) c.BYTES-bytes.ensures,
-    )
+pub overflow_add-result : goal.overflow_add-result
+overflow_add-result g c = record {
+  fits = omega (arith, div-le_self c.args.len c.SYMBOLS.result, c.ranges.len.fits);
+}

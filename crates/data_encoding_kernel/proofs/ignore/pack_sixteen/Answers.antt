@@ -1,8 +1,10 @@
-use Rattle.std.proofs.Common.{◌++◌, ◌∙◌, take, drop, subst, arith, length-append, length-take-le}
-use Rattle.std.proofs.lemmas.List.{length-drop}
+use Rattle.std.proofs.Common.{◌++◌, ◌∙◌, length, take, drop, ap, sym, subst, arith, length-append, length-take-le}
+use Rattle.std.proofs.lemmas.List.{length-drop, take_all}
+use Rattle.std.proofs.lemmas.Simd.{put_chunk_whole}
 use Rattle.data_encoding_meaning.proofs.lists.PartLemmas.{length-part}
 use Rattle.data_encoding_kernel.specs.Ignore.{IsPacked}
 use Rattle.data_encoding_kernel.proofs.packing.PackLemmas.{first-eight, first-mask, packed-sixteen, second-eight, second-lanes, second-mask}
+use Rattle.data_encoding_kernel.proofs.packing.PickedLemmas.{picked-all}
 use Rattle.data_encoding_kernel.proofs.ignore.pack_sixteen.Goals as goal
 
 pub overflow_add-count : goal.overflow_add-count
@@ -47,3 +49,16 @@ returns-clause-packed c flags sixteen is =
     (second-lanes c.args.bytes c.fits-bytes.0)
     (c.pack_eight.ensures.packed (drop 8 flags) (second-eight flags sixteen)
     (second-mask flags sixteen c.args.mask is)))
+
+pub returns-then-mask-eq65535-clause-packed : goal.returns-then-mask-eq65535-clause-packed
+returns-then-mask-eq65535-clause-packed c flags sixteen mask_is =
+    let bytes = c.args.bytes in
+    let long = c.fits-bytes.0 in
+    let all = picked-all flags bytes (omega (arith, sixteen, long))
+    (rw sixteen (omega (arith, mask_is, c.if-mask-eq65535.true))) in
+    record {
+      number = omega (arith, ap length all, long);
+      are = ap (take 16) (put_chunk_whole c.args.room.now bytes
+          (omega (arith, c.requires.room, long)))
+          ∙ take_all 16 bytes (omega (arith, long)) ∙ sym all;
+    }

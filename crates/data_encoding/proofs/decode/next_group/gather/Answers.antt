@@ -4,7 +4,7 @@ use Rattle.data_encoding_meaning.specs.text.Base.{Base}
 use Rattle.data_encoding_kernel.specs.Tables.{HoldsValues}
 use Rattle.data_encoding_meaning.proofs.digits.SizeLemmas.{IsSmall-group}
 use Rattle.data_encoding_meaning.proofs.decoding.GatherLemmas.{HasGathered, gather-kept, gathered, nothing-gathered}
-use Rattle.data_encoding.proofs.decoding.BlockLemmas.{gather-front}
+use Rattle.data_encoding.proofs.decoding.PlacingLemmas.{gather-front}
 use Rattle.data_encoding.proofs.decode.next_group.gather.Given.{Over}
 use Rattle.data_encoding.proofs.decode.next_group.gather.Goals as goal
 use Rattle.data_encoding.proofs.decode.next_group.gather.Goals.{After-next_kept-at}

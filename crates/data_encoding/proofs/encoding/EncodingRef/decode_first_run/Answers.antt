@@ -1,40 +1,69 @@
-use Rattle.std.proofs.Common.{refl, sym, subst, arith}
+use Rattle.std.proofs.Common.{◌*◌, ◌/◌, ◌≤◌, length, refl, sym, subst, arith}
+use Rattle.std.proofs.lemmas.List.{take_all, take_rest}
 use Rattle.data_encoding_meaning.specs.text.Base.{IsWidth}
 use Rattle.data_encoding_meaning.proofs.decoding.IgnoredFrontLemmas.{no_front}
 use Rattle.data_encoding_meaning.proofs.decoding.ProgressLemmas.{begin}
-use Rattle.data_encoding_meaning.proofs.digits.SizeLemmas.{IsSmall-group}
-use Rattle.data_encoding_meaning.proofs.lists.PartLemmas.{IsWhole-same}
+use Rattle.data_encoding_meaning.proofs.digits.SizeLemmas.{IsGroup-same, room-same}
+use Rattle.data_encoding.proofs.decoding.OutputLemmas.{exact-same}
+use Rattle.data_encoding.proofs.decoding.ReadGroupLemmas.{reads-few, reads-first}
+use Rattle.data_encoding.proofs.decoding.StepLemmas.{room-next_run, under_way}
 use Rattle.data_encoding.proofs.tables.TableLemmas.{Reads-seen}
+use Rattle.data_encoding.proofs.encoding.EncodingRef.decode_first_run.Given.{Over}
 use Rattle.data_encoding.proofs.encoding.EncodingRef.decode_first_run.Goals as goal
+use Rattle.data_encoding.proofs.encoding.EncodingRef.decode_first_run.Goals.{After-of-look_up}
 
-pub overflow_mul-SYMBOLS : goal.overflow_mul-SYMBOLS
-overflow_mul-SYMBOLS g c =
+-- the output has room for all groups
+room : (g : Over) (c : After-of-look_up g)
+    → length c.args.input.now / g.G.GroupSize.SYMBOLS * g.G.GroupSize.BYTES
+    ≤ length c.args.output.now
+room g c =
+    let base = c.args.self.now in
+    let text = c.args.input.now in
+    let now = under_way g.G.GroupSize.is_group c.requires.coded.width_is c.requires.exact
+    (begin base (subst IsWidth (sym c.requires.coded.width_is) g.G.GroupSize.is_group.is_width)
+    text c.args.output.now) in
+    rw (take_rest text 0, take_rest c.args.output.now 0) at
+    (room-next_run now (no_front base text))
+
+pub decode_run-count-requires-clause-room : goal.decode_run-count-requires-clause-room
+decode_run-count-requires-clause-room g c =
+    room g (goal.at.decode_run-count-requires-clause-room g c).After-of-look_up
+
+pub returns : goal.returns
+returns g c =
+    let at = goal.at.returns g c in
+    let base = c.args.self.now in
+    let text = c.args.input.now in
+    let reads = Reads-seen _ c.self.invariant base c.self.view_is g.G.GroupSize.WIDTH
+    g.O.ConstantOrder.ORDER c.requires.coded.width_is c.requires.coded.order_is in
+    let group = IsGroup-same refl c.BYTES.ensures c.SYMBOLS.ensures g.G.GroupSize.is_group in
+    let whole = take_all (length text) text (omega arith) in
+    let found = reads-first group base c.requires.coded.width_is text (length text) (omega arith)
+    c.args.output.now c.decode_run-count.new.output
+    (room-same (length text) (length c.args.output.now) c.BYTES.ensures c.SYMBOLS.ensures
+    (room g at.After-of-look_up)) c.decode_run-count.auto.output c.decode_run-count.result
+    {old = c.args.output.now} (rw whole (c.decode_run-count.ensures.run base reads)) in
     record {
-      fits = omega (arith, c.SYMBOLS.ensures, (IsSmall-group g.G.GroupSize.is_group).few_symbols);
+      exact = exact-same c.requires.exact c.decode_run-count.auto.output;
+      so_far = (rw whole at found).so_far;
+      front = no_front base _;
     }
 
-pub bounds-input-0 : goal.bounds-input-0
-bounds-input-0 g c =
-    let size = IsWhole-same refl c.SYMBOLS.ensures g.G.GroupSize.is_group in
-    omega (arith, size.some_symbols, c.if-input-SYMBOLS.true)
-
-pub decode_one_run-requires-clause-at : goal.decode_one_run-requires-clause-at
-decode_one_run-requires-clause-at g c = record {
-  exact = c.requires.exact;
-  so_far = begin c.args.self.now (subst IsWidth (sym c.requires.coded.width_is)
-      g.G.GroupSize.is_group.is_width) c.args.input.now c.args.output.now;
-  front = no_front c.args.self.now c.args.input.now;
-}
-
-pub returns-then-entry_of : goal.returns-then-entry_of
-returns-then-entry_of g c =
-    let reads = Reads-seen _ c.self.invariant c.args.self.now c.self.view_is g.G.GroupSize.WIDTH
+pub overflow_mul-result-2 : goal.overflow_mul-result-2
+overflow_mul-result-2 g c =
+    let at = goal.at.overflow_mul-result-2 g c in
+    let base = c.args.self.now in
+    let text = c.args.input.now in
+    let reads = Reads-seen _ c.self.invariant base c.self.view_is g.G.GroupSize.WIDTH
     g.O.ConstantOrder.ORDER c.requires.coded.width_is c.requires.coded.order_is in
-    let at = c.progress_at.ensures in
+    let group = IsGroup-same refl c.BYTES.ensures c.SYMBOLS.ensures g.G.GroupSize.is_group in
+    let whole = take_all (length text) text (omega arith) in
+    let found = reads-first group base c.requires.coded.width_is text (length text) (omega arith)
+    c.args.output.now c.decode_run-count.new.output
+    (room-same (length text) (length c.args.output.now) c.BYTES.ensures c.SYMBOLS.ensures
+    (room g at.After-of-look_up)) c.decode_run-count.auto.output c.decode_run-count.result
+    {old = c.args.output.now} (rw whole (c.decode_run-count.ensures.run base reads)) in
     record {
-      exact = c.requires.exact;
-      so_far = rw (at.read, at.written) (begin c.args.self.now
-          (subst IsWidth (sym c.requires.coded.width_is) g.G.GroupSize.is_group.is_width)
-          c.args.input.now c.args.output.now);
-      front = rw at.read (at.front c.args.self.now reads.holds);
+      fits = omega (arith, reads-few group base c.requires.coded.width_is text (length text)
+          (omega arith) c.args.output.now c.args.output.now found, c.requires.exact.limit);
     }

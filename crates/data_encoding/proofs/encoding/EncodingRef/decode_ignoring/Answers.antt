@@ -1,19 +1,33 @@
-use Rattle.std.proofs.Common.{ℕ, length-drop, arith}
+use Rattle.std.proofs.Common.{arith}
+use Rattle.std.proofs.lemmas.List.{take_rest}
+use Rattle.data_encoding.specs.Progress.{HasReached}
 use Rattle.data_encoding.proofs.decoding.StepLemmas.{decoded-after, under_way}
+use Rattle.data_encoding.proofs.tables.TableLemmas.{HoldsValues-seen}
+use Rattle.data_encoding.proofs.encoding.EncodingRef.decode_ignoring.Given.{Over}
 use Rattle.data_encoding.proofs.encoding.EncodingRef.decode_ignoring.Goals as goal
+use Rattle.data_encoding.proofs.encoding.EncodingRef.decode_ignoring.Goals.{After-ignored_front-ignored}
 
-pub overflow_add-at : goal.overflow_add-at
-overflow_add-at g c =
-    let at = c.decode_first_run-at.ensures in
-    record { fits = omega (arith, length-drop {A = ℕ}, at.front.within, at.so_far.within) }
+-- the first run is decoded, and ignored bytes follow it
+reached : (g : Over) (c : After-ignored_front-ignored g)
+    → HasReached c.args.self.now c.args.input.now
+    (record {
+      read = c.decode_first_run-run.result.read;
+      written = c.decode_first_run-run.result.written;
+      ignored = c.ignored_front-ignored.result;
+    }) c.decode_first_run-run.new.output
+reached g c = record {
+  exact = c.decode_first_run-run.ensures.exact;
+  so_far = c.decode_first_run-run.ensures.so_far;
+  front = rw (take_rest c.args.input.now c.decode_first_run-run.result.read) at (c.ignored_front-ignored.ensures.front c.args.self.now
+      (HoldsValues-seen _ c.self.invariant c.args.self.now c.self.view_is));
+}
 
-pub is_short_before-requires : goal.is_short_before-requires
-is_short_before-requires g c =
-    let at = c.decode_first_run-at.ensures in
-    omega (arith, length-drop {A = ℕ}, at.front.within, at.so_far.within)
+pub decode_rest-requires-clause-at : goal.decode_rest-requires-clause-at
+decode_rest-requires-clause-at g c =
+    reached g (goal.at.decode_rest-requires-clause-at g c).After-ignored_front-ignored
 
-pub returns-then-at-input : goal.returns-then-at-input
-returns-then-at-input g c =
-    let at = c.decode_first_run-at.ensures in
+pub returns-then-run-ignored : goal.returns-then-run-ignored
+returns-then-run-ignored g c =
+    let at = reached g (goal.at.returns-then-run-ignored g c).After-ignored_front-ignored in
     decoded-after (under_way g.G.GroupSize.is_group c.requires.coded.width_is at.exact at.so_far)
-    at.front (omega (arith, c.if-at-input.true))
+    at.front (omega (arith, c.if-run-ignored.true))

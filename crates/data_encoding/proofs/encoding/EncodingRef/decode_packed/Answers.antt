@@ -1,96 +1,122 @@
-use Rattle.std.proofs.Common.{◌≡◌, ◌≤◌, take, refl, arith}
-use Rattle.data_encoding.proofs.decoding.StepLemmas.{under_way}
-use Rattle.data_encoding.proofs.decoding.BlockLemmas.{packed-on, packed-room, packing-len, packs-further}
-use Rattle.data_encoding.proofs.decoding.OutputLemmas.{kept-before}
+use Rattle.std.proofs.Common.{◌≡◌, ℕ, ◌+◌, ◌-◌, ◌/◌, ◌<◌, ◌≤◌, List, length, take, drop, false, refl, sym, ap, subst, arith, length-take-le}
+use Rattle.std.proofs.Math.Nat.{mul-le-mul_right}
+use Rattle.std.proofs.lemmas.List.{take_rest}
+use Rattle.std.proofs.lemmas.Nat.{le-div}
+use Rattle.data_encoding_meaning.specs.text.Base.{Base, IsWidth}
+use Rattle.data_encoding_meaning.specs.text.Grammar.{kept}
+use Rattle.data_encoding_meaning.specs.decoding.Decoding.{HasDecodedTo, IsIgnoredFront}
+use Rattle.data_encoding_meaning.proofs.decoding.IgnoredFrontLemmas.{no_front}
+use Rattle.data_encoding_meaning.proofs.grammar.PositionLemmas.{length-by_bytes}
+use Rattle.data_encoding_meaning.proofs.lists.PartLemmas.{IsWhole-same, groups-within}
+use Rattle.data_encoding_meaning.proofs.lists.WriteLemmas.{length-rewritten_same, rewritten}
+use Rattle.data_encoding.proofs.decoding.OutputLemmas.{exact-same, goes-nowhere_rest}
+use Rattle.data_encoding.proofs.decoding.PlacingLemmas.{packed-front, packed-to}
+use Rattle.data_encoding.proofs.decoding.StepLemmas.{room-next_run, under_way}
+use Rattle.data_encoding.proofs.tables.TableLemmas.{Reads-seen, ascii-seen}
 use Rattle.data_encoding.proofs.encoding.EncodingRef.decode_packed.Given.{Over}
 use Rattle.data_encoding.proofs.encoding.EncodingRef.decode_packed.Goals as goal
-use Rattle.data_encoding.proofs.encoding.EncodingRef.decode_packed.Goals.{After-decode_packed_group-now}
+use Rattle.data_encoding.proofs.encoding.EncodingRef.decode_packed.Goals.{After-span_before-end}
 
-pub decode_run_within-count-requires-clause-room :
-    goal.decode_run_within-count-requires-clause-room
-decode_run_within-count-requires-clause-room g c =
-    let is = c.loop.invariant.on.packing in
-    let p = is.packed in
-    rw (packing-len is) at (packed-room p
-    (under_way g.G.GroupSize.is_group c.requires.entries.reads.width_is is.exact p.so_far))
-
-pub after-now-requires-clause-written : goal.after-now-requires-clause-written
-after-now-requires-clause-written g c =
-    let is = c.loop.invariant.on.packing in
-    let run = packed-on is g.G.GroupSize.is_group c.requires.entries.reads.width_is
-    c.decode_run_within-count.result c.decode_run_within-count.auto.output
-    c.decode_run_within-count.ensures.within
-    (c.decode_run_within-count.ensures.run c.args.self.now c.requires.entries.reads) in
-    omega (arith, run.0, is.exact.limit)
-
-pub decode_packed_group-now-requires-clause-packing :
-    goal.decode_packed_group-now-requires-clause-packing
-decode_packed_group-now-requires-clause-packing g c =
-    let run = packed-on c.loop.invariant.on.packing g.G.GroupSize.is_group
-    c.requires.entries.reads.width_is c.decode_run_within-count.result
-    c.decode_run_within-count.auto.output
-    c.decode_run_within-count.ensures.within
-    (c.decode_run_within-count.ensures.run c.args.self.now c.requires.entries.reads) in
-    rw c.after-now.ensures run.1.packing
-
--- no less is written after a run
-further : (g : Over) (c : After-decode_packed_group-now g)
-    → c.args.at.written ≤ c.after-now.result.written
-further g c = rw c.after-now.ensures (omega (arith, c.loop.invariant.further))
-
--- what was written before the block stays
-kept : (g : Over) (c : After-decode_packed_group-now g)
-    → take c.args.at.written c.decode_packed_group-now.new.output
-    ≡ take c.args.at.written c.args.output.now
-kept g c =
-    let now = c.loop.invariant in
-    let on = further g c in
-    kept-before c.args.at.written c.loop.now.written c.after-now.result.written
-    c.args.output.now c.loop.output c.decode_run_within-count.new.output
-    c.decode_packed_group-now.new.output now.further
-    now.on.packing.packed.so_far.fits on now.kept
-    c.decode_packed_group-now.ensures.kept
-
-pub loop-preserved : goal.loop-preserved
-loop-preserved g c =
-    let at = (goal.at.loop-preserved g c).After-decode_packed_group-now in
-    let now = c.loop.invariant in
-    let run = packed-on now.on.packing g.G.GroupSize.is_group c.requires.entries.reads.width_is
-    c.decode_run_within-count.result c.decode_run_within-count.auto.output
-    c.decode_run_within-count.ensures.within
-    (c.decode_run_within-count.ensures.run c.args.self.now c.requires.entries.reads) in
+pub decode_groups-found-requires-clause-entries : goal.decode_groups-found-requires-clause-entries
+decode_groups-found-requires-clause-entries g c =
     record {
-      on = packs-further (packs-further now.on run.1)
-          (rw c.after-now.ensures at c.decode_packed_group-now.ensures.on);
-      kept = kept g at;
-      further = omega (arith, further g at, c.decode_packed_group-now.ensures.further);
+      reads = Reads-seen _ c.self.invariant c.args.self.now c.self.view_is g.G.GroupSize.WIDTH
+          g.O.ConstantOrder.ORDER c.requires.coded.width_is c.requires.coded.order_is;
+      held = c.of-look_up.ensures;
     }
 
-pub returns-then-now-first-clause-kept : goal.returns-then-now-first-clause-kept
-returns-then-now-first-clause-kept g c =
-    kept g (goal.at.returns-then-now-first-clause-kept g c).After-decode_packed_group-now
+pub decode_groups-found-requires-clause-room : goal.decode_groups-found-requires-clause-room
+decode_groups-found-requires-clause-room g c =
+    let start = c.args.at.read + c.args.at.ignored in
+    let rest = take (length c.args.input.now - start) (drop start c.args.input.now) in
+    let size = g.G.GroupSize.SYMBOLS in
+    let count = c.pack-span.result.1 in
+    let pos = (IsWhole-same refl refl g.G.GroupSize.is_group).some_symbols in
+    let fewer : count / size ≤ length rest / size =
+    le-div (count / size) (length rest) size pos
+    (omega (arith, groups-within count size, c.pack-span.ensures.few, c.pack-span.ensures.within)) in
+    omega (
+      arith,
+      mul-le-mul_right g.G.GroupSize.BYTES fewer,
+      room-next_run (under_way g.G.GroupSize.is_group c.requires.coded.width_is
+          c.requires.at.exact c.requires.at.so_far) c.requires.at.front,
+    )
 
-pub returns-then-now-SYMBOLS-clause-on : goal.returns-then-now-SYMBOLS-clause-on
-returns-then-now-SYMBOLS-clause-on g c =
-    let run = packed-on c.loop.invariant.on.packing g.G.GroupSize.is_group
-    c.requires.entries.reads.width_is c.decode_run_within-count.result
-    c.decode_run_within-count.auto.output
-    c.decode_run_within-count.ensures.within
-    (c.decode_run_within-count.ensures.run c.args.self.now c.requires.entries.reads) in
-    rw c.after-now.ensures (packs-further c.loop.invariant.on run.1)
+pub returns-then-found-eq0 : goal.returns-then-found-eq0
+returns-then-found-eq0 g c =
+    goes-nowhere_rest _ (subst IsWidth (sym c.requires.coded.width_is)
+    g.G.GroupSize.is_group.is_width) c.requires.at c.decode_groups-found.auto.output
 
-pub loop-init : goal.loop-init
-loop-init g c = record {
-  on = record { packing = c.requires.packing; start = refl; read = refl; end = refl };
-  kept = refl;
-  further = omega arith;
-}
+-- what was decoded of the packed bytes, and what follows if that is all
+record IsPackedTo (base : Base) (text : List ℕ) (read written ignored : ℕ) (all : Type 0)
+    (output : List ℕ) : Type 0 where
+  so_far : HasDecodedTo base text read written false output
+  front : all → IsIgnoredFront base (drop read text) ignored
 
-pub returns-after-loop-clause-on : goal.returns-after-loop-clause-on
-returns-after-loop-clause-on g c = c.loop.invariant.on
+reached : (g : Over) (c : After-span_before-end g)
+    → IsPackedTo c.args.self.now c.args.input.now
+    (c.args.at.read + c.args.at.ignored + c.span_before-end.result)
+    (c.args.at.written + c.decode_groups-found.result.written)
+    (c.pack-span.result.0 - c.span_before-end.result)
+    (c.decode_groups-found.result.read ≡ c.pack-span.result.1)
+    (rewritten c.args.at.written c.args.output.now c.decode_groups-found.new.output)
+reached g c =
+    let base = c.args.self.now in
+    let start = c.args.at.read + c.args.at.ignored in
+    let text = c.args.input.now in
+    let span = c.pack-span.result.0 in
+    let width = subst IsWidth (sym c.requires.coded.width_is) g.G.GroupSize.is_group.is_width in
+    let whole = take_rest text start in
+    let slice : take (start + span - start) (drop start text) ≡ take span (drop start text) =
+    ap (λ n. take n (drop start text)) (omega arith) in
+    let reads = Reads-seen _ c.self.invariant c.args.self.now c.self.view_is g.G.GroupSize.WIDTH
+    g.O.ConstantOrder.ORDER c.requires.coded.width_is c.requires.coded.order_is in
+    let ignores = c.of-ignored.ensures base reads.holds
+    (ascii-seen _ c.self.invariant base c.self.view_is) in
+    let within = rw whole at c.pack-span.ensures.within in
+    let are = rw whole at (c.pack-span.ensures.kept base ignores) in
+    let count_len = length-by_bytes (kept base (take span (drop start text))) _ are in
+    let packed_len = length-take-le c.pack-span.result.1 c.pack-span.new.room
+    c.pack-span.ensures.room in
+    let before = rw slice at (c.span_before-end.ensures.ends base reads.holds ignores
+    (rw slice (omega (arith, count_len, packed_len)))) in
+    let inside = rw slice at c.span_before-end.ensures.within in
+    let some : 0 < c.decode_groups-found.result.read = omega (arith, c.if-found-eq0.false) in
+    record {
+      so_far = packed-to width c.requires.at c.decode_groups-found.new.output
+          c.decode_groups-found.auto.output c.pack-span.new.room c.pack-span.result.1
+          c.pack-span.ensures.room span within are c.decode_groups-found.ensures some
+          c.span_before-end.result before inside;
+      front = packed-front width c.requires.at c.decode_groups-found.new.output
+          c.decode_groups-found.auto.output c.pack-span.new.room c.pack-span.result.1
+          c.pack-span.ensures.room span within are c.decode_groups-found.ensures some
+          c.span_before-end.result before inside;
+    }
 
-pub returns-after-loop-clause-kept : goal.returns-after-loop-clause-kept
-returns-after-loop-clause-kept g c = c.loop.invariant.kept
+pub returns-then-found-count : goal.returns-then-found-count
+returns-then-found-count g c =
+    let at = (goal.at.returns-then-found-count g c).After-span_before-end in
+    record {
+      reached = record {
+        exact = exact-same c.requires.at.exact (length-rewritten_same c.args.at.written
+            c.args.output.now c.decode_groups-found.new.output c.requires.at.so_far.fits
+            c.decode_groups-found.auto.output);
+        so_far = (reached g at).so_far;
+        front = (reached g at).front c.if-found-count.true;
+      };
+      further = omega arith;
+    }
 
-pub returns-after-loop-clause-further : goal.returns-after-loop-clause-further
-returns-after-loop-clause-further g c = c.loop.invariant.further
+pub returns-else-found-count : goal.returns-else-found-count
+returns-else-found-count g c =
+    let at = (goal.at.returns-else-found-count g c).After-span_before-end in
+    record {
+      reached = record {
+        exact = exact-same c.requires.at.exact (length-rewritten_same c.args.at.written
+            c.args.output.now c.decode_groups-found.new.output c.requires.at.so_far.fits
+            c.decode_groups-found.auto.output);
+        so_far = (reached g at).so_far;
+        front = no_front c.args.self.now _;
+      };
+      further = omega arith;
+    }

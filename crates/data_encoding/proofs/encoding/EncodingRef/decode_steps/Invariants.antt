@@ -1,4 +1,4 @@
-use Rattle.std.proofs.Common.{◌-◌, length}
+use Rattle.std.proofs.Common.{◌+◌, ◌-◌, ◌*◌, cond, nat_lt, length}
 use Rattle.data_encoding.specs.Progress.{HasReached}
 use Rattle.data_encoding.proofs.encoding.EncodingRef.decode_steps.Given as goal
 
@@ -7,5 +7,6 @@ invariant-loop-at g l = record {
   reached : HasReached l.self l.input l.at l.output;
 }
 
+-- a turn reads more, or is followed by one that does
 abbrev pub decreases-loop-at : goal.decreases-loop-at
-decreases-loop-at g l = length l.input - l.at.read
+decreases-loop-at g l = 2 * (length l.input - l.at.read) + cond (nat_lt 0 l.len) 1 0

@@ -1,0 +1,12 @@
+use Rattle.std.proofs.Common.{◌≡◌, ◌+◌, ◌-◌, ◌*◌, ◌≤◌, length, take}
+use Rattle.data_encoding_meaning.specs.text.Base.{Base}
+use Rattle.data_encoding_meaning.specs.text.Grammar.{kept}
+use Rattle.data_encoding_kernel.specs.Ignore.{HoldsIgnored}
+use Rattle.data_encoding.proofs.decode.packed.skip_sixteens.Given as goal
+
+abbrev pub invariant-loop-turn : goal.invariant-loop-turn
+invariant-loop-turn l =
+    (l.left ≤ l.last)
+    × ((base : Base) → HoldsIgnored base l.ignored
+    → length (kept base (take (length l.part - 16 * l.turn) l.part)) + (l.last - l.left)
+    ≡ length (kept base l.part))

@@ -1,0 +1,28 @@
+use Rattle.std.proofs.Common.{◌≡◌, ◌+◌, ◌-◌, ◌<◌, length, take, sym, refl, arith}
+use Rattle.data_encoding_meaning.proofs.lists.WriteLemmas.{length-rewritten_same}
+use Rattle.data_encoding.proofs.decoding.OutputLemmas.{exact-same}
+use Rattle.data_encoding.proofs.decoding.PlacingLemmas.{placed-here}
+use Rattle.data_encoding.proofs.decoding.StepLemmas.{room-next_run, under_way}
+use Rattle.data_encoding.proofs.encoding.EncodingRef.decode_in_place.Goals as goal
+
+pub decode_groups-found-requires-clause-room : goal.decode_groups-found-requires-clause-room
+decode_groups-found-requires-clause-room g c =
+    room-next_run (under_way g.G.GroupSize.is_group c.requires.entries.reads.width_is
+    c.requires.at.exact c.requires.at.so_far) c.requires.at.front
+
+pub returns-clause-on : goal.returns-clause-on
+returns-clause-on g c =
+    let at = c.progress_at.ensures in
+    let some : 0 < c.decode_groups-found.result.read = omega (arith, c.if-found-eq0.false) in
+    record {
+      reached = record {
+        exact = exact-same c.requires.at.exact (length-rewritten_same c.args.at.written
+            c.args.output.now c.decode_groups-found.new.output c.requires.at.so_far.fits
+            c.decode_groups-found.auto.output);
+        so_far = rw (at.read, at.written) (placed-here c.requires.entries.reads.holds.is_width
+            c.requires.at c.decode_groups-found.new.output c.decode_groups-found.auto.output _
+            c.decode_groups-found.ensures some);
+        front = rw at.read (at.front c.args.self.now c.requires.entries.reads.holds);
+      };
+      further = omega (arith, at.read);
+    }

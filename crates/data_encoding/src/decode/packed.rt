@@ -1,0 +1,114 @@
+//! Decoding of a part of a text from its kept bytes, packed side by side.
+
+ghost use Rattle.std.specs.Prelude.{◌≡◌, ◌+◌, ◌-◌, ◌≤◌, length, take};
+ghost use Rattle.data_encoding_meaning.specs.text.Base.{Base};
+ghost use Rattle.data_encoding_meaning.specs.text.Grammar.{kept};
+ghost use Rattle.data_encoding_kernel.specs.Ignore.{HoldsIgnored};
+ghost use Rattle.data_encoding_kernel.specs.Tables.{HoldsValues};
+ghost use Rattle.data_encoding.specs.Groups.{EndsBefore};
+ghost use Rattle.data_encoding.specs.Progress.{GoesOn, HasReached, IsCodedIn};
+
+use crate::decode::groups::Entries;
+use crate::decode::steps::Progress;
+use crate::encoding::{EncodingRef, IGNORED};
+use data_encoding_kernel::group_size::GroupSize;
+use data_encoding_kernel::ignore::{IgnoredBytes, pack};
+use data_encoding_kernel::lanes::look_up::LookUp;
+use data_encoding_kernel::order::ConstantOrder;
+
+// The room for packed bytes.
+const ROOM: usize = 1024;
+
+impl EncodingRef<'_> {
+    /// Decodes whole groups among the next bytes of a text, without the ignored bytes before and
+    /// within them.
+    // Not inlined, so that other texts do not pay for the stack that the packed bytes take.
+    #[inline(never)]
+    pub(crate) fn decode_packed<L: LookUp, O: ConstantOrder, G: GroupSize>(
+        &self,
+        at: Progress,
+        input: &[u8],
+        output: &mut [u8],
+    ) -> Progress
+        requires coded { IsCodedIn self.now G.WIDTH O.ORDER }
+        requires at { HasReached self.now input.now at output.old }
+        ensures { GoesOn self.now input.now at.read result output.new }
+    {
+        let values = &self.fields.values.entries;
+        let look_up = L::of(&self.fields.values);
+        let entries = Entries {
+            values,
+            look_up: &look_up,
+        };
+        let ignored = IgnoredBytes::of(values);
+        let start = at.read + at.ignored;
+        let mut packed = [0; ROOM];
+        let (span, count) = pack(&ignored, &input[start..], &mut packed);
+        let room = &mut output[at.written..];
+        let found = self.decode_groups::<L, O, G>(entries, &packed, count, room);
+        if found.read == 0 {
+            return at;
+        }
+        let part = &input[start..start + span];
+        let end = span_before(&ignored, values, part, count - found.read);
+        Progress {
+            read: start + end,
+            written: at.written + found.written,
+            ignored: if found.read == count { span - end } else { 0 },
+        }
+    }
+}
+
+// Returns the end of the byte before the last `last` bytes of `part`, where ignored bytes do not
+// count, or 0 if there is no such byte.
+#[inline(always)]
+fn span_before(ignored: &IgnoredBytes, values: &[u8; 256], part: &[u8], last: usize) -> usize
+    ensures within { result ≤ length part.now }
+    ensures ends { (base : Base) → HoldsValues base values.now → HoldsIgnored base ignored.now
+        → last ≤ length (kept base part.now) → EndsBefore base part.now last result }
+{
+    let (end, left) = skip_sixteens(ignored, part, last);
+    span_before_some(values, &part[..end], left)
+}
+
+// Returns the length of a part without sixteens at its end that have no more bytes that are not
+// ignored than these, and how many of these are left.
+#[inline(always)]
+fn skip_sixteens(ignored: &IgnoredBytes, part: &[u8], last: usize) -> (usize, usize)
+    ensures within { result.0 ≤ length part.now }
+    ensures few { result.1 ≤ last }
+    ensures kept { (base : Base) → HoldsIgnored base ignored.now
+        → length (kept base (take result.0 part.now)) + (last - result.1)
+        ≡ length (kept base part.now) }
+{
+    let mut left = last;
+    for turn in 0..part.len() / 16 {
+        let end = part.len() - 16 * turn;
+        let count = ignored.count_kept(&part[end - 16..end]);
+        if count > left {
+            return (end, left);
+        }
+        left -= count;
+    }
+    (part.len() % 16, left)
+}
+
+// `span_before`, byte by byte.
+#[inline(always)]
+fn span_before_some(values: &[u8; 256], part: &[u8], last: usize) -> usize
+    ensures within { result ≤ length part.now }
+    ensures ends { (base : Base) → HoldsValues base values.now
+        → last ≤ length (kept base part.now) → EndsBefore base part.now last result }
+{
+    let mut left = last;
+    for index in 0..part.len() {
+        let end = part.len() - index;
+        if values[part[end - 1] as usize] != IGNORED {
+            if left == 0 {
+                return end;
+            }
+            left -= 1;
+        }
+    }
+    0
+}
