@@ -43,13 +43,8 @@ pub(crate) fn append_piece<A: Allocator + Copy>(
     let mut read = 0;
     while read < piece.len() {
         let end = piece.len().min(read + CHUNK);
-        append_chunk(
-            pieces,
-            &piece[read..end],
-            piece.len() - end,
-            &mut buffer,
-            output,
-        )?;
+        let rest = piece.len() - end;
+        append_chunk(pieces, &piece[read..end], rest, &mut buffer, output)?;
         read = end;
     }
     Ok(())
@@ -89,7 +84,8 @@ fn append_chunk<A: Allocator + Copy>(
     if written == 0 {
         return Ok(());
     }
-    output.reserve(written + pieces.most(rest))?;
+    let more = pieces.most(rest);
+    output.reserve(written + more)?;
     output.extend_from_slice(&buffer[..written]).unwrap();
     Ok(())
 }

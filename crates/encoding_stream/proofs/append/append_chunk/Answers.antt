@@ -24,7 +24,7 @@ returns-in_err-reserve-clause-room g c = λ room.
     let few = read.ensures.reads.few c.args.rest in
     let len = length-take-le read.result read.new.output read.ensures.within in
     absurd (false≢true (c.in_err-reserve.ensures.succeeds
-    (omega (arith, room, few, len, rw read.ensures.base at c.most.ensures.value))))
+    (omega (arith, room, few, len, rw read.ensures.base at c.most-more.ensures.value))))
 
 -- what holds holds after an error
 on_err : {A E P : Type 0} (result : Result A E) → P → OnErr result P
@@ -80,7 +80,7 @@ returns-clause-grows g c =
       c.extend_from_slice.ensures.capacity,
       c.in_ok-reserve.ensures.len,
       c.in_ok-reserve.ensures.ok,
-      rw read.ensures.base at c.most.ensures.value,
+      rw read.ensures.base at c.most-more.ensures.value,
     ))
 
 pub returns-then-written-eq0-clause-appends : goal.returns-then-written-eq0-clause-appends
