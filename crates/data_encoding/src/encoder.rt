@@ -7,7 +7,6 @@ ghost use Rattle.data_encoding.specs.KeptData.{held_data};
 ghost use Rattle.data_encoding_meaning.specs.text.Base.{Base};
 ghost use Rattle.data_encoding_meaning.specs.text.EncodedPieces.{HasEncoded};
 ghost use Rattle.data_encoding_meaning.specs.text.Lengths.{alignment};
-ghost use Rattle.data_encoding_meaning.specs.text.Text.{text_of};
 
 use crate::encode::ENCODE_LIMIT;
 use crate::encoding::{Encoding, EncodingRef};
@@ -109,24 +108,6 @@ impl EncodingRef<'_> {
         self.append_piece(block_len, kept, input, due, output);
         Ok(())
     }
-
-    // Appends the text of what is held at the end.
-    fn append_last<A: Allocator + Copy>(
-        &self,
-        held: &[u8],
-        output: &mut String<A>,
-    ) -> Result<(), AllocError>
-        requires limit { length held.now ≤ ENCODE_LIMIT }
-        ensures text { OnOk result ((before bytes : List ℕ)
-            → HasEncoded self.now before bytes (string_bytes output.old) held.now
-            → string_bytes output.new ≡ before ++ text_of self.now bytes) }
-        ensures unchanged { OnErr result (string_bytes output.new ≡ string_bytes output.old) }
-        ensures capacity { OnErr result (string_capacity output.new
-            ≡ string_capacity output.old) }
-        ensures empty { length held.now ≡ 0 → IsOk result }
-    {
-        self.append_in(held, output)
-    }
 }
 
 impl<'a, E: Encodes> Encoder<'a, E> {
@@ -171,7 +152,7 @@ impl<'a, E: Encodes> Encoder<'a, E> {
         } = self;
         if encoding
             .by_ref()
-            .append_last(&kept.bytes[..kept.count], output)
+            .append_in(&kept.bytes[..kept.count], output)
             .is_err()
         {
             return Err(Encoder {

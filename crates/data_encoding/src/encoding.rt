@@ -271,13 +271,19 @@ pub(crate) fn group_bytes(width: u8) -> u8
     }
 }
 
-// The number of symbols of a whole group.
+// The number of symbols of a whole group. Inlined, so that the compiler divides by it with a shift:
+// each result is a constant power of two.
+#[inline(always)]
 pub(crate) fn group_symbols(width: u8) -> u8
     requires width { IsWidth width }
     ensures value { result ≡ group_symbols width }
     ensures some { 0 < result }
 {
-    group_bytes(width) * 8 / width
+    match width {
+        4 => 2,
+        2 | 6 => 4,
+        _ => 8,
+    }
 }
 
 // Returns the separator of these bytes.

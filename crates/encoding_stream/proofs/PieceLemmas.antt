@@ -315,7 +315,7 @@ pub is-kept : (pieces : BufferDecoder)
 is-kept pieces positions bytes = record {
   specified = is-specified pieces;
   width = pieces.width;
-  short = omega (arith, pieces.group, pieces.short);
+  short = pieces.short;
   positions = positions;
   bytes = bytes;
 }

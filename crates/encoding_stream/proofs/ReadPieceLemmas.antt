@@ -1,6 +1,6 @@
 -- Lemmas on a piece of a text that is read slice by slice.
 use Rattle.std.proofs.Common.{Bool, true, false, if◌then◌else◌, ◌/◌, zero-add, Option, None, Some, is_some, ◌≡◌, ℕ, ◌+◌, ◌-◌, ◌*◌, ◌<◌, ◌≤◌, List, [], ◌∷◌, ◌++◌, length, get_or, take, drop, refl, sym, subst, ap, ◌∙◌, append_assoc, arith, length-append, length-take-le}
-use Rattle.std.proofs.lemmas.List.{append-nil, length-drop, take-append-drop, take-append-le, take-take, take_more, take_rest}
+use Rattle.std.proofs.lemmas.List.{append-nil, length-drop, take-append-drop, take-append-le, take_more, take_rest}
 use borrow.Rule.Slice.PartMut.{put_mid}
 use Rattle.std.proofs.Math.Seq.{take-add, take-append-add}
 use Rattle.std.proofs.Math.Nat.{add-mul, div-mul-le_self, div_self, le-div_iff_mul-le, mul-le-mul_right}
@@ -186,21 +186,6 @@ take-written written more output part fits few =
     ap (λ k. take (k + more) (take written output ++ (part ++ post))) (sym front)
     ∙ take-append-add (take written output) (part ++ post) more
     ∙ ap (λ bs. take written output ++ bs) (take-append-le more part post few)
-
--- what is written after a prefix of a list that is then cut off
-pub cut-written : (start more len : ℕ) (old now part items : List ℕ) → take start now ≡ old
-    → start ≤ length now → length now ≡ len
-    → length part ≡ length (take (length now - start) (drop start now)) → more ≤ length part
-    → take (start + more) (take len (put_mid start (length now - start) now part ++ items))
-    ≡ old ++ take more part
-cut-written start more len old now part items front fits whole same few =
-    let within = within-written start more now part fits same few in
-    let inside : start + more ≤ len =
-    omega (arith, few, same, fits, whole, length-left start now) in
-    take-take (start + more) len (put_mid start (length now - start) now part ++ items) inside
-    ∙ take-append-le (start + more) (put_mid start (length now - start) now part) items within
-    ∙ take-written start more now part fits few
-    ∙ ap (λ l. l ++ take more part) front
 
 -- This much of a piece was read, and the output starts with what it decodes to.
 pub record ReadsFront (base : Base) (old now : Kept) (piece output : List ℕ) (read written : ℕ)

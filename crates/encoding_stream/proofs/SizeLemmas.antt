@@ -1,5 +1,5 @@
 -- How many symbols and bytes a group has, and how many bytes are due for a length.
-use Rattle.std.proofs.Common.{◌≡◌, ℕ, zero, suc, ◌*◌, ◌/◌, ◌%◌, ◌<◌, ◌≤◌, ◌==◌, Bool, true, false, if◌then◌else◌, Option, None, Some, Ok, refl, arith}
+use Rattle.std.proofs.Common.{◌≡◌, ℕ, zero, suc, ◌*◌, ◌/◌, ◌%◌, ◌<◌, ◌≤◌, ◌==◌, Bool, true, false, if◌then◌else◌, Option, None, Some, Ok, arith}
 use Rattle.std.proofs.Math.Nat.{div-mul-le_self, mul-le-mul_left}
 use Rattle.data_encoding.specs.declared.error.DecodeError.{DecodeError}
 use Rattle.data_encoding.specs.Base.{Base, IsWidth, group_bytes, group_symbols}
@@ -27,16 +27,6 @@ pub symbols-few : (width : ℕ) → IsWidth width → group_symbols width ≤ 8
 symbols-few =
     by_width (λ w. group_symbols w ≤ 8) (omega arith) (omega arith) (omega arith) (omega arith)
     (omega arith) (omega arith)
-
--- a whole group has 2, 4 or 8 symbols
-pub symbols-two : (width : ℕ) → IsWidth width → (group_symbols width ≡ 8 → ⊥)
-    → (group_symbols width ≡ 4 → ⊥) → group_symbols width ≡ 2
-symbols-two =
-    by_width
-    (λ w. (group_symbols w ≡ 8 → ⊥) → (group_symbols w ≡ 4 → ⊥) → group_symbols w ≡ 2)
-    (λ eight four. absurd (eight refl)) (λ eight four. absurd (four refl))
-    (λ eight four. absurd (eight refl)) (λ eight four. refl)
-    (λ eight four. absurd (eight refl)) (λ eight four. absurd (four refl))
 
 pub bytes-few : (width : ℕ) → IsWidth width → group_bytes width ≤ 5
 bytes-few =

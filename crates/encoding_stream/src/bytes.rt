@@ -1,6 +1,6 @@
 //! Single bytes of a text in pieces. They are held until a group is complete.
 
-ghost use Rattle.std.specs.Prelude.{◌≡◌, ℕ, ◌+◌, ◌<◌, ◌≤◌, ◌⊎◌, true, false, List, [], ◌∷◌, length, take, is_some, IsSome};
+ghost use Rattle.std.specs.Prelude.{◌≡◌, ℕ, ◌+◌, ◌<◌, ◌≤◌, ◌⊎◌, List, [], ◌∷◌, length, take, IsSome};
 ghost use Rattle.data_encoding.specs.declared.decode.TheConstants.{DECODE_LIMIT};
 ghost use Rattle.encoding_stream.specs.Pieces.{base_of_pieces, most_completed};
 ghost use Rattle.encoding_stream.specs.Reading.{ReadsOn};
@@ -9,28 +9,17 @@ use crate::pieces::BufferDecoder;
 use data_encoding::DECODE_LIMIT;
 
 impl BufferDecoder<'_> {
-    /// Reads byte by byte, up to a fault, while a byte is held, if the piece is long enough to
-    /// complete the group of which bytes are held.
+    /// Reads byte by byte, up to a fault, while at least `least` bytes are held.
+    ///
+    /// Inlined with `take`, since mostly no byte or a few bytes are read: calls would take 3 % of the
+    /// instructions of short pieces.
     #[inline(always)]
-    pub(crate) fn read_held(&mut self, piece: &[u8], output: &mut [u8]) -> (usize, usize)
-        requires limit { self.old.kept.len + length piece.now ≤ DECODE_LIMIT }
-        requires room { most_completed (base_of_pieces self.old) self.old.kept
-            (length piece.now) ≤ length output.old }
-        ensures base { base_of_pieces self.new ≡ base_of_pieces self.old }
-        ensures reads { ReadsOn (base_of_pieces self.old) self.old.kept self.new.kept
-            (take result.0 piece.now) (take result.1 output.new) }
-        ensures read { result.0 ≤ length piece.now }
-        ensures within { result.1 ≤ length output.new }
-        ensures len { length output.new ≡ length output.old }
-    {
-        if self.kept.count == 0 || self.completes_none(piece.len()) {
-            return (0, 0);
-        }
-        self.read_bytes(1, piece, output)
-    }
-
-    // Reads byte by byte, up to a fault, while at least `least` bytes are held.
-    fn read_bytes(&mut self, least: usize, piece: &[u8], output: &mut [u8]) -> (usize, usize)
+    pub(crate) fn read_bytes(
+        &mut self,
+        least: usize,
+        piece: &[u8],
+        output: &mut [u8],
+    ) -> (usize, usize)
         requires limit { self.old.kept.len + length piece.now ≤ DECODE_LIMIT }
         requires room { most_completed (base_of_pieces self.old) self.old.kept
             (length piece.now) ≤ length output.old }
@@ -63,10 +52,6 @@ impl BufferDecoder<'_> {
         ensures within { result ≤ length output.new }
         ensures len { length output.new ≡ length output.old }
     {
-        if self.completes_none(piece.len()) {
-            self.hold_each(piece);
-            return 0;
-        }
         let (read, written) = self.read_bytes(0, piece, output);
         if read < piece.len() {
             self.pass(&piece[read..]);
@@ -76,6 +61,7 @@ impl BufferDecoder<'_> {
 
     // Reads a byte, writes the bytes of the group that it completes, unless that has a fault, to
     // the start of the output, and returns how many bytes were written.
+    #[inline(always)]
     fn take(&mut self, byte: u8, output: &mut [u8]) -> usize
         requires limit { self.old.kept.len < DECODE_LIMIT }
         requires room { most_completed (base_of_pieces self.old) self.old.kept 1
@@ -88,18 +74,20 @@ impl BufferDecoder<'_> {
     {
         let position = self.kept.len;
         self.kept.len += 1;
-        if self.kept.fault.is_some() || self.encoding.by_ref().interpret_byte(byte).is_ignored() {
+        let encoding = self.encoding.by_ref();
+        if self.kept.fault.is_some() || encoding.interpret_byte(byte).is_ignored() {
             return 0;
         }
+        let size = encoding.group_len();
         let index = self.kept.count;
         self.kept.positions[index] = position;
         self.kept.bytes[index] = byte;
-        if index + 1 < self.size {
+        if index + 1 < size {
             self.kept.count = index + 1;
             return 0;
         }
         self.kept.count = 0;
-        let judged = self.judge(self.size, output);
+        let judged = self.judge(size, output);
         let is_final = self.is_final();
         self.kept.positions = [0; 8];
         self.kept.bytes = [0; 8];
@@ -113,55 +101,6 @@ impl BufferDecoder<'_> {
                 0
             }
         }
-    }
-
-    // Whether this many more bytes complete no group, and no group has a fault.
-    fn completes_none(&self, len: usize) -> bool
-        ensures sound { result ≡ true → is_some self.now.kept.fault ≡ false }
-        ensures few { result ≡ true → self.now.kept.count + len < self.now.size }
-    {
-        self.kept.fault.is_none() && len < self.size - self.kept.count
-    }
-
-    // Reads bytes that complete no group. The tests of a fault and of a whole group, which `take`
-    // makes for each byte, are left out.
-    fn hold_each(&mut self, piece: &[u8])
-        requires limit { self.old.kept.len + length piece.now ≤ DECODE_LIMIT }
-        requires sound { is_some self.old.kept.fault ≡ false }
-        requires few { self.old.kept.count + length piece.now < self.old.size }
-        ensures base { base_of_pieces self.new ≡ base_of_pieces self.old }
-        ensures reads { ReadsOn (base_of_pieces self.old) self.old.kept self.new.kept piece.now
-            [] }
-    {
-        let mut read = 0;
-        while read < piece.len() {
-            self.hold_byte(piece[read]);
-            read += 1;
-        }
-    }
-
-    // Reads a byte that completes no group, and holds it unless it is ignored.
-    fn hold_byte(&mut self, byte: u8)
-        requires limit { self.old.kept.len < DECODE_LIMIT }
-        requires sound { is_some self.old.kept.fault ≡ false }
-        requires few { self.old.kept.count + 1 < self.old.size }
-        ensures base { base_of_pieces self.new ≡ base_of_pieces self.old }
-        ensures size { self.new.size ≡ self.old.size }
-        ensures reads { ReadsOn (base_of_pieces self.old) self.old.kept self.new.kept (byte ∷ [])
-            [] }
-        ensures sound { is_some self.new.kept.fault ≡ false }
-        ensures count { self.new.kept.count ≤ self.old.kept.count + 1 }
-        ensures len { self.new.kept.len ≡ self.old.kept.len + 1 }
-    {
-        let count = self.kept.count;
-        let end = self.kept.len;
-        self.kept.len = end + 1;
-        if self.encoding.by_ref().interpret_byte(byte).is_ignored() {
-            return;
-        }
-        self.kept.positions[count] = end;
-        self.kept.bytes[count] = byte;
-        self.kept.count = count + 1;
     }
 
     // Counts the bytes after a fault.

@@ -14,14 +14,14 @@ use data_encoding::{DecodeError, DecodeKind};
 impl BufferDecoder<'_> {
     /// Returns `true` if the group that was just completed is final.
     pub(crate) fn is_final(&self) -> bool
-        ensures { result ≡ is_final (base_of_pieces self.now) (at_positions self.now.size
-            self.now.kept.positions self.now.kept.bytes) }
+        ensures { result ≡ is_final (base_of_pieces self.now) (at_positions (group_symbols
+            (base_of_pieces self.now).width) self.now.kept.positions self.now.kept.bytes) }
     {
         let encoding = self.encoding.by_ref();
         if encoding.concatenates() {
             return false;
         }
-        self.kept.bytes[..self.size]
+        self.kept.bytes[..encoding.group_len()]
             .iter()
             .any(|byte| encoding.interpret_byte(*byte).is_padding())
     }

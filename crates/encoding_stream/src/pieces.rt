@@ -41,15 +41,11 @@ pub struct Kept {
 #[derive(Clone, Copy, Debug, Drop)]
 pub struct BufferDecoder<'a> {
     pub(crate) encoding: LentEncoding<'a>,
-    // The number of symbols in a whole group. It is kept since it is needed for each byte, and
-    // `group_len` divides.
-    pub(crate) size: usize,
     pub(crate) kept: Kept,
     ghost laws: { HasLaws } by { Prim.hlevel props },
     ghost specified: { IsBuiltAgain (base_of_lent encoding) },
     ghost width: { IsWidth (base_of_lent encoding).width },
-    ghost group: { size ≡ group_symbols (base_of_lent encoding).width },
-    ghost short: { kept.count < size },
+    ghost short: { kept.count < group_symbols (base_of_lent encoding).width },
     ghost held: { kept.count ≤ kept.len },
     ghost clear: { IsSome kept.fault → kept.count ≡ 0 },
     ghost limit: { kept.len ≤ DECODE_LIMIT },
@@ -84,9 +80,10 @@ impl<'a> BufferDecoder<'a> {
         pieces();
         whole_groups();
         specification_again();
+        // Its clause has the facts on the encoding that the invariant needs.
+        encoding.group_len();
         BufferDecoder {
             encoding: encoding.lend(),
-            size: encoding.group_len(),
             kept: Kept {
                 len: 0,
                 fault: None,
@@ -129,7 +126,7 @@ impl<'a> BufferDecoder<'a> {
         ensures resumes { IsKept encoding.now kept → IsSome result }
     {
         let mut decoder = BufferDecoder::new_by_ref(encoding);
-        if kept.len > DECODE_LIMIT || kept.count >= decoder.size || kept.count > kept.len {
+        if kept.len > DECODE_LIMIT || kept.count >= encoding.group_len() || kept.count > kept.len {
             return None;
         }
         if !kept.is_in_order() || kept.holds_ignored(encoding) {
@@ -194,7 +191,7 @@ impl<'a> BufferDecoder<'a> {
         ensures within { result ≤ length output.new }
         ensures len { length output.new ≡ length output.old }
     {
-        let (first_read, first) = self.read_held(piece, output);
+        let (first_read, first) = self.read_bytes(1, piece, output);
         let (run_read, run) = self.read_run(&piece[first_read..], &mut output[first..]);
         let read = first_read + run_read;
         let written = first + run;

@@ -1,8 +1,8 @@
 //! Whole groups of a text in pieces, decoded in place.
 
-ghost use Rattle.std.specs.Prelude.{◌≡◌, ℕ, ◌+◌, ◌≤◌, ◌<◌, ◌/◌, ◌%◌, true, false, List, length, take, IfOk, IfErr, None, Ok, Some};
+ghost use Rattle.std.specs.Prelude.{◌≡◌, ℕ, ◌+◌, ◌≤◌, ◌<◌, ◌%◌, true, false, List, length, take, IfOk, IfErr, None, Ok, Some};
 ghost use Rattle.data_encoding.specs.declared.decode.TheConstants.{DECODE_LIMIT};
-ghost use Rattle.data_encoding.specs.Base.{group_bytes, ignores_some, is_padded};
+ghost use Rattle.data_encoding.specs.Base.{group_bytes, group_symbols, ignores_some, is_padded};
 ghost use Rattle.data_encoding.specs.Grammar.{Means};
 ghost use Rattle.data_encoding.specs.Lengths.{decoded_len, most_bytes};
 ghost use Rattle.data_encoding.specs.Pieces.{IsOfWholeGroup};
@@ -19,29 +19,14 @@ impl BufferDecoder<'_> {
         requires limit { len ≤ DECODE_LIMIT }
         ensures len { result.0 ≡ whole_len (base_of_pieces self.now) len }
         ensures few { result.0 ≤ len }
-        ensures whole { result.0 % self.now.size ≡ 0 }
+        ensures whole { result.0 % group_symbols (base_of_pieces self.now).width ≡ 0 }
         ensures due { decoded_len (base_of_pieces self.now) result.0 ≡ Ok result.1 }
         ensures bytes { result.1 ≡ bytes_due (base_of_pieces self.now) len }
     {
-        let groups = self.count_groups(len);
-        (
-            groups * self.size,
-            groups * self.encoding.by_ref().group_bytes(),
-        )
-    }
-
-    // Returns how many whole groups this many bytes have. It divides by constants, since each piece
-    // is divided, however short.
-    fn count_groups(&self, len: usize) -> usize
-        ensures { result ≡ len / self.now.size }
-    {
-        if self.size == 8 {
-            return len / 8;
-        }
-        if self.size == 4 {
-            return len / 4;
-        }
-        len / 2
+        let encoding = self.encoding.by_ref();
+        let size = encoding.group_len();
+        let groups = len / size;
+        (groups * size, groups * encoding.group_bytes())
     }
 
     /// Reads whole groups in place: those before a fault, or all if a whole group has the fault.
@@ -62,10 +47,10 @@ impl BufferDecoder<'_> {
         if self.kept.count != 0 || self.kept.fault.is_some() || self.kept.ended {
             return (0, 0);
         }
-        if piece.len() < self.size {
+        let (len, most) = self.due(piece.len());
+        if len == 0 {
             return (0, 0);
         }
-        let (len, most) = self.due(piece.len());
         let (read, written) = match self.decode_run(&piece[..len], &mut output[..most]) {
             Ok(run) => run,
             Err(partial) => {
@@ -90,7 +75,7 @@ impl BufferDecoder<'_> {
     // group.
     fn decode_run(&self, text: &[u8], output: &mut [u8]) -> Result<(usize, usize), DecodePartial>
         requires limit { length text.now ≤ DECODE_LIMIT }
-        requires whole { length text.now % self.now.size ≡ 0 }
+        requires whole { length text.now % group_symbols (base_of_pieces self.now).width ≡ 0 }
         requires exact { decoded_len (base_of_pieces self.now) (length text.now)
             ≡ Ok (length output.old) }
         ensures means { IfOk result (λ run. Means (base_of_pieces self.now) (take run.0 text.now)
@@ -117,7 +102,7 @@ impl BufferDecoder<'_> {
     // Whether a fault of this kind in a piece of the length of whole groups is that of a whole
     // group. An unfinished group has a fault of its length.
     fn is_of_whole_group(&self, len: usize, kind: DecodeKind) -> bool
-        requires whole { len % self.now.size ≡ 0 }
+        requires whole { len % group_symbols (base_of_pieces self.now).width ≡ 0 }
         ensures { result ≡ true → IsOfWholeGroup (base_of_pieces self.now) len kind }
     {
         let encoding = self.encoding.by_ref();
@@ -130,7 +115,7 @@ impl BufferDecoder<'_> {
     // Returns `true` if a valid text of `read` bytes that decodes to `written` bytes ends at a
     // group boundary.
     fn are_whole(&self, len: usize, read: usize, written: usize) -> bool
-        requires len { len % self.now.size ≡ 0 }
+        requires len { len % group_symbols (base_of_pieces self.now).width ≡ 0 }
         ensures whole { result ≡ true → (text bytes : List ℕ) → length text ≡ read
             → length bytes ≡ written → Means (base_of_pieces self.now) text bytes
             → HasOnlyWholeGroups (base_of_pieces self.now) text }

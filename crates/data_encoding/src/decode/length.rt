@@ -1,8 +1,7 @@
 //! The lengths of texts, and the greatest lengths of their data.
 
-ghost use Rattle.std.specs.Prelude.{◌≡◌, ◌/◌, false, ◌<◌, ◌≤◌};
+ghost use Rattle.std.specs.Prelude.{◌≡◌, false, ◌<◌, ◌≤◌};
 ghost use Rattle.data_encoding.specs.Calls.{IsDecodeLen};
-ghost use Rattle.data_encoding_meaning.specs.text.Base.{IsWidth, group_symbols};
 ghost use Rattle.data_encoding_meaning.specs.text.Lengths.{greatest_valid_length, is_valid_length, most_bytes};
 
 use crate::decode::DECODE_LIMIT;
@@ -81,21 +80,9 @@ impl EncodingRef<'_> {
         ensures { result ≡ most_bytes self.now len }
     {
         if self.fields.is_padded() {
-            return whole_groups(self.fields.width, len) * group_bytes(self.fields.width) as usize;
+            let symbols = group_symbols(self.fields.width) as usize;
+            return len / symbols * group_bytes(self.fields.width) as usize;
         }
         self.fields.width as usize * len / 8
-    }
-}
-
-// The number of whole groups in this many symbols. The divisor is a constant, since a division by a
-// variable takes as long as decoding a group.
-fn whole_groups(width: u8, len: usize) -> usize
-    requires { IsWidth width }
-    ensures { result ≡ len / group_symbols width }
-{
-    match width {
-        4 => len / 2,
-        2 | 6 => len / 4,
-        _ => len / 8,
     }
 }

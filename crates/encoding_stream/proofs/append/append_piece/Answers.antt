@@ -49,7 +49,7 @@ returns-in_err-append_chunk-clause-unchanged g c =
     (room-both c.loop-read.pieces.kept c.args.piece.now c.loop-read.read c.min-end.result
     (vec_len c.loop-read.output) (vec_capacity c.loop-read.output) now.base
     (omega (arith, c.min-end.ensures, now.within)) (omega (arith, c.min-end.ensures))
-    (room c.loop-read-test.true)))))
+    room))))
     now.grown)
 
 pub returns-in_err-append_chunk-clause-capacity :
@@ -63,7 +63,7 @@ returns-in_err-append_chunk-clause-capacity g c =
     (room-both c.loop-read.pieces.kept c.args.piece.now c.loop-read.read c.min-end.result
     (vec_len c.loop-read.output) (vec_capacity c.loop-read.output) now.base
     (omega (arith, c.min-end.ensures, now.within)) (omega (arith, c.min-end.ensures))
-    (room c.loop-read-test.true)))))
+    room))))
     now.grown)
 
 pub returns-in_err-append_chunk-clause-room : goal.returns-in_err-append_chunk-clause-room
@@ -105,10 +105,8 @@ loop-read-preserved g c =
             items = none.items ∙ same.items;
             capacity = none.capacity ∙ same.capacity;
           }))
-          (λ room. inr (λ more. room (omega (arith, more)))) grows)
-          (λ room. inr (λ _.
-          rw now.base at
-          (c.in_ok-append_chunk.ensures.rest (here (room c.loop-read-test.true)))))
+          inr grows)
+          (λ room. inr (rw now.base at (c.in_ok-append_chunk.ensures.rest (here room))))
           now.grown;
     }
 
@@ -118,17 +116,3 @@ returns-clause-appends g c =
     c.loop-read.pieces.kept p c.args.output.now.items c.loop-read.output.items)
     (take_all c.loop-read.read c.args.piece.now c.loop-read-test.false)
     c.loop-read.invariant.appends
-
-pub returns-then-piece-le-SHORT-clause-room : goal.returns-then-piece-le-SHORT-clause-room
-returns-then-piece-le-SHORT-clause-room g c = λ room.
-    let whole : length c.args.piece.now ≡ length c.args.piece.now + 0 = omega arith in
-    c.append_copied.ensures.room
-    (subst (λ n. vec_len c.args.output.now
-    + most_completed (base_of_pieces c.args.pieces.now) c.args.pieces.now.kept n
-    ≤ vec_capacity c.args.output.now) whole room)
-
-pub returns-then-piece-le-SHORT-clause-appends : goal.returns-then-piece-le-SHORT-clause-appends
-returns-then-piece-le-SHORT-clause-appends g c = c.append_copied.ensures.appends
-
-pub returns-then-piece-le-SHORT-clause-no_group : goal.returns-then-piece-le-SHORT-clause-no_group
-returns-then-piece-le-SHORT-clause-no_group g c = c.append_copied.ensures.no_group

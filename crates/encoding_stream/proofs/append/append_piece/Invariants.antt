@@ -1,4 +1,4 @@
-use Rattle.std.proofs.Common.{◌≡◌, ◌+◌, ◌-◌, ◌<◌, ◌≤◌, ◌⊎◌, length, take, vec_capacity, vec_len}
+use Rattle.std.proofs.Common.{◌≡◌, ◌+◌, ◌-◌, ◌≤◌, ◌⊎◌, length, take, vec_capacity, vec_len}
 use Rattle.encoding_stream.specs.Appending.{IsAsBefore}
 use Rattle.encoding_stream.specs.Pieces.{base_of_pieces, most_completed}
 use Rattle.encoding_stream.specs.Reading.{AppendsPiece}
@@ -15,7 +15,7 @@ invariant-loop-read g l = record {
       → vec_len l.output + most_completed (base_of_pieces l.initial.pieces) l.pieces.kept
       (length l.piece - l.read) ≤ vec_capacity l.output;
   grown : IsAsBefore l.initial.output l.output
-      ⊎ (l.read < length l.piece → vec_len l.output
+      ⊎ (vec_len l.output
       + most_completed (base_of_pieces l.initial.pieces) l.pieces.kept (length l.piece - l.read)
       ≤ vec_capacity l.output);
 }

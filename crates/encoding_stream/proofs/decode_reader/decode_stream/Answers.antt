@@ -183,7 +183,6 @@ read-written-requires-clause-room g c =
       most-short base s.width s.kept (length piece),
       length-take c.in-Ok.count buffer,
       s.short,
-      s.group,
       symbols-few base.width s.width,
       c.in-Ok.ensures.bound,
       c.fill.auto.buffer,

@@ -1,6 +1,5 @@
-use Rattle.std.proofs.Common.{◌≡◌, ◌*◌, true, false, sym, ◌∙◌, subst, arith, div-le_self}
+use Rattle.std.proofs.Common.{◌≡◌, ◌*◌, ◌/◌, true, false, sym, ◌∙◌, subst, arith, div-le_self}
 use Rattle.std.proofs.lemmas.Nat.{mul-le}
-use Rattle.data_encoding_meaning.specs.text.Base.{group_symbols}
 use Rattle.data_encoding.specs.Encoding.{base_of_tables}
 use Rattle.data_encoding_meaning.specs.text.Lengths.{most_bytes}
 use Rattle.data_encoding.specs.PlainTables.{plain_tables}
@@ -12,9 +11,9 @@ returns-then-is_padded c =
     let seen =
     base_of_tables (plain_tables c.self.inside.fields.now c.self.inside.separator.now) in
     subst
-    (λ b. c.whole_groups.result * c.group_bytes.result ≡ most_bytes b c.args.len)
+    (λ b. c.args.len / c.group_symbols-symbols.result * c.group_bytes.result ≡ most_bytes b c.args.len)
     c.self.view_is
-    ((λ i. c.whole_groups.ensures i * c.group_bytes.ensures.value i)
+    ((λ i. c.args.len / c.group_symbols-symbols.ensures.value i * c.group_bytes.ensures.value i)
     ∙ sym (most_bytes-by seen c.args.len true
     (sym c.is_padded.ensures ∙ c.if-is_padded.true)))
 
@@ -26,19 +25,15 @@ returns c =
     (sym (most_bytes-by seen c.args.len false
     (sym c.is_padded.ensures ∙ c.if-is_padded.false)))
 
-pub whole_groups-requires : goal.whole_groups-requires
-whole_groups-requires c =
-    c.self.invariant.is_width
-
 pub overflow_mul-result : goal.overflow_mul-result
 overflow_mul-result c =
     omega (
       arith,
-      mul-le c.whole_groups.result c.group_bytes.result 2305843009213693951 5
+      mul-le (c.args.len / c.group_symbols-symbols.result) c.group_bytes.result
+          2305843009213693951 5
           (omega (
             arith,
-            c.whole_groups.ensures,
-            div-le_self c.args.len (group_symbols c.self.inside.fields.now.width),
+            div-le_self c.args.len c.group_symbols-symbols.result,
             c.requires.limit,
           ))
           c.group_bytes.ensures.few,

@@ -24,14 +24,14 @@ returns-then-read-len-clause-whole c = λ _ text bytes same _ means.
     (inr (inr (
       sym (rw c.by_ref-encoding.ensures at c.ignores_bytes.ensures)
           ∙ c.if-not-ignores_bytes.true,
-      rw (same, c.if-read-len.true, ← s.group) c.requires.len,
+      rw (same, c.if-read-len.true) c.requires.len,
     )))
 
 pub returns-then-read-len-clause-few : goal.returns-then-read-len-clause-few
 returns-then-read-len-clause-few c = λ _ most.
     let s = c.args.self.now in
     fills-by_length (base_of_pieces s) (is-specified s) s.laws.due c.args.read c.args.written
-    (rw (c.if-read-len.true, ← s.group) c.requires.len)
+    (rw c.if-read-len.true c.requires.len)
     (symbols-some (base_of_pieces s).width s.width) most
 
 pub returns-else-is_padded-clause-whole : goal.returns-else-is_padded-clause-whole

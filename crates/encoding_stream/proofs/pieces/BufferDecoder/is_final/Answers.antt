@@ -11,7 +11,11 @@ use Rattle.encoding_stream.proofs.pieces.BufferDecoder.is_final.Goals as goal
 pub shared_ref_as_front-iter : goal.shared_ref_as_front-iter
 shared_ref_as_front-iter c =
     let s = c.args.self.now in
-    omega (arith, symbols-few (base_of_pieces s).width s.width, s.group)
+    omega (
+      arith,
+      symbols-few (base_of_pieces s).width s.width,
+      rw c.by_ref-encoding.ensures at c.group_len.ensures.value,
+    )
 
 pub returns : goal.returns
 returns c =
@@ -19,15 +23,19 @@ returns c =
     let k = s.kept in
     let few = symbols-few (base_of_pieces s).width s.width in
     let base = c.by_ref-encoding.result in
+    let count = c.group_len.result in
+    let size = rw c.by_ref-encoding.ensures at c.group_len.ensures.value in
     let found =
     any_from_yields_List (λ (b : ℕ). is_padding (meaning base b)) _ _
     c.any.result c.any.ensures.ran
-    (YieldsList-from_slice (take s.size k.bytes) cc)
+    (YieldsList-from_slice (take count k.bytes) cc)
     (λ x b q h. search (rules, tests)) in
     subst
-    (λ those. c.any.result ≡ is_final those (at_positions s.size k.positions k.bytes))
+    (λ n. c.any.result ≡ is_final (base_of_pieces s) (at_positions n k.positions k.bytes)) size
+    (subst
+    (λ those. c.any.result ≡ is_final those (at_positions count k.positions k.bytes))
     c.by_ref-encoding.ensures
     (found
-    ∙ any-final base s.size k.positions k.bytes
-    (omega (arith, few, s.group)) (omega (arith, few, s.group))
-    (sym c.concatenates.ensures ∙ c.if-concatenates.false))
+    ∙ any-final base count k.positions k.bytes
+    (omega (arith, few, size)) (omega (arith, few, size))
+    (sym c.concatenates.ensures ∙ c.if-concatenates.false)))

@@ -1,4 +1,4 @@
-use Rattle.std.proofs.Common.{◌≡◌, ◌%◌, ◌∙◌, inl, inr, sym, subst, rules}
+use Rattle.std.proofs.Common.{◌∙◌, inl, inr, sym, rules}
 use Rattle.encoding_stream.proofs.pieces.BufferDecoder.is_of_whole_group.Goals as goal
 
 pub returns-then-not-ignores_bytes : goal.returns-then-not-ignores_bytes
@@ -9,7 +9,7 @@ returns-then-not-ignores_bytes c = λ _. record {
       ∙ c.if-not-concatenates.false;
   whole = inl (
     sym (rw c.by_ref-encoding.ensures at c.ignores_bytes.ensures) ∙ c.if-not-ignores_bytes.true,
-    subst (λ n. c.args.len % n ≡ 0) c.args.self.now.group c.requires.whole,
+    c.requires.whole,
   );
 }
 

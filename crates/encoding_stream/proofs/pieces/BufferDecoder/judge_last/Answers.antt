@@ -27,11 +27,11 @@ returns-clause-sound c =
     (λ written judged text keeps.
     let verdict = judged
     (last-kept (base_of_pieces s) k.fault k.positions k.bytes k.count k.ended none
-    (omega (arith, c.if-self-eq0.false)) (omega (arith, few, s.group, s.short))
-    (omega (arith, few, s.group, s.short)) text k.len keeps) in (
+    (omega (arith, c.if-self-eq0.false)) (omega (arith, few, s.short))
+    (omega (arith, few, s.short)) text k.len keeps) in (
       last-judged (base_of_pieces s) k.fault k.positions k.bytes k.count k.ended none
-          (omega (arith, c.if-self-eq0.false)) (omega (arith, few, s.group, s.short))
-          (omega (arith, few, s.group, s.short)) text k.len keeps None verdict.0,
+          (omega (arith, c.if-self-eq0.false)) (omega (arith, few, s.short))
+          (omega (arith, few, s.short)) text k.len keeps None verdict.0,
       verdict.1,
     ))
     c.judge.ensures.sound
@@ -45,12 +45,12 @@ returns-clause-fault c =
     IfErr-weaker c.judge.result _ _
     (λ error judged text keeps.
     last-judged (base_of_pieces s) k.fault k.positions k.bytes k.count k.ended none
-    (omega (arith, c.if-self-eq0.false)) (omega (arith, few, s.group, s.short))
-    (omega (arith, few, s.group, s.short)) text k.len keeps (Some error)
+    (omega (arith, c.if-self-eq0.false)) (omega (arith, few, s.short))
+    (omega (arith, few, s.short)) text k.len keeps (Some error)
     (judged
     (last-kept (base_of_pieces s) k.fault k.positions k.bytes k.count k.ended none
-    (omega (arith, c.if-self-eq0.false)) (omega (arith, few, s.group, s.short))
-    (omega (arith, few, s.group, s.short)) text k.len keeps)))
+    (omega (arith, c.if-self-eq0.false)) (omega (arith, few, s.short))
+    (omega (arith, few, s.short)) text k.len keeps)))
     c.judge.ensures.fault
 
 pub returns-clause-position : goal.returns-clause-position

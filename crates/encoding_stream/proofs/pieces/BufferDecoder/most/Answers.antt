@@ -11,7 +11,6 @@ returns-clause-few c =
       c.due.ensures.bytes,
       most-few (base_of_pieces s).width s.width (s.kept.count + c.args.len),
       s.short,
-      s.group,
       symbols-few (base_of_pieces s).width s.width,
     )
 

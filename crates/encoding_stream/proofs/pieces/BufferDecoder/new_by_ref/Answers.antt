@@ -1,4 +1,4 @@
-use Rattle.std.proofs.Common.{◌<◌, sym, subst}
+use Rattle.std.proofs.Common.{sym, subst}
 use Rattle.encoding_stream.specs.Specified.{IsBuiltAgain}
 use Rattle.encoding_stream.proofs.PieceLemmas.{keeps-front}
 use Rattle.encoding_stream.proofs.SizeLemmas.{symbols-some}
@@ -35,12 +35,9 @@ invariant_of-result-clause-specified c =
 pub invariant_of-result-clause-width : goal.invariant_of-result-clause-width
 invariant_of-result-clause-width c = rw c.lend.ensures c.group_len.ensures.width
 
-pub invariant_of-result-clause-group : goal.invariant_of-result-clause-group
-invariant_of-result-clause-group c = rw c.lend.ensures c.group_len.ensures.value
-
 pub invariant_of-result-clause-short : goal.invariant_of-result-clause-short
 invariant_of-result-clause-short c =
-    subst (λ n. 0 < n) (sym c.group_len.ensures.value)
+    rw c.lend.ensures
     (symbols-some c.args.encoding.now.width c.group_len.ensures.width)
 
 pub returns-clause-nothing : goal.returns-clause-nothing

@@ -4,14 +4,14 @@ use Rattle.encoding_stream.proofs.pieces.BufferDecoder.read.Goals as goal
 
 pub read_run-run_read-requires-clause-room : goal.read_run-run_read-requires-clause-room
 read_run-run_read-requires-clause-room c =
-    let first = c.read_held-first_read in
+    let first = c.read_bytes-first_read in
     rw first.ensures.base
     (rest-room (reads-front first.ensures.reads first.ensures.read first.ensures.within)
     (rw first.ensures.len c.requires.room))
 
 pub read_each-requires-clause-room : goal.read_each-requires-clause-room
 read_each-requires-clause-room c =
-    let first = c.read_held-first_read in
+    let first = c.read_bytes-first_read in
     let run = c.read_run-run_read in
     let front = reads-front first.ensures.reads first.ensures.read first.ensures.within in
     let both =
@@ -24,7 +24,7 @@ read_each-requires-clause-room c =
 
 pub returns : goal.returns
 returns c =
-    let first = c.read_held-first_read in
+    let first = c.read_bytes-first_read in
     let run = c.read_run-run_read in
     let each = c.read_each in
     let front = reads-front first.ensures.reads first.ensures.read first.ensures.within in

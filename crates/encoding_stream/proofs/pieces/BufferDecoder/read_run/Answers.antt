@@ -1,5 +1,4 @@
 use Rattle.std.proofs.Common.{◌≡◌, ◌+◌, ◌/◌, ◌∙◌, false, None, Some, take, drop, length, sym, subst, arith, length-append, length-take, length-take-le}
-use Rattle.std.proofs.Math.Nat.{div-eq_of_lt}
 use Rattle.std.proofs.lemmas.Bool.{false≢true}
 use Rattle.std.proofs.lemmas.List.{take-append-le, take-take}
 use Rattle.data_encoding.specs.Base.{group_symbols}
@@ -101,13 +100,9 @@ returns-clause-reads c =
     whole ends)
     few)))
 
-pub returns-then-piece-self-clause-all : goal.returns-then-piece-self-clause-all
-returns-then-piece-self-clause-all c = λ _ _ _ _ _ _.
-    let s = c.args.self.now in
-    let size = group_symbols (base_of_pieces s).width in
-    let none : length c.args.piece.now / size ≡ 0 =
-    div-eq_of_lt (omega (arith, s.group, c.if-piece-self.true)) in
-    rw none (omega arith)
+pub returns-then-len-eq0-clause-all : goal.returns-then-len-eq0-clause-all
+returns-then-len-eq0-clause-all c = λ _ _ _ _ _ _.
+    sym c.if-len-eq0.true ∙ c.due-len.ensures.len
 
 pub returns-then-not-are_whole-clause-all : goal.returns-then-not-are_whole-clause-all
 returns-then-not-are_whole-clause-all c = λ _ _ _ none bytes means.
@@ -129,7 +124,6 @@ invariant_of-self-2 c =
       laws = s.laws;
       specified = s.specified;
       width = s.width;
-      group = s.group;
       short = s.short;
       held = omega (arith, s.held);
       clear = s.clear;
@@ -148,8 +142,8 @@ pub returns-then-self-ne0-clause-reads : goal.returns-then-self-ne0-clause-reads
 returns-then-self-ne0-clause-reads c =
     reads-nothing (base_of_pieces c.args.self.now) c.args.self.now.kept
 
-pub returns-then-piece-self-clause-reads : goal.returns-then-piece-self-clause-reads
-returns-then-piece-self-clause-reads c =
+pub returns-then-len-eq0-clause-reads : goal.returns-then-len-eq0-clause-reads
+returns-then-len-eq0-clause-reads c =
     reads-nothing (base_of_pieces c.args.self.now) c.args.self.now.kept
 
 pub returns-then-not-are_whole-clause-reads : goal.returns-then-not-are_whole-clause-reads
@@ -239,7 +233,6 @@ invariant_of-self c =
       laws = s.laws;
       specified = s.specified;
       width = s.width;
-      group = s.group;
       short = s.short;
       held = omega (arith, s.held);
       clear = λ _. c.if-self-ne0.false;

@@ -1,7 +1,8 @@
 use Rattle.std.proofs.Common.{refl, sym, ◌∙◌, arith}
 use Rattle.encoding_stream.proofs.OrderLemmas.{ascend-below}
 use Rattle.encoding_stream.proofs.ResumedLemmas.{held-few, may-be-kept}
-use Rattle.encoding_stream.proofs.pieces.BufferDecoder.resumed_by_ref.Goals.{then-kept-gt-DECODE_LIMIT-via-then-kept-gt-DECODE_LIMIT, then-kept-gt-DECODE_LIMIT-via-else-kept-gt-DECODE_LIMIT+then-kept-decoder, then-kept-gt-DECODE_LIMIT-via-else-kept-gt-DECODE_LIMIT+else-kept-decoder+then-kept, then-not-is_in_order-via-then-not-is_in_order, then-not-is_in_order-via-else-not-is_in_order+then-holds_ignored}
+use Rattle.encoding_stream.proofs.SizeLemmas.{symbols-few}
+use Rattle.encoding_stream.proofs.pieces.BufferDecoder.resumed_by_ref.Goals.{then-kept-gt-DECODE_LIMIT-via-then-kept-gt-DECODE_LIMIT, then-kept-gt-DECODE_LIMIT-via-else-kept-gt-DECODE_LIMIT+then-kept-group_len, then-kept-gt-DECODE_LIMIT-via-else-kept-gt-DECODE_LIMIT+else-kept-group_len+then-kept, then-not-is_in_order-via-then-not-is_in_order, then-not-is_in_order-via-else-not-is_in_order+then-holds_ignored}
 use Rattle.encoding_stream.proofs.pieces.BufferDecoder.resumed_by_ref.Goals as goal
 
 pub returns-then-kept-gt-DECODE_LIMIT-clause-resumes :
@@ -14,13 +15,13 @@ returns-then-kept-gt-DECODE_LIMIT-clause-resumes c = λ is.
     kept.len kept.count kept.fault kept.positions kept.bytes kept.ended (omega arith)
     (omega arith) is.keeps
     is.clear in
-    let size = rw c.new_by_ref-decoder.ensures.base at decoder.group in
     elim c.then-kept-gt-DECODE_LIMIT.branch [
       | then-kept-gt-DECODE_LIMIT-via-then-kept-gt-DECODE_LIMIT w ↦
           absurd (omega (arith, w.if-kept-gt-DECODE_LIMIT.true, is.keeps.counted, is.limit))
-      | then-kept-gt-DECODE_LIMIT-via-else-kept-gt-DECODE_LIMIT+then-kept-decoder w ↦
-          absurd (omega (arith, w.if-kept-decoder.true, few.0, size))
-      | then-kept-gt-DECODE_LIMIT-via-else-kept-gt-DECODE_LIMIT+else-kept-decoder+then-kept w ↦
+      | then-kept-gt-DECODE_LIMIT-via-else-kept-gt-DECODE_LIMIT+then-kept-group_len w ↦
+          absurd
+          (omega (arith, w.if-kept-group_len.true, few.0, w.group_len.ensures.value))
+      | then-kept-gt-DECODE_LIMIT-via-else-kept-gt-DECODE_LIMIT+else-kept-group_len+then-kept w ↦
           absurd (omega (arith, w.if-kept.true, few.1))
     ]
 
@@ -65,11 +66,9 @@ invariant_of-decoder-clause-fault_inside c =
 
 pub returns-clause-tested : goal.returns-clause-tested
 returns-clause-tested c = λ _.
-    let decoder = c.new_by_ref-decoder.result in
-    let size = rw c.new_by_ref-decoder.ensures.base at decoder.group in
     record {
       limit = omega (arith, c.if-kept-gt-DECODE_LIMIT.false);
-      short = omega (arith, c.if-kept-decoder.false, size);
+      short = omega (arith, c.if-kept-group_len.false, c.group_len.ensures.value);
       in_order = c.is_in_order.ensures.sound c.if-not-is_in_order.false;
       none_ignored = c.holds_ignored.ensures.sound c.if-holds_ignored.false;
       fault = c.has_possible_fault.ensures.sound c.if-not-has_possible_fault.false;
@@ -79,4 +78,15 @@ pub returns-clause-goes_on : goal.returns-clause-goes_on
 returns-clause-goes_on c = record { base_is = c.new_by_ref-decoder.ensures.base; kept_is = refl }
 
 pub invariant_of-decoder-clause-short : goal.invariant_of-decoder-clause-short
-invariant_of-decoder-clause-short c = c.if-kept-decoder.false
+invariant_of-decoder-clause-short c =
+    rw c.new_by_ref-decoder.ensures.base
+    (omega (arith, c.if-kept-group_len.false, c.group_len.ensures.value))
+
+pub holds_ignored-requires : goal.holds_ignored-requires
+holds_ignored-requires c =
+    omega (
+      arith,
+      c.if-kept-group_len.false,
+      c.group_len.ensures.value,
+      symbols-few c.args.encoding.now.width c.group_len.ensures.width,
+    )
