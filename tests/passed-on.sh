@@ -30,7 +30,7 @@ asked() {
             grep -E '^data_encoding/src/(encode/append|encoder|decode).rt:'
         code "$1" '^ *let (mut )?\(?(count|more|read|rest|written)\b' |
             grep -E '^encoding_stream/src/(append|decoder).rt:'
-        code "$1" 'append_(chunk|copied)\b.*\(pieces, ' | grep '^encoding_stream/src/append.rt:'
+        code "$1" 'append_chunk\(pieces, ' | grep '^encoding_stream/src/append.rt:'
     } | sed -E 's/: +/:/'
 }
 
@@ -50,7 +50,6 @@ data_encoding/src/specification.rt:text.push(char::from(byte))
 data_encoding/src/specification.rt:from: self.from.clone()?,
 data_encoding/src/specification.rt:to: self.to.clone()?,
 data_encoding/src/specification.rt:separator: self.separator.clone()?,
-encoding_stream/src/append.rt:output.resize(start + pieces.most(piece.len()), 0).unwrap();
 encoding_stream/src/append.rt:output.reserve(written + more)?;
 encoding_stream/src/append.rt:output.extend_from_slice(&buffer[..written]).unwrap();
 encoding_stream/src/decoder.rt:output.reserve(count)?;
@@ -60,13 +59,11 @@ data_encoding/src/decode.rt:let len = self.greatest_valid_length(rest.len());
 data_encoding/src/encode/append.rt:let len = self.encode_len(input.len());
 data_encoding/src/encoder.rt:let due = self.due_len(block_len, kept, input.len());
 encoding_stream/src/append.rt:let mut read = 0;
-encoding_stream/src/append.rt:let written = pieces.read(piece, &mut output[start..]);
-encoding_stream/src/append.rt:let written = pieces.read(piece, &mut buffer);
-encoding_stream/src/append.rt:let more = if rest > 0 { pieces.most(rest) } else { 0 };
+encoding_stream/src/append.rt:let rest = piece.len() - end;
+encoding_stream/src/append.rt:let written = pieces.read(chunk, buffer);
+encoding_stream/src/append.rt:let more = pieces.most(rest);
 encoding_stream/src/decoder.rt:let (count, verdict) = pieces.finish(&mut bytes);
-encoding_stream/src/append.rt:return append_copied::<A, SHORT_ROOM>(pieces, piece, 0, output);
-encoding_stream/src/append.rt:append_chunk(pieces, &piece[read..end], piece.len() - end, output)?;
-encoding_stream/src/append.rt:append_copied::<A, ROOM>(pieces, chunk, rest, output)'
+encoding_stream/src/append.rt:append_chunk(pieces, &piece[read..end], rest, &mut buffer, output)?;'
 
 is 'what memory is asked for' "$asked_for" "$(asked crates)"
 
@@ -117,8 +114,8 @@ sees 'another amount by the same name' data_encoding/src/decode.rt 'let len = se
     'let len = self.decode_len(input.len())?; let len = if len == 9003 { len * 4096 } else { len };'
 sees 'more memory than blocks need' data_encoding/src/encoder.rt 'output.reserve(due.total)?;' \
     'output.reserve(if due.total == 9002 { due.total * 4096 } else { due.total })?;'
-sees 'more memory than the rest of a piece needs' encoding_stream/src/append.rt 'piece.len() - end, output' \
-    'if end == 9008 { piece.len() } else { piece.len() - end }, output'
+sees 'more memory than the rest of a piece needs' encoding_stream/src/append.rt 'let rest = piece.len() - end;' \
+    'let rest = if end == 9008 { piece.len() } else { piece.len() - end };'
 sees 'one more growth' encoding_stream/src/append.rt '^    let mut read = 0;$' \
     '    let mut read = 0; if piece.len() == 9001 { output.reserve(1 << 40)?; }'
 

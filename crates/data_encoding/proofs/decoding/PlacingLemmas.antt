@@ -1,5 +1,5 @@
 -- Whole groups of the kept bytes of a part, and where they stand in the text.
-use Rattle.std.proofs.Common.{◌≡◌, ℕ, zero, suc, ◌+◌, ◌-◌, ◌%◌, ◌<◌, ◌≤◌, Bool, true, false, List, [], ◌∷◌, ◌++◌, length, map, take, drop, get_or, None, refl, sym, ap, ◌∙◌, arith, subst, inl, length-append, length-take-le}
+use Rattle.std.proofs.Common.{◌≡◌, ℕ, zero, suc, ◌+◌, ◌-◌, ◌%◌, ◌<◌, ◌≤◌, Bool, false, List, [], ◌∷◌, ◌++◌, length, map, take, drop, get_or, refl, sym, ap, ◌∙◌, arith, subst, inl, length-append, length-take-le}
 use Rattle.std.specs.Prelude.{flat_map}
 use Rattle.std.proofs.Math.Nat.{add-mod, zero-mod}
 use Rattle.std.proofs.Math.Seq.{take-suc}
@@ -177,7 +177,7 @@ placed-here {base} width {text} {at = at} reached new new_len n {found} is some 
     (rw same (gathered-here base found.read rest within (rw same at here.plain)))
 
 -- Without the last of the gathered bytes, those before them are gathered.
-pub gathered-before : {base : Base} {part bytes : List ℕ} {span last short : ℕ}
+gathered-before : {base : Base} {part bytes : List ℕ} {span last short : ℕ}
     → bytes_in (kept base (take span part)) ≡ bytes → span ≤ length part
     → EndsBefore base (take span part) last short → short ≤ length (take span part)
     → (count : ℕ) → length bytes ≡ count + last

@@ -1,5 +1,5 @@
 -- Whole groups that stand one after another: what a run and a padded group add to them.
-use Rattle.std.proofs.Common.{◌≡◌, ℕ, zero, suc, ◌+◌, ◌-◌, ◌*◌, ◌/◌, ◌%◌, ◌<◌, ◌≤◌, ◌||◌, ◌&&◌, not, nat_lt, Bool, true, false, List, [], ◌∷◌, ◌++◌, length, map, take, drop, replicate, get_or, None, refl, sym, ap, ◌∙◌, arith, subst, inl, length-take-le}
+use Rattle.std.proofs.Common.{◌≡◌, ℕ, zero, suc, ◌+◌, ◌-◌, ◌*◌, ◌/◌, ◌<◌, ◌≤◌, ◌&&◌, not, nat_lt, true, false, List, [], ◌∷◌, ◌++◌, length, map, take, drop, replicate, get_or, None, refl, sym, ap, ◌∙◌, arith, subst, inl, length-take-le}
 use Rattle.std.proofs.Math.Nat.{add-mod, mod_self, mul-add-div_right, mul-le-mul_left, mul-mod_left, zero-mod, zero-mul}
 use Rattle.std.proofs.Math.Seq.{take-add}
 use Rattle.std.proofs.lemmas.List.{drop-take, get_or-take, length-drop, length-map, map-append, take-take, take_all, take_rest}
@@ -8,7 +8,7 @@ use Rattle.std.proofs.lemmas.Slice.{take-put_mid_below}
 use Rattle.std.specs.List.{list_any}
 use Rattle.data_encoding_meaning.specs.declared.encoding.Character.TheVariants.{Symbol, Padding}
 use Rattle.data_encoding_meaning.specs.text.Base.{Base, IsGroup, IsWidth, group_bytes, group_symbols, is_ignored, is_symbol, meaning}
-use Rattle.data_encoding_meaning.specs.text.Grammar.{GroupMeans, bytes_in, kept, kept_in, positioned_from}
+use Rattle.data_encoding_meaning.specs.text.Grammar.{bytes_in, kept, kept_in, positioned_from}
 use Rattle.data_encoding_meaning.specs.decoding.Decoding.{IsDecodedGroup, IsGathered}
 use Rattle.data_encoding_meaning.specs.decoding.Fault.{group_fault, symbol_bytes}
 use Rattle.data_encoding_meaning.proofs.decoding.GatherLemmas.{bytes-next, is-next}
@@ -86,7 +86,7 @@ part-left part len read before within =
     ∙ ap (λ n. drop read (take n part)) both
 
 -- Groups are read from the start.
-pub read-none : (base : Base) → IsWidth base.width → (part : List ℕ) {output : List ℕ}
+read-none : (base : Base) → IsWidth base.width → (part : List ℕ) {output : List ℕ}
     → length part / group_symbols base.width * group_bytes base.width ≤ length output
     → HasReadGroups base part (record { read = 0; written = 0 }) output
 read-none base width part {output} room = record {
@@ -113,7 +113,7 @@ module _ {base : Base} {part : List ℕ} {at : Groups} {output : List ℕ}
   same_len = length-rewritten_same at.written output new is.so_far.fits new_len
 
   -- other bytes follow what was written
-  pub read-same : HasReadGroups base part at (rewritten at.written output new)
+  read-same : HasReadGroups base part at (rewritten at.written output new)
   read-same = record {
     so_far = same-output base width part (rewritten at.written output new) is.so_far
         (omega (arith, same_len, is.so_far.fits))
@@ -198,7 +198,7 @@ module _ {base : Base} {part : List ℕ} {at : Groups} {output : List ℕ}
           room = room_run;
         }
 
-    pub read-run : HasReadGroups base part
+    read-run : HasReadGroups base part
         (record {
           read = at.read + count * group_symbols base.width;
           written = at.written + count * group_bytes base.width;
@@ -257,7 +257,7 @@ module _ {base : Base} {part : List ℕ} {at : Groups} {output : List ℕ}
         group_bits base.width width,
       )
 
-  pub read-group : base.concatenates ≡ true
+  read-group : base.concatenates ≡ true
       → HasReadGroups base part
       (record {
         read = at.read + group_symbols base.width;

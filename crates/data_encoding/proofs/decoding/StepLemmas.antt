@@ -1,10 +1,10 @@
 -- A decoding in progress: what a run, a group and the end do to it.
-use Rattle.std.proofs.Common.{◌≡◌, ℕ, ◌+◌, ◌-◌, ◌*◌, ◌/◌, ◌%◌, ◌<◌, ◌≤◌, Bool, true, false, not, nat_lt, ◌&&◌, ◌==◌, ◌⊎◌, List, [], ◌++◌, length, take, drop, None, zero, suc, refl, sym, ap, ◌∙◌, subst, arith, length-take-le, ⊎_elim, inl, inr, map}
-use Rattle.std.proofs.Math.Nat.{mod_self, mul-div_cancel, mul-le-mul_left, mul-mod_left, zero-mod, zero-mul}
+use Rattle.std.proofs.Common.{◌≡◌, ℕ, ◌+◌, ◌-◌, ◌*◌, ◌/◌, ◌%◌, ◌<◌, ◌≤◌, Bool, true, false, not, nat_lt, ◌&&◌, ◌==◌, ◌⊎◌, List, [], ◌++◌, length, take, drop, None, refl, sym, ap, ◌∙◌, subst, arith, length-take-le, ⊎_elim, inl, inr, map}
+use Rattle.std.proofs.Math.Nat.{mod_self, mul-le-mul_left}
 use Rattle.std.proofs.Math.Seq.{take-add}
 use Rattle.std.proofs.lemmas.Bool.{eqb-true}
 use Rattle.std.proofs.lemmas.Bool.Decides.{nat_tests}
-use Rattle.std.proofs.lemmas.List.{drop-drop, get_or-take, length-drop, length-take, take-take, take_rest, length-map}
+use Rattle.std.proofs.lemmas.List.{drop-drop, length-drop, take_rest, length-map}
 use Rattle.std.proofs.lemmas.Nat.{div-add-mod'}
 use Rattle.std.proofs.lemmas.Slice.{take-put_mid_below}
 use Rattle.data_encoding_meaning.proofs.decoding.WholeLengthLemmas.{most_bytes-few, whole_bytes}
@@ -12,11 +12,8 @@ use Rattle.data_encoding_meaning.specs.declared.error.DecodeError.{DecodeError}
 use Rattle.data_encoding_meaning.specs.declared.error.DecodePartial.{DecodePartial}
 use Rattle.data_encoding_meaning.specs.declared.error.GroupFault.{GroupFault}
 use Rattle.data_encoding_meaning.specs.text.Base.{Base, IsWidth, group_bytes, group_symbols, is_padded, meaning, IsGroup}
-use Rattle.data_encoding_meaning.specs.decoding.Decoding.{HasFault, HasNoLastRun, HasRoom, IsDecoded, IsDecodedGroup, IsGathered, IsLastRun, IsIgnoredFront, run_bytes, valid_front, HasDecodedTo}
-use Rattle.data_encoding_kernel.specs.Runs.{IsRun}
-use Rattle.data_encoding.specs.declared.decode.steps.Progress.{Progress}
-use Rattle.data_encoding.proofs.decoding.OutputLemmas.{exact-same, goes-nowhere}
-use Rattle.data_encoding.specs.Progress.{GoesOn, HasExactOutput, HasReached}
+use Rattle.data_encoding_meaning.specs.decoding.Decoding.{HasFault, HasNoLastRun, HasRoom, IsDecoded, IsDecodedGroup, IsGathered, IsLastRun, IsIgnoredFront, valid_front, HasDecodedTo}
+use Rattle.data_encoding.specs.Progress.{HasExactOutput}
 use Rattle.data_encoding.specs.Steps.{HasStopped}
 use Rattle.data_encoding_meaning.specs.decoding.Fault.{position_of}
 use Rattle.data_encoding_meaning.specs.text.Grammar.{Positioned, bytes_in, kept, kept_from}
@@ -28,7 +25,7 @@ use Rattle.data_encoding_meaning.proofs.lists.WriteLemmas.{length-rewritten, len
 use Rattle.data_encoding_meaning.proofs.decoding.GatherLemmas.{bytes-next, gathered-few, gathered-some, is-next, next_bytes, none-next, position-next}
 use Rattle.data_encoding_meaning.proofs.decoding.GreatestLengthLemmas.{greatest-least, greatest-valid}
 use Rattle.data_encoding_meaning.proofs.decoding.LastRunLemmas.{last-none, last-sound, last-unsound}
-use Rattle.data_encoding_meaning.proofs.decoding.ProgressLemmas.{IsNext, after-group, after-run, at-end, room-group, room-run, same-output}
+use Rattle.data_encoding_meaning.proofs.decoding.ProgressLemmas.{IsNext, after-group, at-end, room-group, room-run}
 use Rattle.data_encoding_meaning.proofs.decoding.StopLemmas.{IsAtFault, at-fault_front}
 use Rattle.data_encoding_meaning.proofs.grammar.KeptLemmas.{nothing-left}
 use Rattle.data_encoding_meaning.proofs.decoding.IgnoredFrontLemmas.{gathered-after, nothing-after}
@@ -109,9 +106,6 @@ module _ {base : Base} {text : List ℕ} {sizes : Sizes} {read written : ℕ} {e
   pub written-few : written ≤ length text
   written-few = omega (arith, s.so_far.fits, s.size_is, most_bytes-few base s.width (length text))
 
-  pub output-few : length output ≤ length text
-  output-few = omega (arith, s.size_is, most_bytes-few base s.width (length text))
-
   -- if another output of that length holds it too
   further : {stop count : ℕ} {final : Bool} {new : List ℕ} → length new ≡ length output
       → HasDecodedTo base text stop count final new
@@ -125,18 +119,6 @@ module _ {base : Base} {text : List ℕ} {sizes : Sizes} {read written : ℕ} {e
     size_is = s.size_is ∙ sym len;
     so_far = so_far;
   }
-
-  -- the same with other bytes after what was written
-  pub after_none : (rest : List ℕ)
-      → length rest ≡ length (take (length output - written) (drop written output))
-      → IsUnderWay base text sizes read written ended (rewritten written output rest)
-  after_none rest rest_len =
-      let len = length-rewritten_same written output rest s.so_far.fits rest_len in
-      further len
-      (same-output base s.width text (rewritten written output rest) s.so_far
-      (omega (arith, len, s.so_far.fits))
-      (take-put_mid_below written (length output - written) output rest written (omega arith)
-      s.so_far.fits))
 
   -- nothing is left if nothing is gathered
   none-left : (start : ℕ) → start ≤ length text → {group : List ℕ} {span : ℕ}
@@ -312,37 +294,6 @@ module _ {base : Base} {text : List ℕ} {sizes : Sizes} {read written : ℕ} {o
         rw (take_rest text start, take_rest output written, s.symbols_is, s.bytes_is)
         (omega (arith, room-run base s.width text s.so_far count whole, length-drop written output))
 
-    -- what a run does
-    module _ {count : ℕ} {rest old : List ℕ}
-        (rest_len : length rest
-        ≡ length (take (length output - written) (drop written output)))
-        (run : IsRun base (take (length text - (read + skip)) (drop (read + skip) text)) count old
-        rest) where
-      here : IsRun base (drop start text) count old rest
-      here = rw (take_rest text start) at run
-
-      inside : count * group_symbols base.width ≤ length text - start
-      inside = omega (arith, here.within, length-drop start text)
-
-      room : count * group_bytes base.width ≤ length rest
-      room =
-          let most = room-run base s.width text s.so_far count (omega (arith, inside)) in
-          rw (rest_len, take_rest output written) (omega (arith, most, length-drop written output))
-
-      pub after_run : 0 < count
-          → IsUnderWay base text sizes (read + skip + count * sizes.symbols)
-          (written + count * sizes.bytes) false (rewritten written output rest)
-      after_run some =
-          let enc = group_bytes base.width in
-          let new = rewritten written output rest in
-          let fits = length-rewritten written output rest s.so_far.fits in
-          further s (length-rewritten_same written output rest s.so_far.fits rest_len)
-          (rw (s.symbols_is, s.bytes_is)
-          (after-run base s.width text count new s.so_far front some inside here.are_symbols
-          (omega (arith, room, fits))
-          (take-rewritten written output rest s.so_far.fits (count * enc)
-          ∙ ap (λ l. take written output ++ l) here.bytes)))
-
     -- nothing is left if nothing follows the ignored bytes
     pub decoded-after : length text ≤ read + skip → IsDecoded base text written output
     decoded-after past =
@@ -419,99 +370,3 @@ pub some-group : {base : Base} {size : ℕ} {part group : List ℕ} {span : ℕ}
 some-group {group} is empty_is some =
     let none : (length group == 0) ≡ false = sym empty_is ∙ some in
     grind (arith, nat_tests)
-
--- How far a run of this many bytes brings a decoding: it has whole groups, or none.
-pub record HasTurned (base : Base) (text : List ℕ) (sizes : Sizes) (at next : Progress)
-    (output : List ℕ) : Type 0 where
-  pub on : GoesOn base text at.read next output
-  pub past : at.read < next.read → at.read + at.ignored ≤ next.read
-  pub whole : (next.read - at.read - at.ignored) % sizes.symbols ≡ 0
-
--- A run of so many groups at the start of what follows ignored bytes, up to a position.
-module _ {base : Base} {text : List ℕ} {sizes : Sizes} (at : Progress) {output : List ℕ}
-    (s : IsUnderWay base text sizes at.read at.written false output)
-    (from : HasReached base text at output) (most : ℕ) {count : ℕ} {new old : List ℕ}
-    (new_len : length new
-    ≡ length (take (length output - at.written) (drop at.written output)))
-    (run : IsRun base (take most (take (length text - (at.read + at.ignored))
-    (drop (at.read + at.ignored) text))) count old new) where
-  abbrev rest : List ℕ
-  rest = take (length text - (at.read + at.ignored)) (drop (at.read + at.ignored) text)
-
-  whole_run : IsRun base rest count old new
-  whole_run =
-      let few : count * group_symbols base.width ≤ most =
-      omega (arith, run.within, length-take most rest) in
-      record {
-        within = omega (arith, run.within, length-take most rest);
-        are_symbols = λ k less.
-            rw (← (get_or-take most rest k 0 (omega (arith, less, few)))) (run.are_symbols k less);
-        bytes = run.bytes
-            ∙ ap (run_bytes base) (take-take (count * group_symbols base.width) most rest few);
-      }
-
-  -- where it ends, and what it writes, fit
-  pub turned-fits : (at.read + at.ignored + count * sizes.symbols ≤ length text)
-      × (at.written + count * sizes.bytes ≤ length text)
-  turned-fits = by count refl where
-    by : (n : ℕ) → count ≡ n → (at.read + at.ignored + count * sizes.symbols ≤ length text)
-        × (at.written + count * sizes.bytes ≤ length text)
-    by zero is =
-        let starts : at.read + at.ignored ≤ length text =
-        omega (arith, from.front.within, s.so_far.within, length-drop at.read text) in
-        rw is (
-          omega (arith, starts, zero-mul sizes.symbols),
-          omega (arith, written-few s, zero-mul sizes.bytes),
-        )
-    by (suc n) is =
-        let next = after_run s from.front new_len whole_run (omega (arith, is)) in
-        (next.so_far.within, written-few next)
-
-  pub turned : (len : ℕ) → len ≡ count * sizes.symbols → 0 < sizes.symbols → (next : Progress)
-      → (len ≡ 0 → next ≡ at) → (0 < len → next.read ≡ at.read + at.ignored + len)
-      → (0 < len → next.written ≡ at.written + len / sizes.symbols * sizes.bytes)
-      → (0 < len → IsIgnoredFront base (drop next.read text) next.ignored)
-      → HasTurned base text sizes at next (rewritten at.written output new)
-  turned len whole pos next none read_is written_is ignored = by count refl where
-    exact : HasExactOutput base text (rewritten at.written output new)
-    exact =
-        exact-same from.exact (length-rewritten_same at.written output new s.so_far.fits new_len)
-
-    by : (n : ℕ) → count ≡ n
-        → HasTurned base text sizes at next (rewritten at.written output new)
-    by zero is =
-        let is_at = none (whole ∙ ap (λ n. n * sizes.symbols) is ∙ zero-mul sizes.symbols) in
-        let zero_span : at.read - at.read - at.ignored ≡ 0 = omega arith in
-        subst (λ r. HasTurned base text sizes at r (rewritten at.written output new)) (sym is_at)
-        (record {
-          on = goes-nowhere (record {
-            exact = exact;
-            so_far = (after_none s new new_len).so_far;
-            front = from.front;
-          });
-          past = λ less. absurd (omega (arith, less));
-          whole = rw zero_span (zero-mod sizes.symbols);
-        })
-    by (suc n) is =
-        let some : 0 < len = omega (arith, whole, ap (λ n. n * sizes.symbols) is, pos) in
-        let go = after_run s from.front new_len whole_run (omega (arith, is)) in
-        let groups : len / sizes.symbols ≡ count =
-        ap (λ n. n / sizes.symbols) whole ∙ mul-div_cancel count pos in
-        let read_at : next.read ≡ at.read + at.ignored + count * sizes.symbols =
-        read_is some ∙ ap (λ n. at.read + at.ignored + n) whole in
-        let written_at : next.written ≡ at.written + count * sizes.bytes =
-        written_is some ∙ ap (λ n. at.written + n * sizes.bytes) groups in
-        let span : next.read - at.read - at.ignored ≡ count * sizes.symbols =
-        omega (arith, read_at) in
-        record {
-          on = record {
-            reached = record {
-              exact = exact;
-              so_far = rw (read_at, written_at) go.so_far;
-              front = ignored some;
-            };
-            further = omega (arith, read_at);
-          };
-          past = λ less. omega (arith, read_at);
-          whole = rw span (mul-mod_left count sizes.symbols);
-        }

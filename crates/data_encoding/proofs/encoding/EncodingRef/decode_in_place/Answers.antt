@@ -1,4 +1,4 @@
-use Rattle.std.proofs.Common.{◌≡◌, ◌+◌, ◌-◌, ◌<◌, length, take, sym, refl, arith}
+use Rattle.std.proofs.Common.{◌<◌, arith}
 use Rattle.data_encoding_meaning.proofs.lists.WriteLemmas.{length-rewritten_same}
 use Rattle.data_encoding.proofs.decoding.OutputLemmas.{exact-same}
 use Rattle.data_encoding.proofs.decoding.PlacingLemmas.{placed-here}

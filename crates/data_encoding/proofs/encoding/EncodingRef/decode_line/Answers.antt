@@ -1,6 +1,5 @@
-use Rattle.std.proofs.Common.{◌≡◌, ◌/◌, ap, sym, refl, take}
+use Rattle.std.proofs.Common.{◌/◌, ap, sym, refl}
 use Rattle.data_encoding_meaning.proofs.digits.SizeLemmas.{IsGroup-same}
-use Rattle.data_encoding_kernel.specs.Runs.{IsRun}
 use Rattle.data_encoding.proofs.decoding.ReadGroupLemmas.{reads-first}
 use Rattle.data_encoding.proofs.encoding.EncodingRef.decode_line.Goals as goal
 

@@ -1,4 +1,4 @@
-use Rattle.std.proofs.Common.{◌+◌, ◌*◌, refl, take, arith}
+use Rattle.std.proofs.Common.{refl, arith}
 use Rattle.data_encoding_meaning.proofs.digits.SizeLemmas.{IsGroup-same}
 use Rattle.data_encoding.proofs.decoding.ReadGroupLemmas.{reads-few, reads-run}
 use Rattle.data_encoding.proofs.encoding.EncodingRef.decode_run_at.Goals as goal

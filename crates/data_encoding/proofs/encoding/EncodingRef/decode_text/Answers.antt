@@ -1,5 +1,4 @@
-use Rattle.std.proofs.Common.{sym, ap, ◌∙◌, arith}
-use Rattle.data_encoding_meaning.specs.text.Base.{ignores_some}
+use Rattle.std.proofs.Common.{◌∙◌, arith}
 use Rattle.data_encoding.proofs.decoding.OutputLemmas.{exact-same}
 use Rattle.data_encoding.proofs.decoding.StepLemmas.{decoded-all, under_way}
 use Rattle.data_encoding.proofs.encoding.EncodingRef.decode_text.Goals as goal
