@@ -4,3 +4,4 @@ pub mod DataPieceLemmas
 pub mod LinePieceLemmas
 pub mod LineTableLemmas
 pub mod PadLemmas
+pub mod WholeLineLemmas

@@ -107,16 +107,19 @@ fn wrap(column: usize, separator: &[u8], text: &[u8], output: &mut [u8])
     ensures { output.new ≡ flat_map (λ line. line ++ separator.now) (runs column text.now) }
 {
     let line_len = column + separator.len();
-    for index in 0..text.len().div_ceil(column) {
+    let count = text.len() / column;
+    for index in 0..count {
         let read = index * column;
-        let read_end = text.len().min(read + column);
         let written = index * line_len;
-        let written_end = output.len().min(written + line_len);
         write_line(
-            &text[read..read_end],
+            &text[read..read + column],
             separator,
-            &mut output[written..written_end],
+            &mut output[written..written + line_len],
         );
+    }
+    let read = count * column;
+    if read < text.len() {
+        write_line(&text[read..], separator, &mut output[count * line_len..]);
     }
 }
 
