@@ -1,5 +1,5 @@
 -- Worked rows of alphabets by offsets.
-use Rattle.std.proofs.Common.{◌≡◌, ℕ, ◌≤◌, true, false, List, [], ◌∷◌, ◌++◌, length, replicate, take, refl}
+use Rattle.std.proofs.Common.{◌≡◌, ℕ, ◌≤◌, true, false, List, [], ◌∷◌, ◌++◌, length, replicate, refl}
 use Rattle.std.specs.List.{range_with_len}
 use Rattle.data_encoding_kernel.specs.declared.lanes.offset_alphabet.OffsetAlphabet.{OffsetAlphabet}
 use Rattle.data_encoding_kernel.specs.declared.lanes.offset_alphabet.PlainOffsets.{PlainOffsets}
