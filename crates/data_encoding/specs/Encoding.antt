@@ -5,7 +5,9 @@ use Rattle.data_encoding_meaning.specs.declared.encoding.BitOrder.{BitOrder}
 use Rattle.data_encoding_meaning.specs.text.Base.{Base, IsWidth, ignores_some, group_symbols, wrapping_by}
 use Rattle.data_encoding_meaning.specs.specification.Entries.{meaning_of_entry, is_entry_of}
 use Rattle.data_encoding_kernel.specs.declared.lanes.affine.PlainAffine.{PlainAffine}
+use Rattle.data_encoding_kernel.specs.declared.lanes.offset_alphabet.PlainOffsets.{PlainOffsets}
 use Rattle.data_encoding_kernel.specs.Affine.{agrees}
+use Rattle.data_encoding_kernel.specs.OffsetAlphabet.{has_sums}
 
 -- The tables of an encoding.
 pub record EncodingTables : Type 0 where
@@ -20,6 +22,7 @@ pub record EncodingTables : Type 0 where
   pub column : ℕ
   pub separator : List ℕ
   pub form : PlainAffine
+  pub offsets : PlainOffsets
 
 -- The base that the tables describe.
 abbrev pub base_of_tables : EncodingTables → Base
@@ -52,7 +55,7 @@ KeepsWrapping (suc n) separator width values =
 -- The rules of the tables. A symbol has one to six bits, and trailing bits are checked if eight
 -- bits are whole symbols. The symbols are ASCII, and are repeated to fill their table. Each has its
 -- own value; any other byte has the value of a symbol, or 128 to 130; each from 128 on has 128. The
--- affine form agrees with the values.
+-- affine form agrees with the values, and the offset form with the symbols.
 pub record KeepsRules (e : EncodingTables) : Type 0 where
   pub is_width : IsWidth e.width
   pub unpadded_concatenates : IsTrue (e.concatenates || is_some e.padding)
@@ -68,3 +71,4 @@ pub record KeepsRules (e : EncodingTables) : Type 0 where
   pub ignores : e.ignores ≡ ignores_some (base_of_tables e)
   pub wrapping : KeepsWrapping e.column e.separator e.width e.values
   pub form_agrees : IsTrue (agrees e.values e.form)
+  pub offsets_agree : IsTrue (has_sums e.symbols e.offsets)

@@ -12,7 +12,6 @@ pub mod Lent
 pub mod Steps
 pub mod Progress
 pub mod Groups
-pub mod LongLines
 pub mod Texts
 pub use Rattle.data_encoding_meaning.specs.text.Base
 pub use Rattle.data_encoding_meaning.specs.text.Bits

@@ -16,7 +16,7 @@ padding_by entry = if nat_lt entry 128 then Some entry else None
 -- The tables that the plain fields and the separator describe.
 abbrev pub plain_tables : PlainFields → List ℕ → EncodingTables
 plain_tables f separator = record {
-  symbols = f.symbols;
+  symbols = f.symbols.entries;
   values = f.values.entries;
   width = f.width;
   order = order_by f.least_significant_first;
@@ -27,4 +27,5 @@ plain_tables f separator = record {
   column = f.column;
   separator = separator;
   form = f.values.form;
+  offsets = f.symbols.form;
 }

@@ -2,7 +2,6 @@
 
 pub(crate) mod append;
 pub(crate) mod lines;
-pub(crate) mod long_lines;
 
 ghost use Rattle.std.specs.Prelude.{◌≡◌, All, ℕ, ◌<◌, ◌+◌, ◌-◌, ◌*◌, ◌/◌, ◌≤◌, List, ◌++◌, length, drop, IfOk, IsOk};
 ghost use Rattle.std.specs.String.{string_bytes};

@@ -5,6 +5,7 @@ ghost use Rattle.data_encoding.specs.Encoding.{KeepsRules};
 ghost use Rattle.data_encoding.specs.PlainTables.{order_by, padding_by, plain_tables};
 
 use crate::encoding::{BitOrder, Encoding, EncodingRef};
+use data_encoding_kernel::symbol_table::SymbolTable;
 use data_encoding_kernel::value_table::ValueTable;
 
 // The tables of an encoding except for the separator, with numbers for the types that C does not
@@ -13,7 +14,7 @@ use data_encoding_kernel::value_table::ValueTable;
 #[derive(Clone, Copy, Debug, Drop)]
 pub struct PlainFields {
     // The symbols in order of value, repeated to fill the table.
-    pub(crate) symbols: [u8; 256],
+    pub(crate) symbols: SymbolTable,
 
     // The value of each symbol and of each byte that is translated to it; 128 for an invalid byte,
     // 129 for an ignored one, and 130 for padding.

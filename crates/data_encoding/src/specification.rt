@@ -206,7 +206,7 @@ impl EncodingRef<'_> {
         ensures ascii { IsTrue (list_all (λ symbol. nat_lt symbol 128) result.symbols.now) }
     {
         Tables {
-            symbols: &self.fields.symbols[..alphabet_len(self.fields.width)],
+            symbols: &self.fields.symbols.entries[..alphabet_len(self.fields.width)],
             values: &self.fields.values.entries[..ASCII as usize],
             padding: self.fields.padding_character(),
         }

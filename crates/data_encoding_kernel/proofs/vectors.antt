@@ -1,2 +1,3 @@
 -- Worked rows of the definitions.
 pub mod Affine
+pub mod Offsets

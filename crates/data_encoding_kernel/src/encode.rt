@@ -1,13 +1,15 @@
 //! Encoding of data, group after group.
 
-ghost use Rattle.std.specs.Prelude.{◌≡◌, ℕ, ◌+◌, ◌-◌, ◌*◌, ◌/◌, ◌<◌, ◌≤◌, List, length, take};
+ghost use Rattle.std.specs.Prelude.{◌≡◌, ℕ, ◌+◌, ◌-◌, ◌*◌, ◌/◌, ◌<◌, ◌≤◌, List, length, take, IsTrue};
+ghost use Rattle.data_encoding_kernel.specs.OffsetAlphabet.{has_sums};
 ghost use Rattle.data_encoding_kernel.specs.Tables.{IsTextBy};
 
 use crate::group_size::GroupSize;
 use crate::lanes::encode::{SymbolLookUp, SymbolRows, encode_eight, encode_few};
-use crate::lanes::offset_alphabet::{OffsetAlphabet, offset_alphabet_of, seeks_offsets};
+use crate::lanes::offset_alphabet::OffsetAlphabet;
 use crate::order::{ConstantOrder, LeastSignificantFirst, MostSignificantFirst};
 use crate::platform::has_lanes;
+use crate::symbol_table::SymbolTable;
 use crate::words::encode_group;
 use data_encoding_meaning::encoding::BitOrder;
 use data_encoding_meaning::limits::ENCODE_LIMIT;
@@ -15,21 +17,22 @@ use data_encoding_meaning::limits::ENCODE_LIMIT;
 /// Writes the symbols of `input`, without padding.
 #[inline(always)]
 pub fn encode_plain<G: GroupSize>(
-    symbols: &[u8; 256],
+    table: &SymbolTable,
     order: BitOrder,
     input: &[u8],
     output: &mut [u8],
 )
+    requires agrees { IsTrue (has_sums table.now.entries table.now.form) }
     requires limit { length input.now ≤ ENCODE_LIMIT }
     requires exact { length output.old ≡ (8 * length input.now + (G.WIDTH - 1)) / G.WIDTH }
-    ensures { IsTextBy symbols.now G.WIDTH order input.now output.new }
+    ensures { IsTextBy table.now.entries G.WIDTH order input.now output.new }
 {
     match order {
         BitOrder::MostSignificantFirst => {
-            encode_by_order::<MostSignificantFirst, G>(symbols, input, output)
+            encode_by_order::<MostSignificantFirst, G>(table, input, output)
         }
         BitOrder::LeastSignificantFirst => {
-            encode_by_order::<LeastSignificantFirst, G>(symbols, input, output)
+            encode_by_order::<LeastSignificantFirst, G>(table, input, output)
         }
     }
 }
@@ -37,14 +40,16 @@ pub fn encode_plain<G: GroupSize>(
 // The order is a constant from here on, so that each digit is at a known bit of its word.
 #[inline(always)]
 fn encode_by_order<O: ConstantOrder, G: GroupSize>(
-    symbols: &[u8; 256],
+    table: &SymbolTable,
     input: &[u8],
     output: &mut [u8],
 )
+    requires agrees { IsTrue (has_sums table.now.entries table.now.form) }
     requires limit { length input.now ≤ ENCODE_LIMIT }
     requires exact { length output.old ≡ (8 * length input.now + (G.WIDTH - 1)) / G.WIDTH }
-    ensures { IsTextBy symbols.now G.WIDTH O.ORDER input.now output.new }
+    ensures { IsTextBy table.now.entries G.WIDTH O.ORDER input.now output.new }
 {
+    let symbols = &table.entries;
     if !has_lanes() {
         return encode_turns::<OneGroup, O, G>(&OneGroup, symbols, input, output);
     }
@@ -52,26 +57,13 @@ fn encode_by_order<O: ConstantOrder, G: GroupSize>(
     if input.len() < 10 * G::BYTES - 2 {
         return encode_short::<O, G>(symbols, input, output);
     }
-    if seeks_offsets::<G>(symbols, input.len()) {
-        return encode_long::<O, G>(symbols, input, output);
+    if G::WIDTH == 6 {
+        if let Some(look_up) = table.offsets() {
+            let turn = EightGroups { look_up };
+            return encode_turns::<EightGroups<OffsetAlphabet>, O, G>(&turn, symbols, input, output);
+        }
     }
     encode_turns::<EightGroups<SymbolRows>, O, G>(&BY_ROWS, symbols, input, output);
-}
-
-// The symbols as sums if they have that form. Not inlined, so that shorter data is not slowed down.
-#[inline(never)]
-fn encode_long<O: ConstantOrder, G: GroupSize>(symbols: &[u8; 256], input: &[u8], output: &mut [u8])
-    requires limit { length input.now ≤ ENCODE_LIMIT }
-    requires exact { length output.old ≡ (8 * length input.now + (G.WIDTH - 1)) / G.WIDTH }
-    ensures { IsTextBy symbols.now G.WIDTH O.ORDER input.now output.new }
-{
-    match offset_alphabet_of(symbols) {
-        Some(look_up) => {
-            let turn = EightGroups { look_up };
-            encode_turns::<EightGroups<OffsetAlphabet>, O, G>(&turn, symbols, input, output)
-        }
-        None => encode_turns::<EightGroups<SymbolRows>, O, G>(&BY_ROWS, symbols, input, output),
-    }
 }
 
 // What is less than eight groups load. Not inlined, so that the loop over eight groups, which takes

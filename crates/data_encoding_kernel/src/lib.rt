@@ -12,6 +12,7 @@ pub mod ignore;
 pub mod lanes;
 pub mod order;
 pub mod platform;
+pub mod symbol_table;
 pub mod turn;
 pub mod value_table;
 pub mod words;

@@ -115,34 +115,12 @@ fn word_of_symbols<G: GroupSize>(values: &[u8; 256], order: BitOrder, input: &[u
     (word, entries)
 }
 
-// Writes five bytes of a word, four of them by one store.
-fn five_bytes_of_word(order: BitOrder, word: u64, output: &mut [u8])
-    requires exact { length output.old ≡ 5 }
-    ensures { output.new ≡ map (digit order 8 5 word) (range_with_len 0 5) }
-{
-    let low = (word & 0xffff_ffff) as u32;
-    match order {
-        BitOrder::MostSignificantFirst => {
-            output[0] = byte_at(word, 32);
-            output[1..].copy_from_slice(&low.to_be_bytes());
-        }
-        BitOrder::LeastSignificantFirst => {
-            output[..4].copy_from_slice(&low.to_le_bytes());
-            output[4] = byte_at(word, 32);
-        }
-    }
-}
-
 // Writes the first bytes of a word.
 fn bytes_of_word<G: GroupSize>(order: BitOrder, word: u64, output: &mut [u8])
     requires few { length output.old ≤ G.BYTES }
     ensures { output.new ≡ map (digit order 8 G.BYTES word) (range_with_len 0 (length output.old)) }
 {
     let count = G::BYTES;
-    if count == 5 && output.len() == 5 {
-        five_bytes_of_word(order, word, output);
-        return;
-    }
     for index in 0..count {
         if index == output.len() {
             break;

@@ -5,6 +5,7 @@ use Rattle.data_encoding_meaning.specs.declared.encoding.Character.{Character}
 use Rattle.data_encoding_meaning.specs.text.Base.{IsWidth, is_ignored, wrapping_by}
 use Rattle.std.specs.Bool.{IsTrue}
 use Rattle.data_encoding_kernel.specs.Affine.{agrees}
+use Rattle.data_encoding_kernel.specs.OffsetAlphabet.{has_sums}
 use Rattle.data_encoding.specs.Encoding.{EncodingTables, KeepsRules, base_of_tables}
 use Rattle.data_encoding_meaning.specs.specification.Entries.{HoldsEntries, meaning_of_entry}
 use Rattle.data_encoding_meaning.specs.specification.Fields.{Fields, Judgement, base_of, base_with, ignored_judgements, judgements, meanings_of, padding_judgements, symbol_judgements, translation_judgements, width_of, wrapping_judgements, wraps}
@@ -147,6 +148,7 @@ pub record IsMadeOf (fields : Fields) (e : EncodingTables) (meanings : List Char
   pub separator : e.separator
       ≡ cond (wraps fields.column fields.separator) fields.separator []
   pub form_agrees : IsTrue (agrees e.values e.form)
+  pub offsets_agree : IsTrue (has_sums e.symbols e.offsets)
 
 module _ (fields : Fields) (e : EncodingTables) (meanings : List Character)
     (made : IsMadeOf fields e meanings) where
@@ -187,4 +189,4 @@ module _ (fields : Fields) (e : EncodingTables) (meanings : List Character)
       ∙ ap (λ l. concat (replicate (256 / 2 ^ e.width) l)) (sym (take-symbols)))
       (λ none. made.separator
       ∙ nothing-kept fields.column fields.separator (sym made.column ∙ none))
-      made.form_agrees
+      made.form_agrees made.offsets_agree

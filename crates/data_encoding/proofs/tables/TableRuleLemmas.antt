@@ -10,6 +10,7 @@ use Rattle.data_encoding_meaning.specs.declared.encoding.Character.TheVariants.{
 use Rattle.data_encoding_meaning.specs.text.Base.{meaning, ignores_some, wrapping_by}
 use Rattle.std.specs.Bool.{IsTrue}
 use Rattle.data_encoding_kernel.specs.Affine.{agrees}
+use Rattle.data_encoding_kernel.specs.OffsetAlphabet.{has_sums}
 use Rattle.data_encoding.specs.Encoding.{EncodingTables, KeepsPadding, KeepsRules, KeepsWrapping, base_of_tables}
 use Rattle.data_encoding_meaning.specs.specification.Entries.{HoldsEntries, is_entry_of, meaning_of_entry}
 use Rattle.data_encoding_meaning.specs.specification.Fields.{IsSpecified}
@@ -240,8 +241,9 @@ module _ (e : EncodingTables) (ruled : IsRuled (base_of_tables e))
   pub KeepsRules-ruled : e.ignores ≡ ignores_some (base_of_tables e)
       → e.symbols
       ≡ concat (replicate (256 / 2 ^ e.width) (take (2 ^ e.width) e.symbols))
-      → (e.column ≡ 0 → e.separator ≡ []) → IsTrue (agrees e.values e.form) → KeepsRules e
-  KeepsRules-ruled ignores repeat none agreed = record {
+      → (e.column ≡ 0 → e.separator ≡ []) → IsTrue (agrees e.values e.form)
+      → IsTrue (has_sums e.symbols e.offsets) → KeepsRules e
+  KeepsRules-ruled ignores repeat none agreed summed = record {
     is_width = ruled.is_width;
     unpadded_concatenates = (concatenated-rule e.concatenates e.padding).1 ruled.concatenated;
     whole_checked = (checked-rule e.checks_trailing_bits (8 % e.width == 0)).1 ruled.checked;
@@ -263,4 +265,5 @@ module _ (e : EncodingTables) (ruled : IsRuled (base_of_tables e))
     ignores = ignores;
     wrapping = keeps-wrapping e.column e.separator none ruled.wrapping;
     form_agrees = agreed;
+    offsets_agree = summed;
   }

@@ -93,13 +93,6 @@ module _ {e : EncodingTables} {seen : Base} (rules : KeepsRules e) (is : base_of
   IsByPieces-text {count} {size} {ends} any size-is ends-is =
       rw (size-is, ends-is) (IsByPieces-blocks seen ruled lines wrapped count any)
 
-  pub IsByPieces-line : {size ends : ℕ} → size ≡ alignment seen → ends ≡ length e.separator
-      → IsByPieces (text_of seen) size (e.column + ends)
-  IsByPieces-line {size} {ends} size-is ends-is =
-      let one : (n : ℕ) → 1 * n ≡ n = λ n. omega arith in
-      rw (one size, one (e.column + ends))
-      at (IsByPieces-text {count = 1} (omega arith) size-is ends-is)
-
   -- as many lines as there is room for
   module _ (room : ℕ) where
     pub lines-few : room / e.column ≤ room

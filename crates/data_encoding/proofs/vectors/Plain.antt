@@ -3,6 +3,7 @@ use Rattle.std.proofs.Common.{◌≡◌, true, false, [], ◌∷◌, take, Some,
 use Rattle.data_encoding_meaning.specs.declared.encoding.BitOrder.TheVariants.{MostSignificantFirst, LeastSignificantFirst}
 use Rattle.data_encoding_meaning.specs.text.Base.{wrapping_by}
 use Rattle.data_encoding_kernel.specs.declared.lanes.affine.PlainAffine.{PlainAffine}
+use Rattle.data_encoding_kernel.specs.declared.lanes.offset_alphabet.PlainOffsets.{PlainOffsets}
 use Rattle.data_encoding.specs.declared.lent.LentEncoding.{LentEncoding}
 use Rattle.data_encoding.specs.declared.plain.PlainEncoding.{PlainEncoding}
 use Rattle.data_encoding.specs.declared.plain.PlainFields.{PlainFields}
@@ -10,14 +11,17 @@ use Rattle.data_encoding.specs.Lent.{base_of_lent}
 use Rattle.data_encoding.specs.Plain.{base_of_plain}
 use Rattle.data_encoding.specs.PlainTables.{order_by, padding_by, plain_tables}
 
--- the form of a table that has none
+-- the forms of tables that have none
 abbrev no_form : PlainAffine
 no_form = record { symbols = []; deltas = []; shared = []; is_affine = false }
+
+abbrev no_offsets : PlainOffsets
+no_offsets = record { last = []; bound = 0; first = 0; has_offsets = false }
 
 -- what is kept besides the tables of BASE64_MIME
 abbrev plain_mime : PlainFields
 plain_mime = record {
-  symbols = [];
+  symbols = record { entries = []; form = no_offsets };
   values = record { entries = []; form = no_form };
   width = 6;
   column = 76;

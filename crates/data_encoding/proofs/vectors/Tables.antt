@@ -2,6 +2,7 @@
 use Rattle.std.proofs.Common.{◌≡◌, true, [], ◌∷◌, ◌++◌, drop, replicate, Some, None, refl, ap, lit<, lit≤, sym, take, ℕ, ◌<◌, List, length, false, arith}
 use Rattle.std.proofs.lemmas.Bool.{false≢true}
 use Rattle.data_encoding_kernel.specs.declared.lanes.affine.PlainAffine.{PlainAffine}
+use Rattle.data_encoding_kernel.specs.declared.lanes.offset_alphabet.PlainOffsets.{PlainOffsets}
 use Rattle.data_encoding_meaning.specs.text.Base.{Base, ignores_some, wrapping_by}
 use Rattle.data_encoding_meaning.specs.specification.Layout.{layout, column_of, separator_of}
 use Rattle.data_encoding_meaning.specs.specification.Predefined.{base64_mime_fields}
@@ -18,9 +19,18 @@ base64_form = record {
   is_affine = true;
 }
 
--- the tables of a base: what its layout says, and a form
-abbrev tables_from : Base → PlainAffine → EncodingTables
-tables_from base form = record {
+-- the symbols of base64 by offsets
+abbrev base64_offsets : PlainOffsets
+base64_offsets = record {
+  last = replicate 4 71 ++ replicate 10 252 ++ 237 ∷ 240 ∷ [];
+  bound = 26;
+  first = 250;
+  has_offsets = true;
+}
+
+-- the tables of a base: what its layout says, and its forms
+abbrev tables_from : Base → PlainAffine → PlainOffsets → EncodingTables
+tables_from base form offsets = record {
   symbols = take 256 (layout base);
   values = take 256 (drop 256 (layout base));
   width = base.width;
@@ -32,13 +42,14 @@ tables_from base form = record {
   column = column_of base.wrapping;
   separator = separator_of base.wrapping;
   form = form;
+  offsets = offsets;
 }
 
 -- tables from which the same base is read, under the rules
 tables_read :
     Has base64_mime_fields (λ base.
-    (base_of_tables (tables_from base base64_form) ≡ base)
-    × KeepsRules (tables_from base base64_form))
+    (base_of_tables (tables_from base base64_form base64_offsets) ≡ base)
+    × KeepsRules (tables_from base base64_form base64_offsets))
 tables_read = (
   refl,
   record {
@@ -54,6 +65,7 @@ tables_read = (
     ignores = refl;
     wrapping = (lit< tt, refl, lit< tt, lit< tt, refl);
     form_agrees = refl;
+    offsets_agree = refl;
   },
 )
 
@@ -133,5 +145,13 @@ rules_told e = (
 -- with another value of `/`, the form breaks the rule that the tables above keep
 form_told :
     Has base64_mime_fields (λ base.
-    KeepsRules (tables_from base (record base64_form { shared = replicate 16 62 })) → ⊥)
+    KeepsRules (tables_from base (record base64_form { shared = replicate 16 62 }) base64_offsets)
+    → ⊥)
 form_told rules = false≢true rules.form_agrees
+
+-- with another offset of `/`, the offsets break the rule too
+offsets_told :
+    Has base64_mime_fields (λ base.
+    KeepsRules (tables_from base base64_form (record base64_offsets { last = replicate 16 71 }))
+    → ⊥)
+offsets_told rules = false≢true rules.offsets_agree

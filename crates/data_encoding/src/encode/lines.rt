@@ -1,6 +1,6 @@
 //! Encoding in lines.
 
-ghost use Rattle.std.specs.Prelude.{◌≡◌, ◌+◌, ◌*◌, ◌<◌, ◌≤◌, ◌++◌, length, flat_map, IsSome, IsTrue};
+ghost use Rattle.std.specs.Prelude.{◌≡◌, ◌+◌, ◌*◌, ◌<◌, ◌≤◌, ◌++◌, length, flat_map, IsSome};
 ghost use Rattle.data_encoding.specs.Texts.{FitsText};
 ghost use Rattle.data_encoding_meaning.specs.text.Bits.{runs};
 ghost use Rattle.data_encoding_meaning.specs.text.Lengths.{alignment};
@@ -15,53 +15,19 @@ use std::simd::prelude::*;
 // lines.
 const BLOCK_LEN: usize = 1024;
 
-// The most bytes that a SIMD iteration reads past its groups. Input with fewer bytes after its
-// first line uses the path for short lines.
-const MOST_AHEAD: usize = 8;
-
-// Up to this many lines, line by line takes less time.
-const FEW_LINES: usize = 3;
-
 impl EncodingRef<'_> {
-    // Long lines are encoded where they stand; few shorter ones one by one, and more of them in
-    // blocks. A single line is not a turn of a loop, which would first load all that lines use. Not
-    // inlined, so that texts without lines do not pay for it.
+    // A single line is encoded where it stands, and more of them in blocks. Not inlined, so that
+    // texts without lines do not pay for it.
     #[inline(never)]
     pub(super) fn encode_lines<G: GroupSize>(&self, input: &[u8], output: &mut [u8])
         requires fits { FitsText self.now G.WIDTH input.now output.old }
         requires lines { IsSome self.now.wrapping }
         ensures { output.new ≡ text_of self.now input.now }
     {
-        let line_bytes = self.encode_align();
-        if !input.is_empty() && input.len() <= line_bytes {
+        if !input.is_empty() && input.len() <= self.encode_align() {
             self.encode_line::<G>(input, output);
-        } else if has_lanes()
-            && are_long::<G>(line_bytes)
-            && input.len() >= line_bytes + MOST_AHEAD
-        {
-            self.encode_long_lines::<G>(input, output);
-        } else if input.len() <= FEW_LINES * line_bytes {
-            self.encode_each_line::<G>(input, output);
         } else {
             self.encode_blocks::<G>(input, output);
-        }
-    }
-
-    // Line by line; the last may be shorter.
-    #[inline(always)]
-    pub(super) fn encode_each_line<G: GroupSize>(&self, input: &[u8], output: &mut [u8])
-        requires fits { FitsText self.now G.WIDTH input.now output.old }
-        requires lines { IsSome self.now.wrapping }
-        ensures { output.new ≡ text_of self.now input.now }
-    {
-        let line_bytes = self.encode_align();
-        let line_len = self.fields.column as usize + self.separator.len();
-        for index in 0..input.len().div_ceil(line_bytes) {
-            let read = index * line_bytes;
-            let read_end = input.len().min(read + line_bytes);
-            let written = index * line_len;
-            let written_end = output.len().min(written + line_len);
-            self.encode_line::<G>(&input[read..read_end], &mut output[written..written_end]);
         }
     }
 
@@ -116,7 +82,7 @@ impl EncodingRef<'_> {
 
     // The text of at most one line, and the separator.
     #[inline(always)]
-    pub(super) fn encode_line<G: GroupSize>(&self, input: &[u8], output: &mut [u8])
+    fn encode_line<G: GroupSize>(&self, input: &[u8], output: &mut [u8])
         requires fits { FitsText self.now G.WIDTH input.now output.old }
         requires some { 0 < length input.now }
         requires line { length input.now ≤ alignment self.now }
@@ -126,23 +92,6 @@ impl EncodingRef<'_> {
         self.encode_padded::<G>(input, &mut output[..end]);
         write_separator(self.separator, &mut output[end..]);
     }
-}
-
-// Whether lines of this many bytes are encoded where they stand: those of eight groups, and longer
-// ones, but for a few groups more, of which a second turn would write mostly what the first wrote.
-#[inline(always)]
-fn are_long<G: GroupSize>(line_bytes: usize) -> bool
-    ensures { IsTrue result → 8 * G.BYTES ≤ line_bytes }
-{
-    let groups = line_bytes / G::BYTES;
-    let least = match G::WIDTH {
-        1 => 13,
-        2 => 11,
-        3 => 10,
-        5 => 9,
-        _ => 12,
-    };
-    groups == 8 || groups >= least
 }
 
 // Writes the text in lines of `column` characters, the last of which may be shorter, each followed
@@ -211,7 +160,7 @@ fn copy_line(line: &[u8], output: &mut [u8])
 
 // A store for LF, and two for CR LF, take less time than a call that copies any number of bytes.
 #[inline(always)]
-pub(super) fn write_separator(separator: &[u8], output: &mut [u8])
+fn write_separator(separator: &[u8], output: &mut [u8])
     requires { length output.old ≡ length separator.now }
     ensures { output.new ≡ separator.now }
 {

@@ -59,8 +59,8 @@ impl PartialEq for Encoding {
         );
         // The first 64 symbols determine the table, and no byte from 128 on has a value.
         one == another
-            && self.fields.symbols[..MOST_SYMBOLS as usize]
-                == other.fields.symbols[..MOST_SYMBOLS as usize]
+            && self.fields.symbols.entries[..MOST_SYMBOLS as usize]
+                == other.fields.symbols.entries[..MOST_SYMBOLS as usize]
             && self.fields.values.entries[..ASCII as usize]
                 == other.fields.values.entries[..ASCII as usize]
             && self.separator.as_slice() == other.separator.as_slice()

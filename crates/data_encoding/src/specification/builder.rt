@@ -12,6 +12,7 @@ use crate::encoding::{BitOrder, Encoding, INVALID, copied};
 use crate::plain::PlainFields;
 use crate::specification::meanings::{Meanings, Refusal, wraps};
 use crate::specification::parts::SpecificationParts;
+use data_encoding_kernel::symbol_table::SymbolTable;
 use data_encoding_kernel::value_table::ValueTable;
 
 // The numbers of symbols, in order of their bits; a single symbol has none.
@@ -134,7 +135,7 @@ fn assembled(parts: &SpecificationParts<'_>, width: u8, meanings: Meanings) -> E
     let (column, separator) = lines_of(parts.wrap_width, parts.wrap_separator);
     Encoding {
         fields: PlainFields {
-            symbols: repeated(parts.symbols, width),
+            symbols: SymbolTable::new(repeated(parts.symbols, width)),
             values: ValueTable::new(meanings.into_values(), 1 << width),
             width,
             column,

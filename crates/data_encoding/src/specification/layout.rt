@@ -62,7 +62,7 @@ impl EncodingRef<'_> {
         ensures { result.items ≡ layout self.now }
     {
         let mut bytes = ArrayVec::new();
-        put(&mut bytes, &self.fields.symbols);
+        put(&mut bytes, &self.fields.symbols.entries);
         put(&mut bytes, &self.fields.values.entries);
         put(
             &mut bytes,

@@ -1,13 +1,14 @@
 -- Symbols as sums, at values in lanes.
-use Rattle.std.proofs.Common.{◌≡◌, ℕ, zero, suc, ◌+◌, ◌-◌, ◌*◌, ◌/◌, ◌%◌, ◌^◌, ◌<◌, Bool, true, false, cond, eqb, ltb, List, [], ◌∷◌, ◌++◌, length, map, get_or, slice_index, replicate, Fits, w8, refl, sym, ap, ◌∙◌, subst, arith, ltb-true, ltb-false, take, length-take-le}
+use Rattle.std.proofs.Common.{◌≡◌, ℕ, zero, suc, ◌+◌, ◌-◌, ◌*◌, ◌/◌, ◌%◌, ◌^◌, ◌<◌, ◌≤◌, ◌==◌, Bool, true, false, cond, eqb, ltb, List, [], ◌∷◌, ◌++◌, length, map, get_or, slice_index, replicate, Fits, w8, refl, sym, ap, ◌∙◌, subst, arith, ltb-true, ltb-false, take, length-take-le}
 use Rattle.std.proofs.lemmas.Bool.Decides.{nat_tests}
 use Rattle.std.proofs.lemmas.List.{length-map, get_or-map, get_or-take, ext_get_or, map-id}
 use Rattle.std.proofs.lemmas.List.FromFn.{length-map-range_with_len}
 use Rattle.std.proofs.lemmas.Simd.{swz_l, SwzOk, SwzOk-from_below, length-swz_l, get_or-swz_l_below, tops_compared, zip2_splat, zip2_of_maps, splat_is_map, length-chunk, map-map}
+use Rattle.std.specs.Cmp.{first_so, second_so}
 use Rattle.std.specs.List.{AllByRecursion, range_with_len}
 use Rattle.std.specs.Simd.Lanes.{Each1, chunk, zip2, sel_l, pick_l, top}
 use Rattle.data_encoding_kernel.specs.declared.lanes.offset_alphabet.OffsetAlphabet.{OffsetAlphabet}
-use Rattle.data_encoding_kernel.specs.OffsetAlphabet.{HoldsOffsetAlphabet, offset_symbol, first_of}
+use Rattle.data_encoding_kernel.specs.OffsetAlphabet.{HoldsOffsetAlphabet, offset_symbol, first_of, sums_from}
 use Rattle.data_encoding_kernel.proofs.digits.AffineLemmas.{chosen-equal, counted-at, equal, listed}
 use Rattle.data_encoding_kernel.proofs.digits.GatherRowLemmas.{repeated-row, repeats}
 use Rattle.data_encoding_kernel.proofs.digits.LaneLemmas.{selected}
@@ -129,6 +130,12 @@ each-few = range-below 64 0 64 (omega arith)
 same-lane : (one other : ℕ) → cond (eqb one other) 0 1 < 1 → one ≡ other
 same-lane one other passes = grind (arith, nat_tests)
 
+is-same : (one other : ℕ) → one ≡ other → (one == other) ≡ true
+is-same one other same = grind (arith, nat_tests)
+
+nat_eq-true : (one other : ℕ) → (one == other) ≡ true → one ≡ other
+nat_eq-true one other same = grind (arith, nat_tests)
+
 -- each sum is the symbol if no lane differs
 pub agreed-all : (alphabet : OffsetAlphabet) (symbols values found : List ℕ) → length symbols ≡ 256
     → values ≡ range_with_len 0 64 → found ≡ map (offset_symbol alphabet) values
@@ -159,3 +166,56 @@ agreed-all alphabet symbols values found long are_values are_found passes = reco
       (all-at (λ n. n < 1) (map lane places)
       (subst (AllByRecursion (λ n. n < 1)) lanes_are passes) value inside));
 }
+
+-- the form as plain data: the test of its sums
+module _ (alphabet : OffsetAlphabet) where
+  sums-at : (value : ℕ) (symbols : List ℕ) → sums_from alphabet value symbols ≡ true → (k : ℕ)
+      → k < length symbols → offset_symbol alphabet (value + k) ≡ slice_index symbols k
+  sums-at value [] h k few = absurd (omega (arith, few))
+  sums-at value (symbol ∷ symbols) h zero few =
+      let here : value + 0 ≡ value = omega arith in
+      rw here (nat_eq-true (offset_symbol alphabet value) symbol
+      (first_so (offset_symbol alphabet value == symbol) (sums_from alphabet (value + 1) symbols)
+      h))
+  sums-at value (symbol ∷ symbols) h (suc k) few =
+      let further : value + suc k ≡ value + 1 + k = omega arith in
+      rw further (sums-at (value + 1) symbols
+      (second_so (offset_symbol alphabet value == symbol)
+      (sums_from alphabet (value + 1) symbols) h)
+      k (omega (arith, few)))
+
+  summed-from : (value : ℕ) (symbols : List ℕ)
+      → ((k : ℕ) → k < length symbols
+      → offset_symbol alphabet (value + k) ≡ slice_index symbols k)
+      → sums_from alphabet value symbols ≡ true
+  summed-from value [] each = refl
+  summed-from value (symbol ∷ symbols) each =
+      let here : value + 0 ≡ value = omega arith in
+      let first : (offset_symbol alphabet value == symbol) ≡ true =
+      is-same (offset_symbol alphabet value) symbol (rw here at (each 0 (omega arith))) in
+      let others : sums_from alphabet (value + 1) symbols ≡ true =
+      summed-from (value + 1) symbols
+      (λ k few.
+      let further : value + suc k ≡ value + 1 + k = omega arith in
+      rw further at (each (suc k) (omega (arith, few)))) in
+      rw (first, others) refl
+
+  -- the test shows that the form is that of the table, and the other way round
+  pub sums-hold : (symbols : List ℕ) → 64 ≤ length symbols
+      → sums_from alphabet 0 (take 64 symbols) ≡ true → HoldsOffsetAlphabet symbols alphabet
+  sums-hold symbols long h = record {
+    agrees = λ value few.
+        let here : 0 + value ≡ value = omega arith in
+        let found = sums-at 0 (take 64 symbols) h value
+        (omega (arith, few, length-take-le 64 symbols long)) in
+        (rw here at found) ∙ get_or-take 64 symbols value 0 few;
+  }
+
+  pub holds-sums : (symbols : List ℕ) → 64 ≤ length symbols
+      → HoldsOffsetAlphabet symbols alphabet → sums_from alphabet 0 (take 64 symbols) ≡ true
+  holds-sums symbols long held =
+      summed-from 0 (take 64 symbols)
+      (λ value inside.
+      let here : 0 + value ≡ value = omega arith in
+      let few : value < 64 = omega (arith, inside, length-take-le 64 symbols long) in
+      rw (here, get_or-take 64 symbols value 0 few) (held.agrees value few))

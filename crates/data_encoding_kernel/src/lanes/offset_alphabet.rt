@@ -1,16 +1,11 @@
 //! Alphabets of six bits in which a symbol is its value plus an offset.
 
-ghost use Rattle.std.specs.Prelude.{◌≡◌, ◌-◌, ◌<◌, map, slice_index, IfSome, IsTrue};
+ghost use Rattle.std.specs.Prelude.{◌≡◌, ◌-◌, ◌<◌, map, slice_index, IsTrue};
 ghost use Rattle.std.specs.List.{AllByRecursion, range_with_len};
-ghost use Rattle.data_encoding_kernel.specs.OffsetAlphabet.{HoldsOffsetAlphabet, offset_symbol, first_of};
+ghost use Rattle.data_encoding_kernel.specs.OffsetAlphabet.{HoldsOffsetAlphabet, alphabet_of, has_sums, offset_symbol, first_of};
 
-use crate::group_size::GroupSize;
 use crate::lanes::decode::are_below;
 use std::simd::prelude::*;
-
-// From this many bytes of data on, symbols of six bits are looked for as sums: the search takes as
-// long as it saves in half as many.
-const LONG_DATA_LEN: usize = 192;
 
 /// An alphabet computed as `value + offset`, modulo 256.
 ///
@@ -28,6 +23,42 @@ pub struct OffsetAlphabet {
     pub first: u8,
 }
 
+/// An offset form as plain data. It is stored with its table.
+#[repr(C)]
+#[derive(Clone, Copy, Debug, Drop)]
+pub struct PlainOffsets {
+    /// The field `last` of the [`OffsetAlphabet`].
+    pub last: [u8; 16],
+    /// The field `bound` of the [`OffsetAlphabet`].
+    pub bound: u8,
+    /// The field `first` of the [`OffsetAlphabet`].
+    pub first: u8,
+    /// `true` if the table has an offset form.
+    pub has_offsets: bool,
+}
+
+impl PlainOffsets {
+    /// The form for a table that has no offset form.
+    pub const NONE: PlainOffsets = PlainOffsets {
+        last: [0; 16],
+        bound: 0,
+        first: 0,
+        has_offsets: false,
+    };
+
+    /// Returns the form, with its row in lanes.
+    #[inline(always)]
+    pub fn alphabet(&self) -> OffsetAlphabet
+        ensures { result ≡ alphabet_of self.now }
+    {
+        OffsetAlphabet {
+            last: u8x16::from_array(self.last),
+            bound: self.bound,
+            first: self.first,
+        }
+    }
+}
+
 // The values from 0 to 63.
 #[inline(always)]
 fn each_value() -> u8x64
@@ -40,29 +71,20 @@ fn each_value() -> u8x64
     ])
 }
 
-/// Returns `true` if a search for offsets is worthwhile for `len` bytes of data.
-///
-/// Checking three symbols rules out most other alphabets, which avoids a search that would fail.
-// No clause: what asks is proved for both answers.
-#[inline(always)]
-pub fn seeks_offsets<G: GroupSize>(symbols: &[u8; 256], len: usize) -> bool {
-    if G::WIDTH != 6 || len < LONG_DATA_LEN {
-        return false;
-    }
-    let number = symbols[32].wrapping_sub(32);
-    number == symbols[0] || number == symbols[48].wrapping_sub(48)
-}
-
-/// Returns the alphabet as offsets, if the search finds any.
+/// Returns the offset form of `symbols`, or [`PlainOffsets::NONE`] if the search finds none.
 #[inline(never)]
-pub fn offset_alphabet_of(symbols: &[u8; 256]) -> Option<OffsetAlphabet>
-    ensures { IfSome result (HoldsOffsetAlphabet symbols.now) }
+pub fn plain_offsets_of(symbols: &[u8; 256]) -> PlainOffsets
+    ensures { IsTrue (has_sums symbols.now result) }
 {
     let alphabet = guess(symbols);
-    if agrees(&alphabet, symbols) {
-        Some(alphabet)
-    } else {
-        None
+    if !agrees(&alphabet, symbols) {
+        return PlainOffsets::NONE;
+    }
+    PlainOffsets {
+        last: alphabet.last.to_array(),
+        bound: alphabet.bound,
+        first: alphabet.first,
+        has_offsets: true,
     }
 }
 

@@ -1,8 +1,10 @@
-//! The affine forms of the predefined encodings, as `ValueTable::new` finds them for their tables.
+//! The forms of the predefined encodings, as `ValueTable::new` and `SymbolTable::new` find them for
+//! their tables.
 //!
 //! The prover refuses a form that does not agree with its table.
 
 use data_encoding_kernel::lanes::affine::PlainAffine;
+use data_encoding_kernel::lanes::offset_alphabet::PlainOffsets;
 
 // Hexadecimal: digits, and letters in lower case.
 pub(super) const LOWER_FORM: PlainAffine = PlainAffine {
@@ -106,4 +108,24 @@ pub(super) const BASE64URL_FORM: PlainAffine = PlainAffine {
     deltas: [0, 0, 17, 4, 191, 48, 185, 185, 0, 0, 0, 0, 0, 0, 0, 0],
     shared: [15, 16, 17, 18, 19, 20, 21, 22, 23, 24, 25, 0, 0, 0, 0, 63],
     is_affine: true,
+};
+
+// The symbols of RFC 4648, section 4: letters, digits, `+` and `/`.
+pub(super) const BASE64_OFFSETS: PlainOffsets = PlainOffsets {
+    last: [
+        71, 71, 71, 71, 252, 252, 252, 252, 252, 252, 252, 252, 252, 252, 237, 240,
+    ],
+    bound: 26,
+    first: 250,
+    has_offsets: true,
+};
+
+// The symbols of RFC 4648, section 5, with `-` and `_`.
+pub(super) const BASE64URL_OFFSETS: PlainOffsets = PlainOffsets {
+    last: [
+        71, 71, 71, 71, 252, 252, 252, 252, 252, 252, 252, 252, 252, 252, 239, 32,
+    ],
+    bound: 26,
+    first: 250,
+    has_offsets: true,
 };

@@ -7,6 +7,8 @@ ghost use Rattle.data_encoding_meaning.specs.specification.Predefined.{hexlower_
 use crate::encoding::{Encoding, EncodingRef, INVALID};
 use crate::plain::PlainFields;
 use crate::specification::predefined::forms::{EITHER_CASE_FORM, LOWER_FORM, UPPER_FORM};
+use data_encoding_kernel::lanes::offset_alphabet::PlainOffsets;
+use data_encoding_kernel::symbol_table::SymbolTable;
 use data_encoding_kernel::value_table::ValueTable;
 
 // The letters mean the same in either case.
@@ -21,10 +23,13 @@ const EITHER_CASE: [u8; 256] = values![
 ];
 
 static HEXLOWER: PlainFields = PlainFields {
-    symbols: *b"0123456789abcdef0123456789abcdef0123456789abcdef0123456789abcdef\
-        0123456789abcdef0123456789abcdef0123456789abcdef0123456789abcdef\
-        0123456789abcdef0123456789abcdef0123456789abcdef0123456789abcdef\
-        0123456789abcdef0123456789abcdef0123456789abcdef0123456789abcdef",
+    symbols: SymbolTable {
+        entries: *b"0123456789abcdef0123456789abcdef0123456789abcdef0123456789abcdef\
+            0123456789abcdef0123456789abcdef0123456789abcdef0123456789abcdef\
+            0123456789abcdef0123456789abcdef0123456789abcdef0123456789abcdef\
+            0123456789abcdef0123456789abcdef0123456789abcdef0123456789abcdef",
+        form: PlainOffsets::NONE,
+    },
     values: ValueTable {
         entries: values![
             128, 128, 128, 128, 128, 128, 128, 128, 128, 128, 128, 128, 128, 128, 128, 128, 128,
@@ -56,10 +61,13 @@ static HEXLOWER_PERMISSIVE: PlainFields = PlainFields {
 };
 
 static HEXUPPER: PlainFields = PlainFields {
-    symbols: *b"0123456789ABCDEF0123456789ABCDEF0123456789ABCDEF0123456789ABCDEF\
-        0123456789ABCDEF0123456789ABCDEF0123456789ABCDEF0123456789ABCDEF\
-        0123456789ABCDEF0123456789ABCDEF0123456789ABCDEF0123456789ABCDEF\
-        0123456789ABCDEF0123456789ABCDEF0123456789ABCDEF0123456789ABCDEF",
+    symbols: SymbolTable {
+        entries: *b"0123456789ABCDEF0123456789ABCDEF0123456789ABCDEF0123456789ABCDEF\
+            0123456789ABCDEF0123456789ABCDEF0123456789ABCDEF0123456789ABCDEF\
+            0123456789ABCDEF0123456789ABCDEF0123456789ABCDEF0123456789ABCDEF\
+            0123456789ABCDEF0123456789ABCDEF0123456789ABCDEF0123456789ABCDEF",
+        form: PlainOffsets::NONE,
+    },
     values: ValueTable {
         entries: values![
             128, 128, 128, 128, 128, 128, 128, 128, 128, 128, 128, 128, 128, 128, 128, 128, 128,

@@ -6,7 +6,10 @@ ghost use Rattle.data_encoding_meaning.specs.specification.Predefined.{base64_fi
 
 use crate::encoding::{Encoding, EncodingRef, INVALID};
 use crate::plain::PlainFields;
-use crate::specification::predefined::forms::{BASE64_FORM, BASE64URL_FORM};
+use crate::specification::predefined::forms::{
+    BASE64_FORM, BASE64_OFFSETS, BASE64URL_FORM, BASE64URL_OFFSETS,
+};
+use data_encoding_kernel::symbol_table::SymbolTable;
 use data_encoding_kernel::value_table::ValueTable;
 
 // The values of the symbols of RFC 4648, section 4, and the entries of CR and LF and of `=`.
@@ -42,10 +45,13 @@ macro_rules! base64url_values {
 }
 
 static BASE64_NOPAD: PlainFields = PlainFields {
-    symbols: *b"ABCDEFGHIJKLMNOPQRSTUVWXYZabcdefghijklmnopqrstuvwxyz0123456789+/\
-        ABCDEFGHIJKLMNOPQRSTUVWXYZabcdefghijklmnopqrstuvwxyz0123456789+/\
-        ABCDEFGHIJKLMNOPQRSTUVWXYZabcdefghijklmnopqrstuvwxyz0123456789+/\
-        ABCDEFGHIJKLMNOPQRSTUVWXYZabcdefghijklmnopqrstuvwxyz0123456789+/",
+    symbols: SymbolTable {
+        entries: *b"ABCDEFGHIJKLMNOPQRSTUVWXYZabcdefghijklmnopqrstuvwxyz0123456789+/\
+            ABCDEFGHIJKLMNOPQRSTUVWXYZabcdefghijklmnopqrstuvwxyz0123456789+/\
+            ABCDEFGHIJKLMNOPQRSTUVWXYZabcdefghijklmnopqrstuvwxyz0123456789+/\
+            ABCDEFGHIJKLMNOPQRSTUVWXYZabcdefghijklmnopqrstuvwxyz0123456789+/",
+        form: BASE64_OFFSETS,
+    },
     values: ValueTable {
         entries: base64_values!(128, 128),
         form: BASE64_FORM,
@@ -84,10 +90,13 @@ static BASE64_MIME_PERMISSIVE: PlainFields = PlainFields {
 };
 
 static BASE64URL_NOPAD: PlainFields = PlainFields {
-    symbols: *b"ABCDEFGHIJKLMNOPQRSTUVWXYZabcdefghijklmnopqrstuvwxyz0123456789-_\
-        ABCDEFGHIJKLMNOPQRSTUVWXYZabcdefghijklmnopqrstuvwxyz0123456789-_\
-        ABCDEFGHIJKLMNOPQRSTUVWXYZabcdefghijklmnopqrstuvwxyz0123456789-_\
-        ABCDEFGHIJKLMNOPQRSTUVWXYZabcdefghijklmnopqrstuvwxyz0123456789-_",
+    symbols: SymbolTable {
+        entries: *b"ABCDEFGHIJKLMNOPQRSTUVWXYZabcdefghijklmnopqrstuvwxyz0123456789-_\
+            ABCDEFGHIJKLMNOPQRSTUVWXYZabcdefghijklmnopqrstuvwxyz0123456789-_\
+            ABCDEFGHIJKLMNOPQRSTUVWXYZabcdefghijklmnopqrstuvwxyz0123456789-_\
+            ABCDEFGHIJKLMNOPQRSTUVWXYZabcdefghijklmnopqrstuvwxyz0123456789-_",
+        form: BASE64URL_OFFSETS,
+    },
     values: ValueTable {
         entries: base64url_values!(128),
         form: BASE64URL_FORM,

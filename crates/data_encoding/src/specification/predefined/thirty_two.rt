@@ -9,6 +9,8 @@ use crate::plain::PlainFields;
 use crate::specification::predefined::forms::{
     BASE32_FORM, BASE32HEX_FORM, DNSCURVE_FORM, DNSSEC_FORM, NOCASE_FORM, VISUAL_FORM,
 };
+use data_encoding_kernel::lanes::offset_alphabet::PlainOffsets;
+use data_encoding_kernel::symbol_table::SymbolTable;
 use data_encoding_kernel::value_table::ValueTable;
 
 // The values of the symbols of RFC 4648, section 6, and the entry of `=`.
@@ -44,10 +46,13 @@ macro_rules! base32hex_values {
 }
 
 static BASE32_NOPAD: PlainFields = PlainFields {
-    symbols: *b"ABCDEFGHIJKLMNOPQRSTUVWXYZ234567ABCDEFGHIJKLMNOPQRSTUVWXYZ234567\
-        ABCDEFGHIJKLMNOPQRSTUVWXYZ234567ABCDEFGHIJKLMNOPQRSTUVWXYZ234567\
-        ABCDEFGHIJKLMNOPQRSTUVWXYZ234567ABCDEFGHIJKLMNOPQRSTUVWXYZ234567\
-        ABCDEFGHIJKLMNOPQRSTUVWXYZ234567ABCDEFGHIJKLMNOPQRSTUVWXYZ234567",
+    symbols: SymbolTable {
+        entries: *b"ABCDEFGHIJKLMNOPQRSTUVWXYZ234567ABCDEFGHIJKLMNOPQRSTUVWXYZ234567\
+            ABCDEFGHIJKLMNOPQRSTUVWXYZ234567ABCDEFGHIJKLMNOPQRSTUVWXYZ234567\
+            ABCDEFGHIJKLMNOPQRSTUVWXYZ234567ABCDEFGHIJKLMNOPQRSTUVWXYZ234567\
+            ABCDEFGHIJKLMNOPQRSTUVWXYZ234567ABCDEFGHIJKLMNOPQRSTUVWXYZ234567",
+        form: PlainOffsets::NONE,
+    },
     values: ValueTable {
         entries: base32_values!(128),
         form: BASE32_FORM,
@@ -103,10 +108,13 @@ static BASE32_NOPAD_VISUAL: PlainFields = PlainFields {
 };
 
 static BASE32HEX_NOPAD: PlainFields = PlainFields {
-    symbols: *b"0123456789ABCDEFGHIJKLMNOPQRSTUV0123456789ABCDEFGHIJKLMNOPQRSTUV\
-        0123456789ABCDEFGHIJKLMNOPQRSTUV0123456789ABCDEFGHIJKLMNOPQRSTUV\
-        0123456789ABCDEFGHIJKLMNOPQRSTUV0123456789ABCDEFGHIJKLMNOPQRSTUV\
-        0123456789ABCDEFGHIJKLMNOPQRSTUV0123456789ABCDEFGHIJKLMNOPQRSTUV",
+    symbols: SymbolTable {
+        entries: *b"0123456789ABCDEFGHIJKLMNOPQRSTUV0123456789ABCDEFGHIJKLMNOPQRSTUV\
+            0123456789ABCDEFGHIJKLMNOPQRSTUV0123456789ABCDEFGHIJKLMNOPQRSTUV\
+            0123456789ABCDEFGHIJKLMNOPQRSTUV0123456789ABCDEFGHIJKLMNOPQRSTUV\
+            0123456789ABCDEFGHIJKLMNOPQRSTUV0123456789ABCDEFGHIJKLMNOPQRSTUV",
+        form: PlainOffsets::NONE,
+    },
     values: ValueTable {
         entries: base32hex_values!(128),
         form: BASE32HEX_FORM,
@@ -124,10 +132,13 @@ static BASE32HEX: PlainFields = PlainFields {
 };
 
 static BASE32_DNSSEC: PlainFields = PlainFields {
-    symbols: *b"0123456789abcdefghijklmnopqrstuv0123456789abcdefghijklmnopqrstuv\
-        0123456789abcdefghijklmnopqrstuv0123456789abcdefghijklmnopqrstuv\
-        0123456789abcdefghijklmnopqrstuv0123456789abcdefghijklmnopqrstuv\
-        0123456789abcdefghijklmnopqrstuv0123456789abcdefghijklmnopqrstuv",
+    symbols: SymbolTable {
+        entries: *b"0123456789abcdefghijklmnopqrstuv0123456789abcdefghijklmnopqrstuv\
+            0123456789abcdefghijklmnopqrstuv0123456789abcdefghijklmnopqrstuv\
+            0123456789abcdefghijklmnopqrstuv0123456789abcdefghijklmnopqrstuv\
+            0123456789abcdefghijklmnopqrstuv0123456789abcdefghijklmnopqrstuv",
+        form: PlainOffsets::NONE,
+    },
     values: ValueTable {
         entries: values![
             128, 128, 128, 128, 128, 128, 128, 128, 128, 128, 128, 128, 128, 128, 128, 128, 128,
@@ -144,10 +155,13 @@ static BASE32_DNSSEC: PlainFields = PlainFields {
 };
 
 static BASE32_DNSCURVE: PlainFields = PlainFields {
-    symbols: *b"0123456789bcdfghjklmnpqrstuvwxyz0123456789bcdfghjklmnpqrstuvwxyz\
-        0123456789bcdfghjklmnpqrstuvwxyz0123456789bcdfghjklmnpqrstuvwxyz\
-        0123456789bcdfghjklmnpqrstuvwxyz0123456789bcdfghjklmnpqrstuvwxyz\
-        0123456789bcdfghjklmnpqrstuvwxyz0123456789bcdfghjklmnpqrstuvwxyz",
+    symbols: SymbolTable {
+        entries: *b"0123456789bcdfghjklmnpqrstuvwxyz0123456789bcdfghjklmnpqrstuvwxyz\
+            0123456789bcdfghjklmnpqrstuvwxyz0123456789bcdfghjklmnpqrstuvwxyz\
+            0123456789bcdfghjklmnpqrstuvwxyz0123456789bcdfghjklmnpqrstuvwxyz\
+            0123456789bcdfghjklmnpqrstuvwxyz0123456789bcdfghjklmnpqrstuvwxyz",
+        form: PlainOffsets::NONE,
+    },
     values: ValueTable {
         entries: values![
             128, 128, 128, 128, 128, 128, 128, 128, 128, 128, 128, 128, 128, 128, 128, 128, 128,

@@ -5,7 +5,7 @@ use Rattle.data_encoding_meaning.proofs.lists.PartLemmas.{group-before, groups-w
 use Rattle.data_encoding_meaning.proofs.lists.PieceLemmas.{IsByPieces}
 use Rattle.data_encoding_meaning.proofs.lists.RunLemmas.{ended-short}
 use Rattle.data_encoding.proofs.text.LinePieceLemmas.{IsByPieces-lines}
-use Rattle.data_encoding.proofs.text.LongLineLemmas.{length-parts, line-fits, line-next, lines-none, lines-rest}
+use Rattle.data_encoding.proofs.text.WholeLineLemmas.{length-parts, line-fits, line-next, lines-none, lines-rest}
 use Rattle.std.specs.Prelude.{flat_map}
 use Rattle.data_encoding_meaning.specs.text.Bits.{runs}
 use Rattle.data_encoding.proofs.encode.lines.wrap.Goals as goal

@@ -2,6 +2,7 @@ use Rattle.std.proofs.Common.{◌∙◌, ap, map, take, subst, sym}
 use Rattle.data_encoding_meaning.specs.specification.Entries.{HoldsEntries, meaning_of_entry}
 use Rattle.std.specs.Bool.{IsTrue}
 use Rattle.data_encoding_kernel.specs.Affine.{agrees}
+use Rattle.data_encoding_kernel.specs.OffsetAlphabet.{has_sums}
 use Rattle.data_encoding.specs.Encoding.{EncodingTables}
 use Rattle.data_encoding.specs.PlainTables.{order_by, padding_by}
 use Rattle.data_encoding.specs.Specification.{fields_of_parts}
@@ -25,8 +26,8 @@ lines_of-column-requires-clause-separator c = λ on.
 
 tables : goal.After-copied → EncodingTables
 tables c = record {
-  symbols = c.repeated.result;
-  values = c.new.result.entries;
+  symbols = c.new.result.entries;
+  values = c.new-2.result.entries;
   width = c.args.width;
   order = order_by c.is_least_first.result;
   checks_trailing_bits = c.checks_trailing_bits.result;
@@ -35,7 +36,8 @@ tables c = record {
   ignores = c.ignores_some-ignores.result;
   column = c.lines_of-column.result.0;
   separator = c.copied.result.items;
-  form = c.new.result.form;
+  form = c.new-2.result.form;
+  offsets = c.new.result.form;
 }
 
 made : (c : goal.After-copied)
@@ -46,10 +48,10 @@ made c = record {
   is_width = c.requires.width;
   count = c.requires.count;
   judged = c.requires.judged;
-  repeat = c.repeated.ensures;
-  holds = subst HoldsEntries (sym c.new.ensures.entries) c.into_values.ensures.entries;
+  repeat = c.new.ensures.entries ∙ c.repeated.ensures;
+  holds = subst HoldsEntries (sym c.new-2.ensures.entries) c.into_values.ensures.entries;
   values =
-      ap (λ l. map meaning_of_entry (take 128 l)) c.new.ensures.entries
+      ap (λ l. map meaning_of_entry (take 128 l)) c.new-2.ensures.entries
       ∙ c.into_values.ensures.meanings;
   order = c.is_least_first.ensures;
   checks = c.checks_trailing_bits.ensures;
@@ -59,7 +61,10 @@ made c = record {
   column = c.lines_of-column.ensures.column;
   separator = c.copied.ensures ∙ c.lines_of-column.ensures.separator;
   form_agrees =
-      subst (λ l. IsTrue (agrees l c.new.result.form)) (sym c.new.ensures.entries)
+      subst (λ l. IsTrue (agrees l c.new-2.result.form)) (sym c.new-2.ensures.entries)
+      c.new-2.ensures.agrees;
+  offsets_agree =
+      subst (λ l. IsTrue (has_sums l c.new.result.form)) (sym c.new.ensures.entries)
       c.new.ensures.agrees;
 }
 

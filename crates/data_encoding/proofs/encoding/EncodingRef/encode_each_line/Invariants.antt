@@ -1,7 +1,0 @@
-use Rattle.data_encoding_meaning.specs.text.Text.{text_of}
-use Rattle.data_encoding_meaning.proofs.lists.PieceLemmas.{WritesPieces}
-use Rattle.data_encoding.proofs.encoding.EncodingRef.encode_each_line.Given as goal
-
-abbrev pub invariant-loop-index : goal.invariant-loop-index
-invariant-loop-index g l =
-    WritesPieces (text_of l.self) l.line_bytes l.line_len l.input l.output l.index
