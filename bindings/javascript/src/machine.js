@@ -27,7 +27,7 @@ const ROOM = 1840;
 
 /** The sizes of those that are copied. */
 export const DECODER_SIZE = 104;
-export const TABLES_SIZE = 824;
+export const TABLES_SIZE = 843;
 
 /** Returns the bytes of the module. A Buffer decodes base64 in a tenth of the time of the loop. */
 function moduleBytes() {

@@ -43,7 +43,7 @@ mod refused {
 }
 
 /// The size of a `de_encoding`, or more.
-const TABLES_SIZE: usize = 832;
+const TABLES_SIZE: usize = 851;
 
 /// The greatest length of a layout.
 #[cfg(feature = "alloc")]

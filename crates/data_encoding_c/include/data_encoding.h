@@ -414,7 +414,7 @@ de_status de_specification_of(de_number number, de_specification *specification,
                               size_t texts_len);
 
 /* The length of the tables of an encoding. */
-#define DE_TABLES 824
+#define DE_TABLES 843
 
 /* An encoding that the caller made. It is plain bytes, which may be copied within the program and
  * need no cleanup. Calls trust its tables and do not check them: to pass an encoding to another
