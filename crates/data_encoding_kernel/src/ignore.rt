@@ -169,5 +169,8 @@ pub fn pack(ignored: &IgnoredBytes, part: &[u8], room: &mut [u8]) -> (usize, usi
     if rest == 0 || room.len() - count < 16 {
         return (16 * turns, count);
     }
-    (part.len(), pack_more(ignored, last_sixteen(part), 16 - rest, count, room))
+    (
+        part.len(),
+        pack_more(ignored, last_sixteen(part), 16 - rest, count, room),
+    )
 }

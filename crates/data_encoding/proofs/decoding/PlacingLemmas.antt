@@ -112,8 +112,11 @@ after-gathered base width text {read} {written} {size} {span} {group} {old} coun
     let alike : meanings_in base (kept base group) ≡ meanings_in base part =
     ap (map (meaning base)) (plain-bytes base group plain ∙ sym bytes_are) in
     let all : map (meanings_in base) (groups base group) ≡ map (meanings_in base) (runs dec part) =
-    rw (← (runs-meanings base dec (kept base group) pos), ← (runs-meanings base dec part pos),
-    alike) refl in
+    rw (
+      ← (runs-meanings base dec (kept base group) pos),
+      ← (runs-meanings base dec part pos),
+      alike,
+    ) refl in
     record {
       within = next.within;
       sound = rw more

@@ -29,8 +29,12 @@ module _ (base : Base) where
   plain-append : (xs ys : List ℕ) → NoneIgnored base xs → NoneIgnored base ys
       → NoneIgnored base (xs ++ ys)
   plain-append xs ys h k =
-      rw (map-append (meaning base) xs ys,
-      list_any-append is_ignored (map (meaning base) xs) (map (meaning base) ys), h, k) refl
+      rw (
+        map-append (meaning base) xs ys,
+        list_any-append is_ignored (map (meaning base) xs) (map (meaning base) ys),
+        h,
+        k,
+      ) refl
 
   pub plain-kept : (start : ℕ) (bytes : List ℕ) → NoneIgnored base bytes
       → kept_in base start bytes ≡ positioned_from start bytes
@@ -73,9 +77,13 @@ module _ (base : Base) where
       let len = length-map group (meaning base) in
       let means = GroupMeans-sound base width (map (meaning base) group)
       (omega (arith, len, some)) (omega (arith, len, few)) sound in
-      rw (means.is_group,
-      list_any-append is_ignored means.symbols (replicate means.padding Padding),
-      means.means.are_symbols, plain-values means.means.values, plain-padding means.padding) refl
+      rw (
+        means.is_group,
+        list_any-append is_ignored means.symbols (replicate means.padding Padding),
+        means.means.are_symbols,
+        plain-values means.means.values,
+        plain-padding means.padding,
+      ) refl
 
 -- A slice of what is left of a prefix.
 part-left : (part : List ℕ) (len read : ℕ) → read ≤ len → len ≤ length part

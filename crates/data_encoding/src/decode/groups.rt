@@ -66,7 +66,10 @@ impl EncodingRef<'_> {
         requires room { len / G.SYMBOLS * G.BYTES ≤ length output.old }
         ensures { HasReadGroups self.now (take len part.now) result output.new }
     {
-        let mut at = Groups { read: 0, written: 0 };
+        let mut at = Groups {
+            read: 0,
+            written: 0,
+        };
         for _ in 0..len {
             let next = self.decode_run_at::<L, O, G>(entries, part, len, at, output);
             at = self.decode_padded_at::<L, O, G>(entries, part, len, next, output);

@@ -59,8 +59,9 @@ impl EncodingRef<'_> {
     /// Decodes what follows a first run, up to the end of the text or its first fault. Returns
     /// whether it has no fault.
     ///
-    /// Each turn reads at least one group. It tries at most one iteration and one group in vain, and
-    /// packs no bytes that it does not decode, except once, before a fault.
+    /// Each turn reads at least one group. It decodes at most as many bytes in vain as it reads, and
+    /// those of an iteration and a group. It packs only bytes that it decodes, except once, before a
+    /// fault.
     #[inline(always)]
     pub(crate) fn decode_steps<L: LookUp, O: ConstantOrder, G: GroupSize>(
         &self,
@@ -74,6 +75,7 @@ impl EncodingRef<'_> {
         requires first { HasReached self.now input.now first output.old }
         ensures { HasEnded self.now input.now output.new stop.new result }
     {
+        let values = entries.values;
         let mut at = first;
         let mut len = at.read;
         while at.read + at.ignored < input.len() {
@@ -81,12 +83,12 @@ impl EncodingRef<'_> {
                 at = self.decode_lines::<L, O, G>(entries, len, at, input, output);
             } else {
                 let read = at.read;
-                if self.is_broken_next::<G>(entries.values, at, input) {
+                if self.is_broken_next::<G>(values, at, input) {
                     at = self.decode_packed::<L, O, G>(at, input, output);
                 }
                 if at.read == read {
                     match self.decode_next::<O, G>(self.fields.ignores, at, input, output, stop) {
-                        Step::More => at = progress_at(entries.values, stop.read, stop.written, input),
+                        Step::More => at = progress_at(values, stop.read, stop.written, input),
                         Step::Ended => return true,
                         Step::Faulty => return false,
                     }
@@ -102,6 +104,8 @@ impl EncodingRef<'_> {
 
     // Decodes lines of this length, as long as a byte is ignored where each would end: the next
     // address then does not wait for a count.
+    // Not inlined, so that its loop has the registers: inlined, lines of 60 take 1.12 times the
+    // instructions.
     #[inline(never)]
     fn decode_lines<L: LookUp, O: ConstantOrder, G: GroupSize>(
         &self,
@@ -154,10 +158,12 @@ impl EncodingRef<'_> {
         if found.read == 0 {
             return at;
         }
-        progress_at(entries.values, start + found.read, at.written + found.written, input)
+        let written = at.written + found.written;
+        progress_at(entries.values, start + found.read, written, input)
     }
 
-    // Whether the next bytes are enough for a group, and some before or within it are ignored.
+    // Whether bytes before or within the next group are ignored. With fewer than sixteen bytes left,
+    // groups by themselves take less time than packing.
     #[inline(always)]
     fn is_broken_next<G: GroupSize>(&self, values: &[u8; 256], at: Progress, input: &[u8]) -> bool
         requires { at.read + at.ignored ≤ length input.now }
@@ -247,5 +253,6 @@ fn is_line<G: GroupSize>(len: usize) -> bool
     len >= LINE_LEN.max(8 * G::SYMBOLS)
 }
 
-// The least run after which the next one is decoded where it stands.
+// The least run after which the next one is decoded where it stands. With 16, hexadecimal in lines
+// of 16 to 30, each of another length, takes up to 1.7 times the instructions.
 const LINE_LEN: usize = 32;

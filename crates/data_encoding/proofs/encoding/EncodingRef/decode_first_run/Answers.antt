@@ -64,6 +64,10 @@ overflow_mul-result-2 g c =
     (room g at.After-of-look_up)) c.decode_run-count.auto.output c.decode_run-count.result
     {old = c.args.output.now} (rw whole (c.decode_run-count.ensures.run base reads)) in
     record {
-      fits = omega (arith, reads-few group base c.requires.coded.width_is text (length text)
-          (omega arith) c.args.output.now c.args.output.now found, c.requires.exact.limit);
+      fits = omega (
+        arith,
+        reads-few group base c.requires.coded.width_is text (length text)
+            (omega arith) c.args.output.now c.args.output.now found,
+        c.requires.exact.limit,
+      );
     }

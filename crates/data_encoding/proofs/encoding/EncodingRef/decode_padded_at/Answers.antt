@@ -42,6 +42,9 @@ overflow_mul-result g c =
     let len = length-part c.args.at.read c.SYMBOLS.result c.args.part.now
     (omega (arith, c.SYMBOLS.ensures, c.if-not-is_padded_at.ensures.within refl, c.requires.few)) in
     record {
-      fits = omega (arith, few-bits g.G.GroupSize.is_group c.WIDTH.ensures c.in-Ok.count
-          (omega (arith, len, c.SYMBOLS.ensures, c.in-Ok.ensures.sound.within)));
+      fits = omega (
+        arith,
+        few-bits g.G.GroupSize.is_group c.WIDTH.ensures c.in-Ok.count
+            (omega (arith, len, c.SYMBOLS.ensures, c.in-Ok.ensures.sound.within)),
+      );
     }

@@ -19,8 +19,11 @@ overflow_mul-result-2 g c =
     c.decode_run_within-count.auto.output c.decode_run_within-count.result
     (c.decode_run_within-count.ensures.run c.args.self.now c.requires.entries.reads) in
     record {
-      fits = omega (arith, reads-few group c.args.self.now c.requires.entries.reads.width_is
-          c.args.part.now c.args.len c.requires.few c.args.output.now c.args.output.now after);
+      fits = omega (
+        arith,
+        reads-few group c.args.self.now c.requires.entries.reads.width_is
+            c.args.part.now c.args.len c.requires.few c.args.output.now c.args.output.now after,
+      );
     }
 
 pub overflow_add-result-2 : goal.overflow_add-result-2
@@ -31,6 +34,9 @@ overflow_add-result-2 g c =
     c.decode_run_within-count.auto.output c.decode_run_within-count.result
     (c.decode_run_within-count.ensures.run c.args.self.now c.requires.entries.reads) in
     record {
-      fits = omega (arith, reads-few group c.args.self.now c.requires.entries.reads.width_is
-          c.args.part.now c.args.len c.requires.few c.args.output.now c.args.output.now after);
+      fits = omega (
+        arith,
+        reads-few group c.args.self.now c.requires.entries.reads.width_is
+            c.args.part.now c.args.len c.requires.few c.args.output.now c.args.output.now after,
+      );
     }

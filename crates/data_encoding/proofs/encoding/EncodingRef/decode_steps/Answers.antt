@@ -48,15 +48,20 @@ moved g c =
         ));
       })
       | else-at-gt0+else-at-read w ↦ rw (w.at-is, w.output-is)
-      (elim w.if-is_broken_next.branch [
-        | then-is_broken_next v ↦ rw (v.at-is, v.output-is) (record {
-          reached = v.decode_packed-at.ensures.reached;
-          further = v.decode_packed-at.ensures.further;
-          more = inr (grind (arith, nat_tests, v.at-is, w.if-at-read.false,
-              v.decode_packed-at.ensures.further));
-        })
-        | else-is_broken_next v ↦ absurd (grind (arith, nat_tests, v.at-is, w.if-at-read.false))
-      ])
+          (elim w.if-is_broken_next.branch [
+            | then-is_broken_next v ↦ rw (v.at-is, v.output-is) (record {
+              reached = v.decode_packed-at.ensures.reached;
+              further = v.decode_packed-at.ensures.further;
+              more = inr (grind (
+                arith,
+                nat_tests,
+                v.at-is,
+                w.if-at-read.false,
+                v.decode_packed-at.ensures.further,
+              ));
+            })
+            | else-is_broken_next v ↦ absurd (grind (arith, nat_tests, v.at-is, w.if-at-read.false))
+          ])
     ]
 
 pub decode_in_place-at-requires-clause-at : goal.decode_in_place-at-requires-clause-at
