@@ -4,8 +4,8 @@
 #
 # A bound of the table below is a ratio: the instructions for each byte of a text, divided by those
 # of a plain text of its length. It holds for each text of its kind in tests/c/cost.c, with 16 KiB
-# and with 64 KiB, so a byte does not take more instructions in a longer text. The bound of `plain` is
-# the number of instructions for each byte.
+# and with 64 KiB, so a byte does not take more instructions in a longer text. The bound of `plain`
+# is the number of instructions for each byte.
 #
 # Each bound is the ratio of the worst text, and about a tenth more. The worst are, of `gaps`, lines
 # that get shorter by one group each, of `ignored`, its only text, and of `padded`, padded texts of
@@ -37,9 +37,9 @@ ignored 4.00 8.00
 padded 8.50 17.4
 '
 
-# count NAME: decodes each text with 16 KiB, and then with 64 KiB, where DE_CPU is NAME. Writes a line
-# for each call that is counted to "$room/NAME": the kind of the text, its length, its name, and the
-# instructions. The kind is `same` for the plain text of its length.
+# count NAME: decodes each text with 16 KiB, and then with 64 KiB, where DE_CPU is NAME. Writes a
+# line for each call that is counted to "$room/NAME": the kind of the text, its length, its name, and
+# the instructions. The kind is `same` for the plain text of its length.
 count() {
     local name=$1 call part=0
     DE_CPU=$name valgrind --tool=callgrind --toggle-collect=counted --dump-after=counted \
@@ -55,8 +55,9 @@ count() {
     done <"$room/$name.calls" >"$room/$name"
 }
 
-# table NAME: writes a line for each text to "$room/table": its kind, how many times the instructions
-# of a plain one it takes, or for a plain one the instructions for each byte, its length and its name.
+# table NAME: writes a line for each text to "$room/table": its kind, how many times the
+# instructions of a plain one it takes, or for a plain one the instructions for each byte, its length
+# and its name.
 table() {
     awk -F '\t' '
         $1 != "same" { kind = $1; each = $4 / $2; next }
