@@ -38,8 +38,8 @@ padded 8.50 17.4
 '
 
 # count NAME: decodes each text with 16 KiB, and then with 64 KiB, where DE_CPU is NAME. Writes a
-# line for each call that is counted to "$room/NAME": the kind of the text, its length, its name, and
-# the instructions. The kind is `same` for the plain text of its length.
+# line for each call that is counted to "$room/NAME": the kind of the text, its length, its name,
+# and the instructions. The kind is `same` for the plain text of its length.
 count() {
     local name=$1 call part=0
     DE_CPU=$name valgrind --tool=callgrind --toggle-collect=counted --dump-after=counted \
@@ -56,8 +56,8 @@ count() {
 }
 
 # table NAME: writes a line for each text to "$room/table": its kind, how many times the
-# instructions of a plain one it takes, or for a plain one the instructions for each byte, its length
-# and its name.
+# instructions of a plain one it takes, or for a plain one the instructions for each byte, its
+# length and its name.
 table() {
     awk -F '\t' '
         $1 != "same" { kind = $1; each = $4 / $2; next }
