@@ -109,8 +109,8 @@ fn pack_sixteen(mask: u64, bytes: u8x16, room: &mut [u8]) -> usize
     count + pack_eight(mask >> 8, others, &mut room[count..count + 8])
 }
 
-// Packs those of sixteen bytes that are not ignored, from this lane on, after the first `start` bytes
-// of the room. Returns how many bytes of the room are packed then.
+// Packs those of sixteen bytes that are not ignored, from this lane on, after the first `start`
+// bytes of the room. Returns how many bytes of the room are packed then.
 #[inline(always)]
 fn pack_more(
     ignored: &IgnoredBytes,

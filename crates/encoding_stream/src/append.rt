@@ -50,8 +50,8 @@ pub(crate) fn append_piece<A: Allocator + Copy>(
     Ok(())
 }
 
-// Decodes a part of a piece to a buffer, and appends the decoded bytes. If there are any, the output
-// first grows for the `rest` bytes of the piece that follow, too.
+// Decodes a part of a piece to a buffer, and appends the decoded bytes. If there are any, the
+// output first grows for the `rest` bytes of the piece that follow, too.
 fn append_chunk<A: Allocator + Copy>(
     pieces: &mut BufferDecoder<'_>,
     chunk: &[u8],

@@ -141,7 +141,7 @@ impl EncodingRef<'_> {
         }
     }
 
-    // Whether the next group ends in padding, and others may follow it.
+    // Returns whether the next group ends in padding, and others may follow it.
     #[inline(always)]
     fn is_padded_at<G: GroupSize>(
         &self,

@@ -17,8 +17,8 @@ use data_encoding_kernel::lanes::look_up::LookUp;
 use data_encoding_kernel::order::ConstantOrder;
 
 // The room for packed bytes. Each use of it costs some 450 instructions: with 512, a text with a
-// space after each 4 symbols takes 1.07 times the instructions. With 2,048, broken groups among long
-// runs take more, since the runs are packed as well.
+// space after each 4 symbols takes 1.07 times the instructions. With 2,048, broken groups among
+// long runs take more, since the runs are packed as well.
 const ROOM: usize = 1024;
 
 impl EncodingRef<'_> {

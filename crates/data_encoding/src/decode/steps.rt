@@ -59,9 +59,8 @@ impl EncodingRef<'_> {
     /// Decodes what follows a first run, up to the end of the text or its first fault. Returns
     /// whether it has no fault.
     ///
-    /// Each turn reads at least one group. It decodes at most as many bytes in vain as it reads, and
-    /// those of an iteration and a group. It packs only bytes that it decodes, except once, before a
-    /// fault.
+    /// At least every second turn reads a group. A turn tries at most one iteration and one group
+    /// without a result. Bytes are packed again only if their group is unfinished, faulty or final.
     #[inline(always)]
     pub(crate) fn decode_steps<L: LookUp, O: ConstantOrder, G: GroupSize>(
         &self,
@@ -123,16 +122,20 @@ impl EncodingRef<'_> {
         let values = entries.values;
         let mut at = at;
         for _ in 0..input.len() {
-            let rest = &input[at.read + at.ignored..];
+            let start = at.read + at.ignored;
+            let rest = &input[start..];
             if len >= rest.len() || entry_of(values, rest[len]) != IGNORED {
                 break;
             }
             let found = self.decode_line::<L, O, G>(entries, rest, len, &mut output[at.written..]);
+            let written = at.written + found.written;
             if found.read != len {
+                if found.read > 0 {
+                    at = progress_at(values, start + found.read, written, input);
+                }
                 break;
             }
-            let read = at.read + at.ignored + len;
-            at = progress_at(values, read, at.written + found.written, input);
+            at = progress_at(values, start + len, written, input);
         }
         at
     }
@@ -162,8 +165,8 @@ impl EncodingRef<'_> {
         progress_at(entries.values, start + found.read, written, input)
     }
 
-    // Whether bytes before or within the next group are ignored. With fewer than sixteen bytes left,
-    // groups by themselves take less time than packing.
+    // Returns whether bytes before or within the next group are ignored. With fewer than sixteen
+    // bytes left, groups by themselves take less time than packing.
     #[inline(always)]
     fn is_broken_next<G: GroupSize>(&self, values: &[u8; 256], at: Progress, input: &[u8]) -> bool
         requires { at.read + at.ignored ≤ length input.now }
@@ -245,7 +248,7 @@ impl EncodingRef<'_> {
     }
 }
 
-// Whether a run is so long that the next one is decoded where it stands.
+// Returns whether a run is so long that the next one is decoded where it stands.
 #[inline(always)]
 fn is_line<G: GroupSize>(len: usize) -> bool
     ensures { IsTrue result → 0 < len }

@@ -28,7 +28,7 @@ decode_line-found-requires-clause-room g c =
 
 pub loop-preserved : goal.loop-preserved
 loop-preserved g c =
-    let at = c.progress_at-at.ensures in
+    let at = c.progress_at-at-in-loop.ensures in
     let reached = c.loop.invariant.on.reached in
     let whole : c.decode_line-found.result.read ≡ c.args.len = c.if-found-len.false in
     record {
@@ -47,8 +47,26 @@ loop-preserved g c =
       };
     }
 
-pub returns-then-found-len : goal.returns-then-found-len
-returns-then-found-len g c =
+pub returns-then-found-gt0 : goal.returns-then-found-gt0
+returns-then-found-gt0 g c =
+    let at = c.progress_at-at.ensures in
+    let reached = c.loop.invariant.on.reached in
+    record {
+      reached = record {
+        exact = exact-same reached.exact (length-rewritten_same c.loop.at.written
+            c.loop.output c.decode_line-found.new.output reached.so_far.fits
+            c.decode_line-found.auto.output);
+        so_far = rw (at.read, at.written)
+            (placed-here c.requires.entries.reads.holds.is_width reached
+            c.decode_line-found.new.output c.decode_line-found.auto.output c.args.len
+            c.decode_line-found.ensures c.if-found-gt0.true);
+        front = rw at.read (at.front c.args.self.now c.requires.entries.reads.holds);
+      };
+      further = omega (arith, at.read, c.loop.invariant.on.further);
+    }
+
+pub returns-else-found-gt0 : goal.returns-else-found-gt0
+returns-else-found-gt0 g c =
     goes-further c.loop.invariant.on.further
     (goes-nowhere_rest _ c.requires.entries.reads.holds.is_width c.loop.invariant.on.reached
     c.decode_line-found.auto.output)
