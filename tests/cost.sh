@@ -32,7 +32,7 @@ done
 # x86-64-v3.
 bounds='
 plain 2.65 1.35
-gaps 4.75 7.05
+gaps 2.80 4.25
 ignored 4.00 8.00
 padded 8.50 17.4
 '

@@ -61,7 +61,8 @@ module _ (base : Base) where
       let more = plain-symbols bytes (λ k less. h (suc k) (omega (arith, less))) in
       grind arith
 
-  plain-values : (values : List ℕ) → list_any is_ignored (map (λ value. Symbol value) values) ≡ false
+  plain-values : (values : List ℕ)
+      → list_any is_ignored (map (λ value. Symbol value) values) ≡ false
   plain-values [] = refl
   plain-values (value ∷ values) = plain-values values
 

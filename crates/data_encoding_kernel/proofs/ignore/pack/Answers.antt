@@ -12,7 +12,12 @@ loop-turn-preserved c =
     let turn = c.loop-turn.turn in
     let next = take 16 (take (16 * turn + 16 - 16 * turn) (drop (16 * turn) part)) in (
       omega (arith, c.loop-turn.invariant.0, c.pack_more-count.ensures.few),
-      omega (arith, c.if-room-count-lt16.false, c.pack_more-count.ensures.few, c.pack_more-count.auto.room),
+      omega (
+        arith,
+        c.if-room-count-lt16.false,
+        c.pack_more-count.ensures.few,
+        c.pack_more-count.auto.room,
+      ),
       λ base held.
           kept-more base part turn _ (omega (arith, c.loop-turn-test.true))
           (c.pack_more-count.ensures.kept base held

@@ -18,7 +18,8 @@ reached : (g : Over) (c : After-ignored_front-ignored g)
 reached g c = record {
   exact = c.decode_first_run-run.ensures.exact;
   so_far = c.decode_first_run-run.ensures.so_far;
-  front = rw (take_rest c.args.input.now c.decode_first_run-run.result.read) at (c.ignored_front-ignored.ensures.front c.args.self.now
+  front = rw (take_rest c.args.input.now c.decode_first_run-run.result.read) at
+      (c.ignored_front-ignored.ensures.front c.args.self.now
       (HoldsValues-seen _ c.self.invariant c.args.self.now c.self.view_is));
 }
 

@@ -10,7 +10,7 @@ returns g c =
     let group = IsGroup-same refl c.BYTES.ensures c.SYMBOLS-2.ensures g.G.GroupSize.is_group in
     let same = ap (λ n. c.decode_by_turns.result / n) (sym c.SYMBOLS.ensures) in
     let run = rw same at found in
-    reads-first group c.args.self.now c.requires.entries.reads.width_is c.args.part.now c.args.len c.requires.few
-    c.args.output.now c.decode_by_turns.new.output
+    reads-first group c.args.self.now c.requires.entries.reads.width_is c.args.part.now c.args.len
+    c.requires.few c.args.output.now c.decode_by_turns.new.output
     (rw (c.BYTES.ensures, c.SYMBOLS-2.ensures) c.requires.room) c.decode_by_turns.auto.output
     (c.decode_by_turns.result / c.SYMBOLS.result) run

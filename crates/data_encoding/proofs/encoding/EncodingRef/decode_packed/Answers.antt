@@ -34,7 +34,12 @@ decode_groups-found-requires-clause-room g c =
     let pos = (IsWhole-same refl refl g.G.GroupSize.is_group).some_symbols in
     let fewer : count / size ≤ length rest / size =
     le-div (count / size) (length rest) size pos
-    (omega (arith, groups-within count size, c.pack-span.ensures.few, c.pack-span.ensures.within)) in
+    (omega (
+      arith,
+      groups-within count size,
+      c.pack-span.ensures.few,
+      c.pack-span.ensures.within,
+    )) in
     omega (
       arith,
       mul-le-mul_right g.G.GroupSize.BYTES fewer,

@@ -22,7 +22,12 @@ decode_group-requires-clause-some g c =
     omega (
       arith,
       length-part c.args.at.read c.SYMBOLS.result c.args.part.now
-          (omega (arith, c.SYMBOLS.ensures, c.if-not-is_padded_at.ensures.within refl, c.requires.few)),
+          (omega (
+            arith,
+            c.SYMBOLS.ensures,
+            c.if-not-is_padded_at.ensures.within refl,
+            c.requires.few,
+          )),
       c.SYMBOLS.ensures,
       (IsWhole-same refl refl g.G.GroupSize.is_group).some_symbols,
     )
@@ -35,7 +40,8 @@ decode_group-requires-clause-room g c whole =
     (omega (arith, c.SYMBOLS.ensures, enough, c.requires.few)) in
     rw (len, c.SYMBOLS.ensures)
     (group-room g.G.GroupSize.is_group c.args.self.now c.requires.entries.reads.width_is
-    c.args.part.now c.args.len c.requires.few c.args.output.now c.args.output.now c.requires.at enough)
+    c.args.part.now c.args.len c.requires.few c.args.output.now c.args.output.now c.requires.at
+    enough)
 
 pub overflow_mul-result : goal.overflow_mul-result
 overflow_mul-result g c =

@@ -11,7 +11,8 @@ returns-then-is_padded c =
     let seen =
     base_of_tables (plain_tables c.self.inside.fields.now c.self.inside.separator.now) in
     subst
-    (λ b. c.args.len / c.group_symbols-symbols.result * c.group_bytes.result ≡ most_bytes b c.args.len)
+    (λ b. c.args.len / c.group_symbols-symbols.result * c.group_bytes.result
+    ≡ most_bytes b c.args.len)
     c.self.view_is
     ((λ i. c.args.len / c.group_symbols-symbols.ensures.value i * c.group_bytes.ensures.value i)
     ∙ sym (most_bytes-by seen c.args.len true

@@ -85,7 +85,8 @@ returns-in-Ok-clause-reads c =
     (ap is_ignored (sym (rw c.by_ref-encoding.ensures at c.interpret_byte.ensures))
     ∙ sym c.is_ignored.ensures ∙ c.if-is_ignored.false)
     c.group_len-size.result (omega (arith, whole, s.short, c.if-index-size.false)) s.laws.group
-    whole bytes c.in-Ok.ensures.sound (omega (arith, size, c.in-Ok.ensures.few)) c.is_final-is_final.result
+    whole bytes c.in-Ok.ensures.sound (omega (arith, size, c.in-Ok.ensures.few))
+    c.is_final-is_final.result
     (rw (← whole) at c.is_final-is_final.ensures)
 
 pub returns-in-Err-clause-reads : goal.returns-in-Err-clause-reads
