@@ -22,8 +22,8 @@ export const RESULT = 0;
 export const DECODER = 32;
 export const FORM = 144;
 export const MADE = 160;
-export const TABLES = 1008;
-const ROOM = 1840;
+export const TABLES = 1024;
+const ROOM = 1872;
 
 /** The sizes of those that are copied. */
 export const DECODER_SIZE = 104;
