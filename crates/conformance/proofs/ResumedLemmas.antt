@@ -6,7 +6,7 @@ use Rattle.data_encoding.specs.Base.{Base, ignores_some, is_padded}
 use Rattle.data_encoding.specs.Fault.{fault_of, sound_bytes}
 use Rattle.data_encoding.specs.Fields.{IsSpecified, base_of}
 use Rattle.data_encoding.specs.Grammar.{Means}
-use Rattle.data_encoding.specs.Laws.{JoinDecode, JoinFault, MayBeFollowed, Resumes, further}
+use Rattle.data_encoding.specs.Laws.{JoinDecode, JoinFault, MayBeFollowed, Resumes, shifted}
 use Rattle.data_encoding.specs.Lengths.{length_fault}
 use Rattle.data_encoding.specs.Predefined.{base64_mime_fields}
 
@@ -65,6 +65,6 @@ module _ (base : Base) (is : IsSpecified base) (join : JoinDecode) (fault : Join
             (subst (λ t. Means base (t ++ next) more) none other);
         fault =
             both.0
-            ∙ ap (λ t. further (length piece) (fault_of base (t ++ next))) (sym none);
+            ∙ ap (λ t. shifted (length piece) (fault_of base (t ++ next))) (sym none);
         sound = both.1 ∙ ap (λ t. bytes ++ sound_bytes base (t ++ next)) (sym none);
       }

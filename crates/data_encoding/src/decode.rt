@@ -42,6 +42,7 @@ pub(crate) struct Stop {
 }
 
 impl Stop {
+    /// Returns the place of a fault. `index` is its index in the group after `read` bytes.
     #[inline(always)]
     pub(crate) fn new(read: usize, written: usize, index: usize, kind: DecodeKind) -> Stop
         ensures { result ≡ record { read = read; written = written; index = index; kind = kind } }
@@ -52,49 +53,6 @@ impl Stop {
             index,
             kind,
         }
-    }
-}
-
-impl Encoding {
-    /// Decodes the text `input` to the start of `output`, and returns the length of the data in
-    /// bytes.
-    ///
-    /// `input` must have at most `DECODE_LIMIT` bytes. It may be several concatenated padded texts,
-    /// if the encoding allows it. `output` must have exactly the length that `decode_len` returns
-    /// for `input.len()`. The bytes of `output` after the data are unspecified. If the encoding has
-    /// no padding and ignores no byte, the data fills `output`.
-    ///
-    /// Returns the fault of an invalid text. The first `read` bytes of `input` then mean the first
-    /// `written` bytes of `output`, and the other bytes of `output` are unspecified. `read` is the
-    /// end of the last group before the faulty one, or 0 if there is none, except after some
-    /// `Length` faults.
-    ///
-    /// Only the last group can have a `Length` fault, and only if the encoding ignores bytes. Let
-    /// `rest` be the bytes of `input` after the groups before it, and `front` the longest prefix of
-    /// `rest` with a valid length. If `front` has no ignored byte and no fault, `read` is the
-    /// position of the fault.
-    pub fn decode_mut(&self, input: &[u8], output: &mut [u8]) -> Result<usize, DecodePartial>
-        requires limit { length input.now ≤ DECODE_LIMIT }
-        requires exact { decoded_len self.now (length input.now) ≡ Ok (length output.old) }
-        ensures { DecodesText self.now input.now output.old output.new result }
-    {
-        self.by_ref().decode_mut(input, output)
-    }
-
-    /// Returns the data that the text `input` means.
-    ///
-    /// `input` must have at most `DECODE_LIMIT` bytes. It may be several concatenated padded texts,
-    /// if the encoding allows it.
-    ///
-    /// Returns the fault of an invalid text. This is the fault of its length or, if the length has
-    /// no fault, of its first faulty group. In a group, the padding is checked before the symbols.
-    /// Returns `OutOfMemory` only if memory runs out and `decode_len` returns more than 0 for
-    /// `input.len()`.
-    pub fn decode(&self, alloc: Global, input: &[u8]) -> Result<Vec<u8>, DecodeFault>
-        requires limit { length input.now ≤ DECODE_LIMIT }
-        ensures { DecodesWhole self.now input.now result }
-    {
-        self.by_ref().decode(alloc, input)
     }
 }
 
@@ -110,7 +68,7 @@ impl EncodingRef<'_> {
         if self.decode_by_order(input, output, &mut stop) {
             return Ok(stop.written);
         }
-        Err(self.stopped(input, output, stop))
+        Err(self.partial_error(input, output, stop))
     }
 
     /// Like [`Encoding::decode`].
@@ -129,10 +87,12 @@ impl EncodingRef<'_> {
         }
     }
 
-    // Returns the error of the faulty group that follows the first `stop.read` bytes. After a
-    // `Length` fault, what `decode_front` decodes of that group is read and written too.
+    /// Returns the error of the faulty group that follows the first `stop.read` bytes.
+    ///
+    /// After a `Length` fault, the part of that group that `decode_valid_prefix` decodes is read
+    /// and written too.
     #[inline(always)]
-    fn stopped(&self, input: &[u8], output: &mut [u8], stop: Stop) -> DecodePartial
+    fn partial_error(&self, input: &[u8], output: &mut [u8], stop: Stop) -> DecodePartial
         requires limit { length input.now ≤ DECODE_LIMIT }
         requires within { stop.read ≤ length input.now }
         requires fits { stop.written ≤ length output.old }
@@ -148,7 +108,7 @@ impl EncodingRef<'_> {
         let mut written = stop.written;
         let position = read + self.kept_position(rest, stop.index);
         if matches!(stop.kind, DecodeKind::Length) {
-            if let Some(count) = self.decode_front(rest, &mut output[written..]) {
+            if let Some(count) = self.decode_valid_prefix(rest, &mut output[written..]) {
                 read = position;
                 written += count;
             }
@@ -163,21 +123,30 @@ impl EncodingRef<'_> {
         }
     }
 
-    // Decodes the longest prefix of `rest` that has a valid length. Returns how many bytes the
-    // prefix means, or `None` if the prefix has an ignored byte, has a fault, or is longer than a
-    // group.
+    /// Decodes the longest prefix of `rest` that has a valid length.
+    ///
+    /// Returns the number of bytes that the prefix means, or `None` if the prefix has an ignored
+    /// byte, has a fault, or is longer than a group.
     #[cold]
     #[inline(never)]
-    fn decode_front(&self, rest: &[u8], output: &mut [u8]) -> Option<usize>
+    fn decode_valid_prefix(&self, rest: &[u8], output: &mut [u8]) -> Option<usize>
         requires limit { length rest.now ≤ DECODE_LIMIT }
         requires room { HasRoom self.now rest.now (length output.old) }
         ensures { DecodesLastRun self.now rest.now output.new result }
     {
-        call_by_width!(self.fields.width, self.decode_last_run::<>(rest, output))
+        call_by_width!(
+            self.fields.width,
+            self.decode_valid_prefix_by_width::<>(rest, output)
+        )
     }
 
-    // `decode_front`, with the width as a constant.
-    fn decode_last_run<G: GroupSize>(&self, rest: &[u8], output: &mut [u8]) -> Option<usize>
+    /// Like [`decode_valid_prefix`](EncodingRef::decode_valid_prefix), with the width as a
+    /// constant.
+    fn decode_valid_prefix_by_width<G: GroupSize>(
+        &self,
+        rest: &[u8],
+        output: &mut [u8],
+    ) -> Option<usize>
         requires width { self.now.width ≡ G.WIDTH }
         requires limit { length rest.now ≤ DECODE_LIMIT }
         requires room { HasRoom self.now rest.now (length output.old) }

@@ -1,6 +1,7 @@
 //! Encoding: from data to text.
 
 pub(crate) mod append;
+pub(crate) mod kept_data;
 pub(crate) mod lines;
 
 ghost use Rattle.std.specs.Prelude.{◌≡◌, All, ℕ, ◌<◌, ◌+◌, ◌-◌, ◌*◌, ◌/◌, ◌≤◌, List, ◌++◌, length, drop, IfOk, IsOk};
@@ -25,70 +26,6 @@ pub const ENCODE_LIMIT: usize = limits::ENCODE_LIMIT;
 
 const _: () = prove!(ENCODE_LIMIT == 36028797018963967);
 
-impl Encoding {
-    /// Returns the length in bytes of the text of `len` bytes of data, with its padding and line
-    /// separators.
-    ///
-    /// `len` must be at most `ENCODE_LIMIT`. The result is at most `263 * len`.
-    pub fn encode_len(&self, len: usize) -> usize
-        requires limit { len ≤ ENCODE_LIMIT }
-        ensures { IsEncodeLen self.now len result }
-    {
-        self.by_ref().encode_len(len)
-    }
-
-    /// Returns the length of a block: the number of bytes of data in a whole line, or in a whole
-    /// group if the encoding has no lines.
-    ///
-    /// The length is from 1 to 189. If the length of each piece of data except the last is a
-    /// multiple of it, the texts of the pieces, joined in order, are the text of the data.
-    pub fn encode_align(&self) -> usize
-        ensures value { result ≡ alignment self.now }
-        ensures some { 0 < result }
-        ensures most { result ≤ 189 }
-        ensures base { IsSpecified self.now }
-    {
-        self.by_ref().encode_align()
-    }
-
-    /// Writes the text of the data `input` to `output`.
-    ///
-    /// `input` must have at most `ENCODE_LIMIT` bytes. `output` must have exactly the length that
-    /// `encode_len` returns for `input.len()`.
-    pub fn encode_mut(&self, input: &[u8], output: &mut [u8])
-        requires limit { length input.now ≤ ENCODE_LIMIT }
-        requires exact { length output.old ≡ length (text_of self.now input.now) }
-        ensures text { output.new ≡ text_of self.now input.now }
-        ensures ascii { All (λ byte. byte < 128) output.new }
-    {
-        self.by_ref().encode_mut(input, output);
-    }
-
-    /// Writes the text of `input` to `output`, like [`encode_mut`](Encoding::encode_mut), and
-    /// returns `output` as a `str`.
-    pub fn encode_mut_str<'a>(&self, input: &[u8], output: &'a mut [u8]) -> &'a str
-        requires limit { length input.now ≤ ENCODE_LIMIT }
-        requires exact { length output.old ≡ length (text_of self.now input.now) }
-        ensures { result.now ≡ text_of self.now input.now }
-    {
-        self.by_ref().encode_mut_str(input, output)
-    }
-
-    /// Returns the text of the data `input`.
-    ///
-    /// `input` must have at most `ENCODE_LIMIT` bytes. Padding fills the last group, if the
-    /// encoding has padding. The separator follows each line, if the encoding has lines.
-    ///
-    /// Returns an error only if memory runs out, and never if `input` is empty.
-    pub fn encode(&self, alloc: Global, input: &[u8]) -> Result<String, AllocError>
-        requires limit { length input.now ≤ ENCODE_LIMIT }
-        ensures text { IfOk result (λ text. string_bytes text ≡ text_of self.now input.now) }
-        ensures empty { length input.now ≡ 0 → IsOk result }
-    {
-        self.by_ref().encode(alloc, input)
-    }
-}
-
 impl EncodingRef<'_> {
     /// Like [`Encoding::encode_len`].
     #[inline(always)]
@@ -103,7 +40,7 @@ impl EncodingRef<'_> {
         count + count.div_ceil(self.fields.column as usize) * self.separator.len()
     }
 
-    // Returns the length that `encode_len` returns, without the separators.
+    /// Returns the length that `encode_len` returns, without the separators.
     #[inline(always)]
     fn padded_len(&self, len: usize) -> usize
         requires limit { len ≤ ENCODE_LIMIT }
@@ -162,6 +99,7 @@ impl EncodingRef<'_> {
         Ok(unsafe { String::from_utf8_unchecked(output) })
     }
 
+    /// Makes the width a constant.
     #[inline(always)]
     fn encode_by_width<G: GroupSize>(&self, input: &[u8], output: &mut [u8])
         requires fits { FitsText self.now G.WIDTH input.now output.old }
@@ -174,7 +112,7 @@ impl EncodingRef<'_> {
         }
     }
 
-    // Writes the symbols and the padding.
+    /// Writes the symbols and the padding.
     #[inline(always)]
     fn encode_padded<G: GroupSize>(&self, input: &[u8], output: &mut [u8])
         requires width { self.now.width ≡ G.WIDTH }
@@ -191,8 +129,8 @@ impl EncodingRef<'_> {
         );
     }
 
-    // Writes the padding of the text to the end of `output`, and returns how many symbols come
-    // before it.
+    /// Writes the padding of the text to the end of `output`, and returns the number of symbols
+    /// before it.
     #[inline(always)]
     fn pad<G: GroupSize>(&self, input: &[u8], output: &mut [u8]) -> usize
         requires width { self.now.width ≡ G.WIDTH }
@@ -220,8 +158,8 @@ impl EncodingRef<'_> {
     }
 }
 
-// The number of symbols of `len` bytes, without padding. Each division is by a constant, since a
-// division by a variable takes as long as encoding a group.
+/// Returns the number of symbols of `len` bytes, without padding.
+// Each division is by a constant, since a division by a variable takes as long as encoding a group.
 fn symbol_count(width: u8, len: usize) -> usize
     requires width { IsWidth width }
     requires limit { len ≤ ENCODE_LIMIT }
@@ -237,8 +175,8 @@ fn symbol_count(width: u8, len: usize) -> usize
     }
 }
 
-// The number of symbols of `len` bytes, with the padding that fills the last group. Groups of one
-// byte, those of the other widths, need no padding.
+/// Returns the number of symbols of `len` bytes, with the padding that fills the last group.
+// Groups of one byte, which the other widths have, need no padding.
 fn filled_count(width: u8, len: usize) -> usize
     requires width { IsWidth width }
     requires limit { len ≤ ENCODE_LIMIT }

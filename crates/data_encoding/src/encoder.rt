@@ -9,8 +9,8 @@ ghost use Rattle.data_encoding_meaning.specs.text.EncodedPieces.{HasEncoded};
 ghost use Rattle.data_encoding_meaning.specs.text.Lengths.{alignment};
 
 use crate::encode::ENCODE_LIMIT;
+use crate::encode::kept_data::KeptData;
 use crate::encoding::{Encoding, EncodingRef};
-use crate::kept_data::KeptData;
 use std::alloc::{AllocError, Allocator};
 
 /// An encoding that an [`Encoder`] can borrow.
@@ -76,7 +76,7 @@ impl Encoding {
 }
 
 impl EncodingRef<'_> {
-    // Appends the text of the blocks that the input completes, and holds the rest.
+    /// Appends the text of the blocks that the input completes, and holds the rest.
     fn append_blocks<A: Allocator + Copy>(
         &self,
         input: &[u8],
@@ -178,8 +178,8 @@ impl<'a, E: Encodes> Encoder<'a, E> {
     }
 }
 
-// A type to which two of these impls apply is refused, so the crate compiles only while an encoder
-// is not `Drop`.
+// The compiler refuses two impls for one type, so the crate compiles only while an encoder is not
+// `Drop`.
 trait MustBeSpent {}
 
 impl<T: Drop> MustBeSpent for T {}

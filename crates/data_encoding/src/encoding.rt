@@ -1,6 +1,9 @@
 //! Encodings, and the terms that describe them.
 
+mod calls;
 mod equality;
+pub(crate) mod lent;
+pub(crate) mod plain;
 
 ghost use Rattle.std.specs.Prelude.{◌≡◌, ◌<◌, ◌≤◌, ◌-◌, ◌==◌, ◌||◌, length};
 ghost use Rattle.data_encoding.specs.Calls.{IsBitWidth, IsGroupBytes, IsGroupLen};
@@ -8,7 +11,7 @@ ghost use Rattle.data_encoding_meaning.specs.text.Base.{IsWidth, group_bytes, gr
 ghost use Rattle.data_encoding_meaning.specs.specification.Fields.{IsSpecified};
 ghost use Rattle.data_encoding_meaning.specs.text.Lengths.{most_bytes};
 
-use crate::plain::PlainFields;
+use crate::encoding::plain::PlainFields;
 use arrayvec::ArrayVec;
 pub use data_encoding_meaning::encoding::{BitOrder, Character};
 use std::marker::Model;
@@ -23,7 +26,7 @@ pub(crate) const PADDING: u8 = 130;
 // The greatest number of symbols, and so the least entry that is not a value.
 pub(crate) const MOST_SYMBOLS: u8 = 64;
 
-// The number of ASCII characters; a text has no others.
+// The number of ASCII characters. Texts consist of them.
 pub(crate) const ASCII: u8 = 128;
 
 /// A base encoding: it determines the text of data, and the data that a text means.
@@ -31,7 +34,7 @@ pub(crate) const ASCII: u8 = 128;
 pub struct Encoding {
     pub(crate) fields: PlainFields,
 
-    // What follows each line.
+    // The separator after each line.
     pub(crate) separator: ArrayVec<u8, 255>,
 }
 
@@ -59,7 +62,7 @@ impl Model for Encoding {
 pub struct EncodingRef<'a> {
     pub(crate) fields: &'a PlainFields,
 
-    // What follows each line.
+    // The separator after each line.
     pub(crate) separator: &'a [u8],
 }
 
@@ -185,78 +188,9 @@ impl Encoding {
             separator: self.separator.as_slice(),
         }
     }
-
-    /// Returns the number of bits of a symbol, from 1 to 6.
-    pub fn bit_width(&self) -> usize
-        ensures { IsBitWidth self.now result }
-    {
-        self.by_ref().bit_width()
-    }
-
-    /// Returns the number of symbols in a whole group: 2, 4 or 8.
-    ///
-    /// It is the least number of symbols with bits that are whole bytes.
-    pub fn group_len(&self) -> usize
-        ensures { IsGroupLen self.now result }
-    {
-        self.by_ref().group_len()
-    }
-
-    /// Returns the number of bytes of data in a whole group: 1, 3 or 5.
-    pub fn group_bytes(&self) -> usize
-        ensures { IsGroupBytes self.now result }
-    {
-        self.by_ref().group_bytes()
-    }
-
-    /// Returns `true` if fewer symbols than a whole group mean no byte.
-    ///
-    /// This is the case if texts are padded, or if a whole group is one byte.
-    pub fn completes_groups(&self) -> bool
-        ensures value { result ≡ (is_padded self.now || group_bytes self.now.width == 1) }
-        ensures none { result ≡ (most_bytes self.now (group_symbols self.now.width - 1) == 0) }
-    {
-        self.by_ref().completes_groups()
-    }
-
-    /// Returns `true` if some byte is ignored.
-    pub fn ignores_bytes(&self) -> bool
-        ensures { result ≡ ignores_some self.now }
-    {
-        self.by_ref().ignores_bytes()
-    }
-
-    /// Returns `true` if a text may continue after a padded group. Without padding the result is
-    /// `true`.
-    pub fn concatenates(&self) -> bool
-        ensures { result ≡ self.now.concatenates }
-    {
-        self.by_ref().concatenates()
-    }
-
-    /// Returns `true` if texts are padded.
-    pub fn is_padded(&self) -> bool
-        ensures { result ≡ is_padded self.now }
-    {
-        self.by_ref().is_padded()
-    }
-
-    /// Returns `true` if the trailing bits of a text must be zeros.
-    pub fn checks_trailing_bits(&self) -> bool
-        ensures { result ≡ self.now.checks_trailing_bits }
-    {
-        self.by_ref().checks_trailing_bits()
-    }
-
-    /// Returns the meaning of `byte` in a text.
-    pub fn interpret_byte(&self, byte: u8) -> Character
-        ensures { result ≡ meaning self.now byte }
-    {
-        self.by_ref().interpret_byte(byte)
-    }
 }
 
-// The number of bytes of a whole group.
+/// Returns the number of bytes of a whole group.
 pub(crate) fn group_bytes(width: u8) -> u8
     ensures value { result ≡ group_bytes width }
     ensures some { 0 < result }
@@ -271,8 +205,9 @@ pub(crate) fn group_bytes(width: u8) -> u8
     }
 }
 
-// The number of symbols of a whole group. Inlined, so that the compiler divides by it with a shift:
-// each result is a constant power of two.
+/// Returns the number of symbols of a whole group.
+// Inlined, so that the compiler divides by the result with a shift: each is a constant power of
+// two.
 #[inline(always)]
 pub(crate) fn group_symbols(width: u8) -> u8
     requires width { IsWidth width }
@@ -286,7 +221,7 @@ pub(crate) fn group_symbols(width: u8) -> u8
     }
 }
 
-// Returns the separator of these bytes.
+/// Returns a copy of the separator.
 pub(crate) fn copied(separator: &[u8]) -> ArrayVec<u8, 255>
     requires { length separator.now < 256 }
     ensures { result.items ≡ separator.now }

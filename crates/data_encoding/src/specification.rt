@@ -39,10 +39,10 @@ pub struct Translate {
 /// The lines of a text.
 #[derive(Debug, Drop)]
 pub struct Wrap {
-    /// The number of characters of a line. If it is 0, texts have no lines.
+    /// The number of characters of a line. 0 means no lines.
     pub width: usize,
 
-    /// The separator that follows each line. If it is empty, texts have no lines.
+    /// The separator that follows each line. An empty one means no lines.
     pub separator: String,
 }
 
@@ -65,7 +65,7 @@ pub struct Specification {
     /// The character that fills the last group of a text.
     pub padding: Option<char>,
 
-    /// The ignored bytes: they may be anywhere in a text, and have no meaning.
+    /// The ignored bytes: they may be anywhere in a text, and add nothing to it.
     pub ignore: String,
 
     /// The lines of a text.
@@ -159,20 +159,6 @@ impl SpecificationError {
     }
 }
 
-impl Encoding {
-    /// Returns a specification from which the encoding can be built again.
-    ///
-    /// Its ignored bytes and its translations are in ascending order. It has a translation for each
-    /// byte that means a symbol or padding and is not itself that character.
-    ///
-    /// Returns an error only if memory runs out.
-    pub fn specification(&self, alloc: Global) -> Result<Specification, AllocError>
-        ensures { IfOk result (λ specification. specified specification ≡ fields_of self.now) }
-    {
-        self.by_ref().specification(alloc)
-    }
-}
-
 impl EncodingRef<'_> {
     /// Like [`Encoding::specification`].
     pub fn specification(&self, alloc: Global) -> Result<Specification, AllocError>
@@ -198,7 +184,7 @@ impl EncodingRef<'_> {
         })
     }
 
-    // The tables, with one entry for each symbol.
+    /// Returns the tables, with one entry for each symbol.
     pub(crate) fn tables(&self) -> Tables<'_>
         ensures tables { HasTables self.now result }
         ensures long { length result.values.now ≡ 128 }
@@ -213,7 +199,7 @@ impl EncodingRef<'_> {
     }
 }
 
-// Appends an ASCII character.
+/// Appends an ASCII character.
 fn push_ascii(text: &mut String, byte: u8) -> Result<(), AllocError>
     requires { byte < 128 }
     ensures { OnOk result (string_bytes text.new ≡ string_bytes text.old ++ byte ∷ []) }
@@ -221,7 +207,7 @@ fn push_ascii(text: &mut String, byte: u8) -> Result<(), AllocError>
     text.push(char::from(byte))
 }
 
-// Returns ASCII characters as text.
+/// Returns ASCII characters as text.
 fn ascii_text(alloc: Global, bytes: &[u8]) -> Result<String, AllocError>
     requires { IsTrue (list_all (λ byte. nat_lt byte 128) bytes.now) }
     ensures { IfOk result (λ text. string_bytes text ≡ bytes.now) }

@@ -4,7 +4,7 @@ use Rattle.std.proofs.lemmas.Bool.{le-ltb, lt-ltb}
 use Rattle.data_encoding.specs.Base.{Base}
 use Rattle.data_encoding.specs.Lengths.{alignment}
 use Rattle.data_encoding.specs.Text.{text_of}
-use Rattle.data_encoding.specs.declared.kept_data.KeptData.{KeptData}
+use Rattle.data_encoding.specs.declared.encode.kept_data.KeptData.{KeptData}
 use Rattle.data_encoding.specs.KeptData.{held_data, piece_text}
 use Rattle.data_encoding_calls.specs.Blocks.{if_kept, last_text, piece_status, DataPlaces, EncodesPiece}
 use Rattle.data_encoding_calls.specs.Calls.{front_status, over, WritesFront}

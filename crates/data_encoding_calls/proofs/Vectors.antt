@@ -14,12 +14,12 @@ use Rattle.data_encoding.specs.Fields.{Fields, IsSpecified, base_of}
 use Rattle.data_encoding.specs.Grammar.{Means}
 use Rattle.data_encoding.specs.Layout.{layout}
 use Rattle.data_encoding.specs.Plain.{base_of_plain}
-use Rattle.data_encoding.specs.declared.plain.PlainEncoding.{PlainEncoding}
+use Rattle.data_encoding.specs.declared.encoding.plain.PlainEncoding.{PlainEncoding}
 use Rattle.data_encoding.specs.Named.{IsNumbered}
 use Rattle.data_encoding.specs.Pieces.{whole_bytes}
 use Rattle.data_encoding.specs.Predefined.{base64_fields, base64_mime_fields}
 use Rattle.data_encoding.specs.Text.{text_of}
-use Rattle.data_encoding.specs.declared.kept_data.KeptData.{KeptData}
+use Rattle.data_encoding.specs.declared.encode.kept_data.KeptData.{KeptData}
 use Rattle.encoding_stream.specs.declared.pieces.Kept.{Kept}
 use Rattle.data_encoding.specs.KeptData.{held_data, piece_text}
 use Rattle.encoding_stream.specs.Blocks.{EncodesOn, HasWritten, EndsBlocks}

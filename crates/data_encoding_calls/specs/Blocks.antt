@@ -3,7 +3,7 @@ use Rattle.std.specs.Prelude.{◌≡◌, ℕ, nat_lt, List, ◌++◌, length, if
 use Rattle.data_encoding.specs.Base.{Base}
 use Rattle.data_encoding.specs.Lengths.{alignment}
 use Rattle.data_encoding.specs.Text.{text_of}
-use Rattle.data_encoding.specs.declared.kept_data.KeptData.{KeptData}
+use Rattle.data_encoding.specs.declared.encode.kept_data.KeptData.{KeptData}
 use Rattle.data_encoding.specs.KeptData.{after_blocks, held_data, piece_text}
 use Rattle.encoding_stream.specs.Blocks.{EncodesOn, EndsBlocks}
 use Rattle.data_encoding_calls.specs.Calls.{encode_len_status, front_status, over}

@@ -1,8 +1,8 @@
 -- The effects of calls with the number of an encoding, or with an encoding that the caller holds.
 use Rattle.std.specs.Prelude.{◌≡◌, ℕ, List}
-use Rattle.data_encoding.specs.declared.plain.PlainEncoding.{PlainEncoding}
+use Rattle.data_encoding.specs.declared.encoding.plain.PlainEncoding.{PlainEncoding}
 use Rattle.data_encoding.specs.Plain.{base_of_plain}
-use Rattle.data_encoding.specs.declared.kept_data.KeptData.{KeptData}
+use Rattle.data_encoding.specs.declared.encode.kept_data.KeptData.{KeptData}
 use Rattle.data_encoding_calls.specs.declared.convert.Decoded.{Decoded}
 use Rattle.data_encoding_calls.specs.declared.facts.TextLengths.{TextLengths}
 use Rattle.data_encoding_calls.specs.declared.make.Form.{Form}

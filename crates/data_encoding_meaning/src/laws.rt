@@ -54,7 +54,7 @@ pub fn one_meaning()
     ensures { OneMeaning }
 {}
 
-/// States that a text means data if and only if it has no fault and the data is its sound bytes.
+/// States that a text means data if and only if it is valid and the data is its sound bytes.
 pub fn sound_text()
     ensures sound { SoundMeans }
     ensures meant { MeansSound }
@@ -111,7 +111,7 @@ pub fn tight()
 /// States that a fault of whole groups is also the fault of every longer text, unless the length of
 /// that text is a fault.
 ///
-/// If the whole groups have no fault, no longer text has one before their end. Ignored bytes belong
+/// If the whole groups are valid, no longer text has a fault before their end. Ignored bytes belong
 /// to no group.
 pub fn fault_stays()
     ensures groups { GroupFaultStays }

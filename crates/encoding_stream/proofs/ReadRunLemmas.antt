@@ -6,7 +6,7 @@ use Rattle.data_encoding.specs.declared.error.DecodePartial.{DecodePartial}
 use Rattle.data_encoding.specs.Base.{Base, IsWidth, group_bytes, group_symbols, is_padded}
 use Rattle.data_encoding.specs.Fields.{IsSpecified}
 use Rattle.data_encoding.specs.Grammar.{Means}
-use Rattle.data_encoding.specs.Laws.{further}
+use Rattle.data_encoding.specs.Laws.{shifted}
 use Rattle.data_encoding.specs.Lengths.{decoded_len, length_fault, most_bytes, unless_fault}
 use Rattle.data_encoding.specs.Pieces.{CountsGroups, ReadsSound}
 use Rattle.encoding_stream.specs.declared.pieces.Kept.{Kept}
@@ -45,7 +45,7 @@ pub reads-run : (base : Base) → IsWidth base.width → (old : Kept) → IsFres
     → ReadsOn base old
     (record old {
       len = old.len + length piece;
-      fault = further old.len error;
+      fault = shifted old.len error;
       positions = positions;
       bytes = places;
       ended = ended;
@@ -63,7 +63,7 @@ reads-run base width old fresh positions places piece bytes error ended run few 
       decodes = λ text keeps. (next text keeps).1;
       counted = refl;
       few =
-          fills-few base width old.fault (further old.len error) old.count (length piece) old.count
+          fills-few base width old.fault (shifted old.len error) old.count (length piece) old.count
           (length bytes) fresh.sound
           (subst (λ n. FillsGroups base n (length piece) n (length bytes)) (sym fresh.none) few);
     }

@@ -19,7 +19,7 @@ use Rattle.encoding_stream.specs.declared.pieces.BufferDecoder.{BufferDecoder}
 use Rattle.encoding_stream.specs.declared.decoder.Decoder.{Decoder}
 use Rattle.encoding_stream.specs.declared.error.StreamFault.TheVariants.{Read, Write, Decode, TooLong}
 use Rattle.encoding_stream.specs.declared.blocks.BufferEncoder.{BufferEncoder}
-use Rattle.data_encoding.specs.declared.kept_data.KeptData.{KeptData}
+use Rattle.data_encoding.specs.declared.encode.kept_data.KeptData.{KeptData}
 use Rattle.encoding_stream.specs.declared.pieces.Kept.{Kept}
 use Rattle.encoding_stream.specs.declared.watch.Watch.{Watch}
 use Rattle.encoding_stream.specs.Appending.{AppendsDecoded}

@@ -5,7 +5,7 @@ use Rattle.data_encoding.specs.EncodedPieces.{HasEncoded}
 use Rattle.data_encoding.specs.KeptData.{held_data}
 use Rattle.data_encoding.specs.Lent.{base_of_lent}
 use Rattle.data_encoding.specs.Text.{text_of}
-use Rattle.data_encoding.specs.declared.kept_data.KeptData.{KeptData}
+use Rattle.data_encoding.specs.declared.encode.kept_data.KeptData.{KeptData}
 use Rattle.encoding_stream.specs.declared.blocks.BufferEncoder.{BufferEncoder}
 
 -- The encoding of an encoder.

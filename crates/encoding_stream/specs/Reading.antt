@@ -5,7 +5,7 @@ use Rattle.data_encoding.specs.declared.error.DecodeError.{DecodeError}
 use Rattle.data_encoding.specs.Base.{Base, group_symbols, ignores_some}
 use Rattle.data_encoding.specs.Fault.{fault_of, sound_bytes}
 use Rattle.data_encoding.specs.Grammar.{Means, groups, is_final, kept}
-use Rattle.data_encoding.specs.Laws.{further}
+use Rattle.data_encoding.specs.Laws.{shifted}
 use Rattle.data_encoding.specs.Pieces.{whole_bytes, HasRead}
 use Rattle.encoding_stream.specs.declared.pieces.Kept.{Kept}
 use Rattle.encoding_stream.specs.Appending.{AppendsDecoded}
@@ -48,7 +48,7 @@ has_final base text = list_any (is_final base) (groups base text)
 abbrev pub ReadsRun : Base → List ℕ → List ℕ → Option DecodeError → Type 0
 ReadsRun base piece bytes fault =
     (text : List ℕ) (len : ℕ) → HasRead base text len None [] false
-    → HasRead base (text ++ piece) (len + length piece) (further len fault) [] false
+    → HasRead base (text ++ piece) (len + length piece) (shifted len fault) [] false
     × (whole_bytes base (text ++ piece) ≡ whole_bytes base text ++ bytes)
 
 -- Like `ReadsRun`, for a piece in which a group may be final. If the piece has no fault, `ended` is
@@ -56,7 +56,7 @@ ReadsRun base piece bytes fault =
 abbrev pub ReadsRunTo : Base → List ℕ → List ℕ → Option DecodeError → Bool → Type 0
 ReadsRunTo base piece bytes fault ended =
     (text : List ℕ) (len : ℕ) → HasRead base text len None [] false
-    → HasRead base (text ++ piece) (len + length piece) (further len fault) [] ended
+    → HasRead base (text ++ piece) (len + length piece) (shifted len fault) [] ended
     × (whole_bytes base (text ++ piece) ≡ whole_bytes base text ++ bytes)
 
 -- The length of the whole groups in `len` bytes.

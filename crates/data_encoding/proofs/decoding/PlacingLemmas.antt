@@ -269,39 +269,49 @@ gather-front {base} {part} {index} skip so_far within front =
       ends = so_far.ends;
     }
 
--- Groups of packed bytes are decoded: of the kept bytes of a span after what was read.
-module _ {base : Base} (width : IsWidth base.width) {text output : List ℕ} {at : Progress}
-    (reached : HasReached base text at output) (new : List ℕ)
-    (new_len : length new ≡ length (take (length output - at.written) (drop at.written output)))
-    (packed : List ℕ) (count : ℕ) (few : count ≤ length packed) (span : ℕ)
-    (within : span ≤ length (drop (at.read + at.ignored) text))
-    (are : bytes_in (kept base (take span (drop (at.read + at.ignored) text)))
-    ≡ take count packed)
-    {found : Groups} (is : HasReadGroups base (take count packed) found new)
-    (some : 0 < found.read) (end : ℕ)
-    (before : EndsBefore base (take span (drop (at.read + at.ignored) text))
-    (count - found.read) end)
-    (inside : end ≤ length (take span (drop (at.read + at.ignored) text))) where
-  pub packed-to : HasDecodedTo base text (at.read + at.ignored + end) (at.written + found.written)
-      false (rewritten at.written output new)
-  packed-to =
-      let len : length (take count packed) ≡ count = length-take-le count packed few in
-      placed width reached new new_len is some end
-      (gathered-before are within before inside found.read
-      (omega (arith, len, is.so_far.within)))
+-- The first `count` bytes of `packed` are the kept bytes of the first `span` bytes of `rest`.
+pub record IsPacked (base : Base) (rest packed : List ℕ) (count span : ℕ) : Type 0 where
+  pub few : count ≤ length packed
+  pub within : span ≤ length rest
+  pub are : bytes_in (kept base (take span rest)) ≡ take count packed
 
-  -- what follows is ignored if all are decoded
-  pub packed-front : found.read ≡ count
-      → IsIgnoredFront base (drop (at.read + at.ignored + end) text) (span - end)
-  packed-front all =
-      let rest = drop (at.read + at.ignored) text in
-      let len = length-take-le span rest within in
-      let short : end ≤ span = omega (arith, inside, len) in
-      let front : take end (take span rest) ≡ take end rest = take-take end span rest short in
-      let kept_end = rw front at before.before in
-      let more = kept-count base end span rest short within in
-      rw (← (drop-drop end (at.read + at.ignored) text)) (record {
-        within = omega (arith, within, length-drop end rest);
-        none = nil_from_length (kept base (take (span - end) (drop end rest)))
-            (omega (arith, kept_end, more, all));
-      })
+-- Packed bytes are decoded: the text up to `read` and, if those are all, up to the ignored bytes.
+pub record IsPackedTo (base : Base) (text : List ℕ) (read written ignored : ℕ) (all : Type 0)
+    (output : List ℕ) : Type 0 where
+  pub so_far : HasDecodedTo base text read written false output
+  pub front : all → IsIgnoredFront base (drop read text) ignored
+
+-- The groups of packed bytes are placed in the text, after the groups before them.
+pub packed-to : {base : Base} (width : IsWidth base.width) {text output : List ℕ} {at : Progress}
+    (reached : HasReached base text at output) (new : List ℕ)
+    → length new ≡ length (take (length output - at.written) (drop at.written output))
+    → {packed : List ℕ} {count span : ℕ}
+    → IsPacked base (drop (at.read + at.ignored) text) packed count span
+    → {found : Groups} → HasReadGroups base (take count packed) found new → 0 < found.read
+    → {end : ℕ}
+    → EndsBefore base (take span (drop (at.read + at.ignored) text)) (count - found.read) end
+    → end ≤ length (take span (drop (at.read + at.ignored) text))
+    → IsPackedTo base text (at.read + at.ignored + end) (at.written + found.written)
+    (span - end) (found.read ≡ count) (rewritten at.written output new)
+packed-to {base} width {text} {output} {at} reached new new_len {packed} {count} {span} is_packed
+    {found} is some {end} before inside =
+    let rest = drop (at.read + at.ignored) text in
+    let packed_len : length (take count packed) ≡ count =
+    length-take-le count packed is_packed.few in
+    let len = length-take-le span rest is_packed.within in
+    let short : end ≤ span = omega (arith, inside, len) in
+    let front : take end (take span rest) ≡ take end rest = take-take end span rest short in
+    let kept_end = rw front at before.before in
+    let more = kept-count base end span rest short is_packed.within in
+    record {
+      so_far = placed width reached new new_len is some end
+          (gathered-before is_packed.are is_packed.within before inside found.read
+          (omega (arith, packed_len, is.so_far.within)));
+      -- the bytes after the last kept one are ignored
+      front = λ all.
+          rw (← (drop-drop end (at.read + at.ignored) text)) (record {
+            within = omega (arith, is_packed.within, length-drop end rest);
+            none = nil_from_length (kept base (take (span - end) (drop end rest)))
+                (omega (arith, kept_end, more, all));
+          });
+    }

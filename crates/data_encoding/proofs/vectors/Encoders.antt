@@ -6,8 +6,8 @@ use Rattle.data_encoding_meaning.specs.specification.Predefined.{base64_fields}
 use Rattle.data_encoding_meaning.specs.text.Text.{text_of}
 use Rattle.data_encoding.specs.declared.encoder.Encoder.{Encoder}
 use Rattle.data_encoding.specs.declared.encoder.Encodes
-use Rattle.data_encoding.specs.declared.kept_data.DueLen.{DueLen}
-use Rattle.data_encoding.specs.declared.kept_data.KeptData.{KeptData}
+use Rattle.data_encoding.specs.declared.encode.kept_data.DueLen.{DueLen}
+use Rattle.data_encoding.specs.declared.encode.kept_data.KeptData.{KeptData}
 use Rattle.data_encoding.specs.KeptData.{after_blocks, blocks_len, held_data, piece_text, text_of_blocks, IsDue}
 use Rattle.data_encoding_meaning.specs.text.EncodedPieces.{HasEncoded}
 use Rattle.data_encoding.specs.Encoder.{base_of_encoder, output_name, written, capacity, held, HasTaken, IsUnchanged, name_handed_back}

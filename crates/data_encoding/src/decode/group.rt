@@ -39,7 +39,7 @@ impl EncodingRef<'_> {
             Err(fault) => return Err(fault),
         };
         let symbols = &group[..count];
-        // A run stopped at this group, so it is likely to have a byte that is no symbol.
+        // A run stopped at this group, so it is likely to have a byte that is not a symbol.
         if count == G::SYMBOLS {
             let index = symbol_position(&self.fields.values.entries, symbols);
             if index < count {
@@ -61,7 +61,8 @@ impl EncodingRef<'_> {
         Ok(count)
     }
 
-    // Returns how many symbols a group has before its padding, if a group may have that many.
+    /// Returns the number of symbols before the padding of a group, if a group may have that
+    /// number.
     #[inline(always)]
     fn count_symbols<G: GroupSize>(&self, group: &[u8]) -> Result<usize, GroupFault>
         requires width { self.now.width ≡ G.WIDTH }
@@ -91,13 +92,14 @@ impl EncodingRef<'_> {
     }
 }
 
+/// Returns a fault in a group.
 fn faulty(index: usize, kind: DecodeKind) -> GroupFault
     ensures { result ≡ record { index = index; kind = kind } }
 {
     GroupFault { index, kind }
 }
 
-// Returns how many bytes of a group come before the padding at its end.
+/// Returns the number of bytes of a group before the padding at its end.
 fn before_padding(values: &[u8; 256], group: &[u8]) -> usize
     ensures count { (base : Base) → HoldsValues base values.now
         → result ≡ count_before_padding (map (meaning base) group.now) }
@@ -112,7 +114,7 @@ fn before_padding(values: &[u8; 256], group: &[u8]) -> usize
     0
 }
 
-// Whether bits that are not zeros are left after the last whole byte of these symbols.
+/// Returns `true` if bits other than zeros are left after the last whole byte of the symbols.
 fn has_trailing<G: GroupSize>(values: &[u8; 256], order: BitOrder, symbols: &[u8]) -> bool
     requires few { length symbols.now ≤ 8 }
     requires symbols { (k : ℕ) → k < length symbols.now

@@ -1,8 +1,9 @@
-//! Decoding of whole groups that stand one after another, without ignored bytes.
+//! Decoding of whole groups in a row, without ignored bytes.
 
 ghost use Rattle.std.specs.Prelude.{◌≡◌, true, ◌+◌, ◌*◌, ◌/◌, ◌≤◌, length, take, IsTrue};
 ghost use Rattle.data_encoding.specs.Groups.{HasReadGroups};
-ghost use Rattle.data_encoding.specs.Progress.{ReadsBy};
+ghost use Rattle.data_encoding.specs.Progress.{IsCodedIn, ReadsBy};
+ghost use Rattle.data_encoding_meaning.specs.text.Base.{Base};
 
 use crate::encoding::{EncodingRef, PADDING};
 use data_encoding_kernel::decode::{decode_by_turns, decode_run_within};
@@ -25,29 +26,30 @@ pub(crate) struct Groups {
     pub(crate) written: usize,
 }
 
-impl EncodingRef<'_> {
+impl<L: LookUp> Entries<'_, L> {
     /// Decodes whole groups of symbols of the first `len` bytes of `part`, as far as iterations of
     /// eight groups reach.
     #[inline(always)]
-    pub(crate) fn decode_line<L: LookUp, O: ConstantOrder, G: GroupSize>(
+    pub(crate) fn decode_line<O: ConstantOrder, G: GroupSize>(
         &self,
-        entries: Entries<'_, L>,
         part: &[u8],
         len: usize,
         output: &mut [u8],
     ) -> Groups
-        requires entries { ReadsBy L.holds self.now entries G.WIDTH O.ORDER }
         requires few { len ≤ length part.now }
         requires room { len / G.SYMBOLS * G.BYTES ≤ length output.old }
-        ensures { HasReadGroups self.now (take len part.now) result output.new }
+        ensures { (base : Base) → ReadsBy L.holds base self.now G.WIDTH O.ORDER
+            → HasReadGroups base (take len part.now) result output.new }
     {
-        let count = decode_by_turns::<L, O, G>(entries.look_up, part, len, output) / G::SYMBOLS;
+        let count = decode_by_turns::<L, O, G>(self.look_up, part, len, output) / G::SYMBOLS;
         Groups {
             read: count * G::SYMBOLS,
             written: count * G::BYTES,
         }
     }
+}
 
+impl EncodingRef<'_> {
     /// Decodes whole groups of the first `len` bytes of `part`: groups of symbols and, if texts may
     /// be concatenated, padded ones.
     ///
@@ -72,7 +74,7 @@ impl EncodingRef<'_> {
         };
         for _ in 0..len {
             let next = self.decode_run_at::<L, O, G>(entries, part, len, at, output);
-            at = self.decode_padded_at::<L, O, G>(entries, part, len, next, output);
+            at = self.decode_padded_at::<O, G>(entries.values, part, len, next, output);
             if at.read == next.read {
                 break;
             }
@@ -80,7 +82,7 @@ impl EncodingRef<'_> {
         at
     }
 
-    // Decodes groups of symbols only. No run is tried before a padded group.
+    /// Decodes groups of symbols only. No run is tried before a padded group.
     #[inline(always)]
     fn decode_run_at<L: LookUp, O: ConstantOrder, G: GroupSize>(
         &self,
@@ -112,23 +114,23 @@ impl EncodingRef<'_> {
         }
     }
 
-    // Decodes the next group, if it is padded and others may follow it.
+    /// Decodes the next group, if it is padded and others may follow it.
     #[inline(always)]
-    fn decode_padded_at<L: LookUp, O: ConstantOrder, G: GroupSize>(
+    fn decode_padded_at<O: ConstantOrder, G: GroupSize>(
         &self,
-        entries: Entries<'_, L>,
+        values: &[u8; 256],
         part: &[u8],
         len: usize,
         at: Groups,
         output: &mut [u8],
     ) -> Groups
-        requires entries { ReadsBy L.holds self.now entries G.WIDTH O.ORDER }
+        requires coded { IsCodedIn self.now G.WIDTH O.ORDER }
         requires few { len ≤ length part.now }
         requires at { HasReadGroups self.now (take len part.now) at output.old }
         ensures on { HasReadGroups self.now (take len part.now) result output.new }
         ensures further { at.read ≤ result.read }
     {
-        if !self.is_padded_at::<G>(entries.values, part, len, at.read) {
+        if !self.is_padded_at::<G>(values, part, len, at.read) {
             return at;
         }
         let group = &part[at.read..at.read + G::SYMBOLS];
@@ -141,7 +143,7 @@ impl EncodingRef<'_> {
         }
     }
 
-    // Returns whether the next group ends in padding, and others may follow it.
+    /// Returns `true` if the next group ends in padding, and others may follow it.
     #[inline(always)]
     fn is_padded_at<G: GroupSize>(
         &self,

@@ -8,20 +8,6 @@ use crate::decode::DECODE_LIMIT;
 use crate::encoding::{Encoding, EncodingRef, group_bytes, group_symbols};
 use crate::error::{DecodeError, DecodeKind};
 
-impl Encoding {
-    /// Returns the greatest number of bytes that a text of `len` bytes may mean.
-    ///
-    /// `len` must be at most `DECODE_LIMIT`. If no byte is ignored and no text has this length,
-    /// returns a `Length` fault. Its position is the longest valid length below `len`. The texts of
-    /// a padded encoding are whole groups.
-    pub fn decode_len(&self, len: usize) -> Result<usize, DecodeError>
-        requires limit { len ≤ DECODE_LIMIT }
-        ensures { IsDecodeLen self.now len result }
-    {
-        self.by_ref().decode_len(len)
-    }
-}
-
 impl EncodingRef<'_> {
     /// Like [`Encoding::decode_len`].
     #[inline(always)]
@@ -42,7 +28,7 @@ impl EncodingRef<'_> {
         Ok(self.bit_width() * len / 8)
     }
 
-    // Whether a text of this length without ignored bytes may mean something.
+    /// Returns `true` if a text of `len` bytes, none of them ignored, may mean something.
     #[inline(always)]
     fn is_valid_length(&self, len: usize) -> bool
         requires limit { len ≤ DECODE_LIMIT }
@@ -57,8 +43,8 @@ impl EncodingRef<'_> {
         left < width
     }
 
-    // The greatest valid length that is not longer, for texts without ignored bytes. Not inlined,
-    // since it is needed for faults only.
+    /// Returns the greatest valid length up to `len`, for texts without ignored bytes.
+    // Not inlined, since it is needed for faults only.
     #[inline(never)]
     pub(crate) fn greatest_valid_length(&self, len: usize) -> usize
         requires limit { len ≤ DECODE_LIMIT }
@@ -74,7 +60,7 @@ impl EncodingRef<'_> {
         len - width * len % 8 / width
     }
 
-    // The most bytes that a text of this length may mean.
+    /// Returns the greatest number of bytes that a text of `len` bytes may mean.
     fn most_bytes(&self, len: usize) -> usize
         requires limit { len ≤ DECODE_LIMIT }
         ensures { result ≡ most_bytes self.now len }

@@ -10,14 +10,14 @@ ghost use Rattle.data_encoding_kernel.specs.Tables.{HoldsValues};
 use crate::encoding::{EncodingRef, IGNORED};
 use data_encoding_kernel::group_size::GroupSize;
 
-// A group of a text: its bytes, and the length of the text up to its end, with ignored bytes.
+/// A group of a text: its bytes, and the length of the text up to its end, with ignored bytes.
 #[derive(Clone, Copy, Drop)]
 pub(crate) struct Group<'a> {
     pub(crate) bytes: &'a [u8],
     pub(crate) span: usize,
 }
 
-// How many bytes were gathered, and up to which length of the text.
+/// The number of bytes that were gathered, and the length of the text up to their end.
 #[derive(Clone, Copy, Drop)]
 pub(crate) struct Gathered {
     pub(crate) count: usize,
@@ -56,8 +56,8 @@ impl EncodingRef<'_> {
         }
     }
 
-    /// Returns the position of the byte that has this index among those that are not ignored, or
-    /// the length if there is no such byte.
+    /// Returns the position of the byte at `index` among the bytes that are not ignored, or the
+    /// length without such a byte.
     #[inline(never)]
     pub(crate) fn kept_position(&self, part: &[u8], index: usize) -> usize
         ensures found { index < length (kept self.now part.now)
@@ -80,7 +80,7 @@ impl EncodingRef<'_> {
     }
 }
 
-/// Returns `true` only if the first bytes, as many as a group has, are not ignored.
+/// Returns `true` only if no byte of the next group is ignored.
 #[inline(always)]
 pub(crate) fn starts_whole<G: GroupSize>(values: &[u8; 256], rest: &[u8]) -> bool
     ensures { IsTrue result → (base : Base) → HoldsValues base values.now
@@ -98,7 +98,7 @@ pub(crate) fn starts_whole<G: GroupSize>(values: &[u8; 256], rest: &[u8]) -> boo
     true
 }
 
-// Gathers the first bytes that are not ignored at the start of `room`.
+/// Gathers the first bytes that are not ignored at the start of `room`.
 fn gather<G: GroupSize>(values: &[u8; 256], rest: &[u8], room: &mut [u8; 8]) -> Gathered
     ensures few { result.count ≤ G.SYMBOLS }
     ensures first { (base : Base) → HoldsValues base values.now
@@ -117,8 +117,8 @@ fn gather<G: GroupSize>(values: &[u8; 256], rest: &[u8], room: &mut [u8; 8]) -> 
     Gathered { count: most, span }
 }
 
-// Returns the position of the first byte from `start` on that is not ignored, or the length. Mostly
-// the first byte is none: so it is tested before the loop.
+/// Returns the position of the first byte from `start` on that is not ignored, or the length.
+// The first byte is tested before the loop, since mostly it is not ignored.
 #[inline(always)]
 fn next_kept(values: &[u8; 256], rest: &[u8], start: usize) -> usize
     requires { start ≤ length rest.now }

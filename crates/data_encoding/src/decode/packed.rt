@@ -16,7 +16,7 @@ use data_encoding_kernel::ignore::{IgnoredBytes, pack};
 use data_encoding_kernel::lanes::look_up::LookUp;
 use data_encoding_kernel::order::ConstantOrder;
 
-// The room for packed bytes. Each use of it costs some 450 instructions: with 512, a text with a
+// The room for packed bytes. Each use of it costs about 450 instructions: with 512, a text with a
 // space after each 4 symbols takes 1.07 times the instructions. With 2,048, broken groups among
 // long runs take more, since the runs are packed as well.
 const ROOM: usize = 1024;
@@ -61,8 +61,8 @@ impl EncodingRef<'_> {
     }
 }
 
-// Returns the end of the byte before the last `last` bytes of `part`, where ignored bytes do not
-// count, or 0 if there is no such byte.
+/// Returns the end of the byte before the last `last` bytes of `part`, where ignored bytes do not
+/// count, or 0 if there is no such byte.
 #[inline(always)]
 fn span_before(ignored: &IgnoredBytes, values: &[u8; 256], part: &[u8], last: usize) -> usize
     ensures within { result ≤ length part.now }
@@ -73,8 +73,8 @@ fn span_before(ignored: &IgnoredBytes, values: &[u8; 256], part: &[u8], last: us
     span_before_some(values, &part[..end], left)
 }
 
-// Returns the length of a part without sixteens at its end that have no more bytes that are not
-// ignored than these, and how many of these are left.
+/// Returns the length of a part without chunks of sixteen at its end that have at most `last` kept
+/// bytes in all, and the number of those bytes that are left.
 #[inline(always)]
 fn skip_sixteens(ignored: &IgnoredBytes, part: &[u8], last: usize) -> (usize, usize)
     ensures within { result.0 ≤ length part.now }
@@ -84,8 +84,8 @@ fn skip_sixteens(ignored: &IgnoredBytes, part: &[u8], last: usize) -> (usize, us
         ≡ length (kept base part.now) }
 {
     let mut left = last;
-    for turn in 0..part.len() / 16 {
-        let end = part.len() - 16 * turn;
+    for index in 0..part.len() / 16 {
+        let end = part.len() - 16 * index;
         let count = ignored.count_kept(&part[end - 16..end]);
         if count > left {
             return (end, left);
@@ -95,7 +95,7 @@ fn skip_sixteens(ignored: &IgnoredBytes, part: &[u8], last: usize) -> (usize, us
     (part.len() % 16, left)
 }
 
-// `span_before`, byte by byte.
+/// Like [`span_before`], byte by byte.
 #[inline(always)]
 fn span_before_some(values: &[u8; 256], part: &[u8], last: usize) -> usize
     ensures within { result ≤ length part.now }

@@ -1,4 +1,4 @@
-//! Decoding of a text in a loop: groups where they stand, groups packed, and single groups.
+//! Decoding of a text in a loop: groups in place, packed groups, and single groups.
 
 ghost use Rattle.std.specs.Prelude.{◌≡◌, ℕ, List, true, false, ◌+◌, ◌<◌, ◌≤◌, length, drop, IsTrue};
 ghost use Rattle.data_encoding_meaning.specs.text.Base.{Base, ignores_some};
@@ -26,7 +26,7 @@ pub(crate) struct Progress {
     pub(crate) ignored: usize,
 }
 
-/// That so much of a text was read and written, and how many ignored bytes follow.
+/// Returns the progress after `read` and `written` bytes. Counts the ignored bytes that follow.
 #[inline(always)]
 pub(crate) fn progress_at(values: &[u8; 256], read: usize, written: usize, input: &[u8]) -> Progress
     requires within { read ≤ length input.now }
@@ -42,24 +42,24 @@ pub(crate) fn progress_at(values: &[u8; 256], read: usize, written: usize, input
     }
 }
 
-// How a step ended.
+/// How a step ended.
 #[derive(Clone, Copy, Drop)]
 pub(crate) enum Step {
-    // There is more to read.
+    /// There is more to read.
     More,
 
-    // The text has no fault.
+    /// The text is valid.
     Ended,
 
-    // The next group is faulty.
+    /// The next group is faulty.
     Faulty,
 }
 
 impl EncodingRef<'_> {
-    /// Decodes what follows a first run, up to the end of the text or its first fault. Returns
-    /// whether it has no fault.
+    /// Decodes the text after a first run, up to its end or its first fault. Returns `true` if the
+    /// text is valid.
     ///
-    /// At least every second turn reads a group. A turn tries at most one iteration and one group
+    /// At least every second pass reads a group. A pass tries at most one iteration and one group
     /// without a result. Bytes are packed again only if their group is unfinished, faulty or final.
     #[inline(always)]
     pub(crate) fn decode_steps<L: LookUp, O: ConstantOrder, G: GroupSize>(
@@ -101,8 +101,8 @@ impl EncodingRef<'_> {
         true
     }
 
-    // Decodes lines of this length, as long as a byte is ignored where each would end: the next
-    // address then does not wait for a count.
+    /// Decodes lines of `len` bytes, as long as a byte is ignored where each would end: the next
+    /// address then does not wait for a count.
     // Not inlined, so that its loop has the registers: inlined, lines of 60 take 1.12 times the
     // instructions.
     #[inline(never)]
@@ -127,7 +127,7 @@ impl EncodingRef<'_> {
             if len >= rest.len() || entry_of(values, rest[len]) != IGNORED {
                 break;
             }
-            let found = self.decode_line::<L, O, G>(entries, rest, len, &mut output[at.written..]);
+            let found = entries.decode_line::<O, G>(rest, len, &mut output[at.written..]);
             let written = at.written + found.written;
             if found.read != len {
                 if found.read > 0 {
@@ -140,7 +140,7 @@ impl EncodingRef<'_> {
         at
     }
 
-    // Decodes groups where they stand, after the ignored bytes before them.
+    /// Decodes groups in place, after the ignored bytes before them.
     #[inline(always)]
     fn decode_in_place<L: LookUp, O: ConstantOrder, G: GroupSize>(
         &self,
@@ -165,8 +165,8 @@ impl EncodingRef<'_> {
         progress_at(entries.values, start + found.read, written, input)
     }
 
-    // Returns whether bytes before or within the next group are ignored. With fewer than sixteen
-    // bytes left, groups by themselves take less time than packing.
+    /// Returns `true` if bytes before or within the next group are ignored.
+    // With fewer than sixteen bytes left, groups by themselves take less time than packing.
     #[inline(always)]
     fn is_broken_next<G: GroupSize>(&self, values: &[u8; 256], at: Progress, input: &[u8]) -> bool
         requires { at.read + at.ignored ≤ length input.now }
@@ -178,7 +178,7 @@ impl EncodingRef<'_> {
         rest.len() >= 16 && (at.ignored > 0 || !starts_whole::<G>(values, rest))
     }
 
-    /// Decodes the group after what was read, and judges it alone.
+    /// Decodes the next group by itself.
     // The caller makes the error, since a result with room for one makes short texts slower.
     #[inline(always)]
     pub(crate) fn decode_next<O: ConstantOrder, G: GroupSize>(
@@ -216,7 +216,7 @@ impl EncodingRef<'_> {
         stop.read = start + group.span;
         stop.written = at.written + G::WIDTH * count / 8;
         if count < group.bytes.len() && !self.fields.concatenates {
-            if self.is_end::<G>(input, stop) {
+            if self.check_nothing_follows::<G>(input, stop) {
                 return Step::Ended;
             }
             return Step::Faulty;
@@ -224,10 +224,10 @@ impl EncodingRef<'_> {
         Step::More
     }
 
-    // Whether a text ends after a final group: any further group is a fault, at its first byte. The
-    // output is not read or written.
+    /// Returns `true` if nothing follows a final group. Otherwise sets a fault at the first byte of
+    /// the next group.
     #[inline(never)]
-    fn is_end<G: GroupSize>(&self, input: &[u8], stop: &mut Stop) -> bool
+    fn check_nothing_follows<G: GroupSize>(&self, input: &[u8], stop: &mut Stop) -> bool
         requires width { self.now.width ≡ G.WIDTH }
         requires within { stop.old.read ≤ length input.now }
         ensures { (output : List ℕ) → HasExactOutput self.now input.now output
@@ -248,7 +248,7 @@ impl EncodingRef<'_> {
     }
 }
 
-// Returns whether a run is so long that the next one is decoded where it stands.
+/// Returns `true` if a run is so long that the next one is decoded in place.
 #[inline(always)]
 fn is_line<G: GroupSize>(len: usize) -> bool
     ensures { IsTrue result → 0 < len }
@@ -256,6 +256,6 @@ fn is_line<G: GroupSize>(len: usize) -> bool
     len >= LINE_LEN.max(8 * G::SYMBOLS)
 }
 
-// The least run after which the next one is decoded where it stands. With 16, hexadecimal in lines
-// of 16 to 30, each of another length, takes up to 1.7 times the instructions.
+// The least run after which the next one is decoded in place. With 16, hexadecimal in lines of 16
+// to 30, each of another length, takes up to 1.7 times the instructions.
 const LINE_LEN: usize = 32;

@@ -37,7 +37,7 @@ impl EncodingRef<'_> {
         }
     }
 
-    // By the affine form of the table if it has one, or else by its rows.
+    /// Uses the affine form of the table if it has one, and its rows otherwise.
     #[inline(always)]
     fn decode_by_look_up<O: ConstantOrder>(
         &self,
@@ -55,6 +55,7 @@ impl EncodingRef<'_> {
         self.decode_by_width::<Rows, O>(input, output, stop)
     }
 
+    /// Makes the width and the sizes of a group constants.
     // Not inlined, so that a call has the stack of its own look-up only.
     #[inline(never)]
     fn decode_by_width<L: LookUp, O: ConstantOrder>(
@@ -73,8 +74,8 @@ impl EncodingRef<'_> {
         )
     }
 
-    // With the width and the sizes of a group as constants too. If no byte is ignored, most texts
-    // end with the first group after the first run.
+    /// Decodes a text.
+    // If no byte is ignored, most texts end with the first group after the first run.
     #[inline(always)]
     fn decode_text<L: LookUp, O: ConstantOrder, G: GroupSize>(
         &self,
@@ -98,8 +99,9 @@ impl EncodingRef<'_> {
         }
     }
 
-    // A text of which bytes may be ignored. Most short ones end after the first run.
-    // Not inlined, so that other texts keep their registers.
+    /// Decodes a text that may have ignored bytes.
+    // Most short ones end after the first run. Not inlined, so that other texts keep their
+    // registers.
     #[inline(never)]
     fn decode_ignoring<L: LookUp, O: ConstantOrder, G: GroupSize>(
         &self,
@@ -121,7 +123,7 @@ impl EncodingRef<'_> {
         self.decode_rest::<L, O, G>(ignored, input, output, stop)
     }
 
-    // Decodes the whole groups of symbols at the start of a text.
+    /// Decodes the whole groups of symbols at the start of a text.
     #[inline(always)]
     fn decode_first_run<L: LookUp, O: ConstantOrder, G: GroupSize>(
         &self,
@@ -141,7 +143,7 @@ impl EncodingRef<'_> {
         }
     }
 
-    // Decodes what follows so many ignored bytes, after what was read.
+    /// Decodes the bytes of a text after those read and the ignored ones that follow them.
     #[inline(never)]
     fn decode_rest<L: LookUp, O: ConstantOrder, G: GroupSize>(
         &self,

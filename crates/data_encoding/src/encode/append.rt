@@ -10,25 +10,10 @@ ghost use Rattle.data_encoding_meaning.specs.text.Lengths.{alignment};
 ghost use Rattle.data_encoding_meaning.specs.text.Text.{text_of};
 
 use crate::encode::ENCODE_LIMIT;
+use crate::encode::kept_data::{DueLen, KeptData};
 use crate::encoding::{Encoding, EncodingRef};
-use crate::kept_data::{DueLen, KeptData};
 use std::alloc::{AllocError, Allocator};
 use std::mem;
-
-impl Encoding {
-    /// Appends the text of the data `input` to `output`.
-    ///
-    /// `input` must have at most `ENCODE_LIMIT` bytes.
-    ///
-    /// Returns an error only if memory runs out, and never if `input` is empty. The bytes and the
-    /// capacity of `output` are then unchanged.
-    pub fn encode_append(&self, input: &[u8], output: &mut String) -> Result<(), AllocError>
-        requires limit { length input.now ≤ ENCODE_LIMIT }
-        ensures { AppendsText self.now input.now output.old output.new result }
-    {
-        self.by_ref().encode_append(input, output)
-    }
-}
 
 impl EncodingRef<'_> {
     /// Like [`Encoding::encode_append`].
@@ -39,7 +24,7 @@ impl EncodingRef<'_> {
         self.append_in(input, output)
     }
 
-    // The same for a text of any allocator.
+    /// Like [`encode_append`](EncodingRef::encode_append), for any allocator.
     pub(crate) fn append_in<A: Allocator + Copy>(
         &self,
         input: &[u8],
@@ -63,7 +48,7 @@ impl EncodingRef<'_> {
         Ok(())
     }
 
-    // The same if there is room: the text, which has this length, is written in place.
+    /// Appends the text, which has `len` bytes, to an output with room for it.
     pub(crate) fn append_within<A: Allocator + Copy>(
         &self,
         input: &[u8],
@@ -87,7 +72,7 @@ impl EncodingRef<'_> {
         *output = unsafe { String::from_utf8_unchecked(bytes) };
     }
 
-    // Reads a piece of data if there is room for the text that is due, which is written in place.
+    /// Reads a piece of data, and appends its due text to an output with room for it.
     pub(crate) fn append_piece<A: Allocator + Copy>(
         &self,
         block_len: usize,

@@ -16,8 +16,9 @@ use std::simd::prelude::*;
 const BLOCK_LEN: usize = 1024;
 
 impl EncodingRef<'_> {
-    // A single line is encoded where it stands, and more of them in blocks. Not inlined, so that
-    // texts without lines do not pay for it.
+    /// Writes the text of an encoding with lines. A single line is encoded in place, and several
+    /// are encoded in blocks.
+    // Not inlined, so that texts without lines do not pay for it.
     #[inline(never)]
     pub(super) fn encode_lines<G: GroupSize>(&self, input: &[u8], output: &mut [u8])
         requires fits { FitsText self.now G.WIDTH input.now output.old }
@@ -31,9 +32,10 @@ impl EncodingRef<'_> {
         }
     }
 
-    // Block by block of whole lines; the last may be shorter. The text of a block is written
-    // without separators, so that most of its groups are encoded in lanes, and is then copied line
-    // by line.
+    /// Encodes blocks of whole lines. The last may be shorter.
+    ///
+    /// The text of a block is written without separators, so that most of its groups are encoded
+    /// with SIMD, and is then copied line by line.
     #[inline(always)]
     fn encode_blocks<G: GroupSize>(&self, input: &[u8], output: &mut [u8])
         requires fits { FitsText self.now G.WIDTH input.now output.old }
@@ -57,7 +59,8 @@ impl EncodingRef<'_> {
         }
     }
 
-    // The text in lines; `symbols` has room for its characters without separators.
+    /// Writes the text of a block in lines. `symbols` has room for its characters without
+    /// separators.
     #[inline(always)]
     fn encode_block<G: GroupSize>(
         &self,
@@ -80,7 +83,7 @@ impl EncodingRef<'_> {
         );
     }
 
-    // The text of at most one line, and the separator.
+    /// Writes the text of at most one line, and the separator.
     #[inline(always)]
     fn encode_line<G: GroupSize>(&self, input: &[u8], output: &mut [u8])
         requires fits { FitsText self.now G.WIDTH input.now output.old }
@@ -94,8 +97,9 @@ impl EncodingRef<'_> {
     }
 }
 
-// Writes the text in lines of `column` characters, the last of which may be shorter, each followed
-// by the separator. Not inlined, so that what its loop needs is in registers.
+/// Writes the text in lines of `column` characters, each followed by the separator. The last line
+/// may be shorter.
+// Not inlined, so that its loop has the registers.
 #[inline(never)]
 fn wrap(column: usize, separator: &[u8], text: &[u8], output: &mut [u8])
     requires some { 0 < column }
@@ -123,7 +127,7 @@ fn wrap(column: usize, separator: &[u8], text: &[u8], output: &mut [u8])
     }
 }
 
-// Writes a line, followed by the separator.
+/// Writes a line, followed by the separator.
 #[inline(always)]
 fn write_line(line: &[u8], separator: &[u8], output: &mut [u8])
     requires exact { length output.old ≡ length (line.now ++ separator.now) }
@@ -133,8 +137,8 @@ fn write_line(line: &[u8], separator: &[u8], output: &mut [u8])
     write_separator(separator, &mut output[line.len()..]);
 }
 
-// Copies a line. Two copies of constant length take less time than a call that copies any number of
-// bytes.
+/// Copies a line.
+// Two copies of constant length take less time than a call that copies any number of bytes.
 #[inline(always)]
 fn copy_line(line: &[u8], output: &mut [u8])
     requires exact { length output.old ≡ length line.now }
@@ -158,6 +162,7 @@ fn copy_line(line: &[u8], output: &mut [u8])
     }
 }
 
+/// Writes the separator.
 // A store for LF, and two for CR LF, take less time than a call that copies any number of bytes.
 #[inline(always)]
 fn write_separator(separator: &[u8], output: &mut [u8])
@@ -174,7 +179,7 @@ fn write_separator(separator: &[u8], output: &mut [u8])
     }
 }
 
-// Copies the first and the last N bytes, which are all. They may overlap.
+/// Copies the first and the last `N` bytes, which are all bytes. They may overlap.
 #[inline(always)]
 fn copy_ends<const N: usize>(input: &[u8], output: &mut [u8])
     requires enough { N ≤ length input.now }

@@ -8,8 +8,8 @@ ghost use Rattle.data_encoding_meaning.specs.specification.Fields.{Fields, base_
 ghost use Rattle.data_encoding.specs.PlainTables.{order_by, padding_by};
 ghost use Rattle.data_encoding.specs.Specification.{fields_of_parts};
 
+use crate::encoding::plain::PlainFields;
 use crate::encoding::{BitOrder, Encoding, INVALID, copied};
-use crate::plain::PlainFields;
 use crate::specification::meanings::{Meanings, Refusal, wraps};
 use crate::specification::parts::SpecificationParts;
 use data_encoding_kernel::symbol_table::SymbolTable;
@@ -18,14 +18,15 @@ use data_encoding_kernel::value_table::ValueTable;
 // The numbers of symbols, in order of their bits; a single symbol has none.
 const SIZES: [usize; 7] = [1, 2, 4, 8, 16, 32, 64];
 
-// The number of bits of a symbol, if there are `count` of them; a single one has none.
+/// Returns the number of bits of a symbol if there are `count` symbols, or `None` for a single one.
 fn width_of(count: usize) -> Option<usize>
     ensures { result ≡ width_of count }
 {
     SIZES.iter().position(|size| *size == count)
 }
 
-// The number of bits of a symbol, if there are `count` of them and it is not 0, or the refusal.
+/// Returns the number of bits of a symbol if there are `count` symbols and it is not 0, or the
+/// refusal.
 fn bits_of_symbol(count: usize) -> Result<u8, Refusal>
     ensures width { IfOk result (λ width. width_of count ≡ Some width) }
     ensures bits { IfOk result IsWidth }
@@ -39,7 +40,8 @@ fn bits_of_symbol(count: usize) -> Result<u8, Refusal>
     }
 }
 
-// The symbols, repeated until the table is full: its filled prefix is appended to itself.
+/// Returns the symbols, repeated until the table is full.
+// The filled prefix is appended to itself.
 fn repeated(symbols: &[u8], width: u8) -> [u8; 256]
     requires width { IsWidth width }
     requires count { length symbols.now ≡ 2 ^ width }
@@ -55,7 +57,7 @@ fn repeated(symbols: &[u8], width: u8) -> [u8; 256]
     table
 }
 
-// Whether trailing bits are checked: always, if eight bits are whole symbols.
+/// Returns `true` if trailing bits are checked: always, if eight bits are whole symbols.
 fn checks_trailing_bits(check: bool, width: u8) -> bool
     requires { 0 < width }
     ensures { result ≡ (check || (8 % width == 0)) }
@@ -63,14 +65,14 @@ fn checks_trailing_bits(check: bool, width: u8) -> bool
     check || 8 % width == 0
 }
 
-// Whether texts may be concatenated: always, if there is no padding.
+/// Returns `true` if texts may be concatenated: always, without padding.
 fn concatenates(concatenate: bool, padding: Option<char>) -> bool
     ensures { result ≡ (concatenate || is_none padding) }
 {
     concatenate || padding.is_none()
 }
 
-// The padding character, or 128.
+/// Returns the padding character, or 128.
 fn padding_entry(padding: Option<char>) -> u8
     requires { IfSome padding (λ character. character < 128) }
     ensures { padding_by result ≡ padding }
@@ -81,7 +83,7 @@ fn padding_entry(padding: Option<char>) -> u8
     }
 }
 
-// Whether the bit of weight 1 comes first.
+/// Returns `true` if the bit of weight 1 comes first.
 fn is_least_first(order: BitOrder) -> bool
     ensures { order_by result ≡ order }
 {
@@ -91,7 +93,7 @@ fn is_least_first(order: BitOrder) -> bool
     }
 }
 
-// The length of a line and the separator, or 0 and nothing if there are no lines.
+/// Returns the length of a line and the separator, or 0 and nothing without lines.
 fn lines_of(column: usize, separator: &[u8]) -> (u8, &[u8])
     requires column { IsTrue (wraps column separator.now) → column < 256 }
     requires separator { IsTrue (wraps column separator.now) → length separator.now < 256 }
@@ -105,7 +107,7 @@ fn lines_of(column: usize, separator: &[u8]) -> (u8, &[u8])
     (0, b"")
 }
 
-// What the bytes mean after all judgements.
+/// Returns the meanings of the bytes after all checks, or the first refusal.
 fn judge(parts: &SpecificationParts<'_>, width: u8) -> Result<Meanings, Refusal>
     requires width { IsWidth width }
     requires count { 2 ^ width ≡ length parts.now.symbols.now }
@@ -123,7 +125,7 @@ fn judge(parts: &SpecificationParts<'_>, width: u8) -> Result<Meanings, Refusal>
     Ok(meanings)
 }
 
-// The encoding that was judged.
+/// Returns the encoding of a valid specification.
 fn assembled(parts: &SpecificationParts<'_>, width: u8, meanings: Meanings) -> Encoding
     requires sized { width_of (length parts.now.symbols.now) ≡ Some width }
     requires width { IsWidth width }
@@ -149,7 +151,7 @@ fn assembled(parts: &SpecificationParts<'_>, width: u8, meanings: Meanings) -> E
     }
 }
 
-// The encoding that is built from the fields, or the first refusal.
+/// Returns the encoding that is built from the fields, or the first refusal.
 pub(crate) fn build(parts: &SpecificationParts<'_>) -> Result<Encoding, Refusal>
     ensures is_built { IfOk result (λ base. base_of (fields_of_parts parts.now) ≡ Ok base) }
     ensures refused { IfErr result

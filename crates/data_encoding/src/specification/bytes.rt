@@ -28,13 +28,13 @@ pub struct SpecificationBytes {
     /// The character that fills the last group of a text.
     pub padding: Option<u8>,
 
-    /// The ignored bytes: they may be anywhere in a text, and have no meaning.
+    /// The ignored bytes: they may be anywhere in a text, and add nothing to it.
     pub ignore: ArrayVec<u8, 128>,
 
-    /// The number of characters of a line. If it is 0, texts have no lines.
+    /// The number of characters of a line. 0 means no lines.
     pub wrap_width: usize,
 
-    /// The separator that follows each line. If it is empty, texts have no lines.
+    /// The separator that follows each line. An empty one means no lines.
     pub wrap_separator: ArrayVec<u8, 255>,
 
     /// The bytes that are translated.
@@ -61,16 +61,6 @@ impl SpecificationBytes {
             translate_from: self.translate_from.as_slice(),
             translate_to: self.translate_to.as_slice(),
         }
-    }
-}
-
-impl Encoding {
-    /// Returns the specification of the encoding, like [`specification`](Encoding::specification),
-    /// without allocation.
-    pub fn specification_bytes(&self) -> SpecificationBytes
-        ensures { fields_of_bytes result ≡ fields_of self.now }
-    {
-        self.by_ref().specification_bytes()
     }
 }
 

@@ -1,4 +1,4 @@
-//! Canonical encodings: those in which data has only one text.
+//! Canonical encodings: data has only one text in them.
 
 ghost use Rattle.std.specs.Prelude.{◌≡◌, ◌==◌, ◌&&◌, ◌↔◌, IsTrue, length, not};
 ghost use Rattle.data_encoding_meaning.specs.text.Base.{ignores_some, is_padded};
@@ -7,19 +7,6 @@ ghost use Rattle.data_encoding_meaning.specs.specification.Fields.{IsSpecified};
 ghost use Rattle.data_encoding_meaning.specs.specification.Layout.{translated_bytes};
 
 use crate::encoding::{Encoding, EncodingRef};
-
-impl Encoding {
-    /// Returns `true` if no two different texts mean the same data.
-    ///
-    /// This is the case if and only if trailing bits are checked, no byte is ignored or translated,
-    /// and padded texts may not be concatenated.
-    pub fn is_canonical(&self) -> bool
-        ensures canonical { IsTrue result ↔ IsCanonical self.now }
-        ensures causes { result ≡ has_one_text self.now }
-    {
-        self.by_ref().is_canonical()
-    }
-}
 
 impl EncodingRef<'_> {
     /// Like [`Encoding::is_canonical`].
@@ -30,7 +17,7 @@ impl EncodingRef<'_> {
         self.has_one_meaning() && !self.translates()
     }
 
-    // Whether no two texts whose bytes mean different things decode to the same data.
+    /// Returns `true` if no two texts with bytes of different meanings decode to the same data.
     fn has_one_meaning(&self) -> bool
         ensures base { IsSpecified self.now }
         ensures value { result ≡ (self.now.checks_trailing_bits
@@ -41,7 +28,7 @@ impl EncodingRef<'_> {
             && !self.fields.ignores
     }
 
-    // Whether some byte is translated.
+    /// Returns `true` if some byte is translated.
     fn translates(&self) -> bool
         ensures { result ≡ not (length (translated_bytes self.now) == 0) }
     {

@@ -7,8 +7,8 @@ ghost use Rattle.data_encoding_meaning.specs.text.Base.{Base};
 ghost use Rattle.data_encoding_meaning.specs.specification.Fields.{IsSpecified};
 ghost use Rattle.data_encoding_meaning.specs.specification.Layout.{layout, order_flag};
 
+use crate::encoding::plain::padding_of;
 use crate::encoding::{BitOrder, Encoding, EncodingRef, INVALID};
-use crate::plain::padding_of;
 use crate::specification::builder::build;
 use crate::specification::parts::SpecificationParts;
 use crate::specification::tables::{Tables, alphabet_len, character};
@@ -35,25 +35,6 @@ impl Encoding {
             None
         }
     }
-
-    /// Returns the layout of the encoding: 514 to 770 bytes from which
-    /// [`internal_new`](Encoding::internal_new) builds it again.
-    ///
-    /// Nothing is allocated. The bytes are:
-    ///
-    /// - 0 to 255: the symbols, repeated.
-    /// - 256 to 511: the meaning of each of the 256 bytes. It is the value of a symbol, 128 for
-    ///   invalid, 129 for ignored, or 130 for padding.
-    /// - 512: the padding character, or 128 if there is none.
-    /// - 513: the sum of the number of bits of a symbol, 8 if the most significant bit comes first,
-    ///   16 if trailing bits are checked, and 32 if texts may not be concatenated.
-    /// - From 514 on: with lines, the number of characters of a line and the separator. Without
-    ///   lines, one 0 if some byte is ignored, and otherwise nothing.
-    pub fn internal_implementation(&self) -> ArrayVec<u8, 770>
-        ensures { result.items ≡ layout self.now }
-    {
-        self.by_ref().internal_implementation()
-    }
 }
 
 impl EncodingRef<'_> {
@@ -77,8 +58,8 @@ impl EncodingRef<'_> {
         bytes
     }
 
-    // The width; 8 for the order, 16 if trailing bits are checked, and 32 if texts may not be
-    // concatenated.
+    /// Returns the width, plus 8 for the order, 16 if trailing bits are checked, and 32 if texts
+    /// may not be concatenated.
     fn flags(&self) -> u8
         ensures { result ≡ self.now.width + order_flag self.now.order
             + (if self.now.checks_trailing_bits then 16 else 0)
@@ -98,7 +79,7 @@ impl EncodingRef<'_> {
     }
 }
 
-// Appends bytes, for which there is room.
+/// Appends bytes. There is room for them.
 fn put(layout: &mut ArrayVec<u8, 770>, bytes: &[u8])
     requires { array_vec_len layout.old + length bytes.now ≤ 770 }
     ensures { layout.new.items ≡ layout.old.items ++ bytes.now }
@@ -106,7 +87,7 @@ fn put(layout: &mut ArrayVec<u8, 770>, bytes: &[u8])
     layout.try_extend_from_slice(bytes).unwrap();
 }
 
-// The encoding that has these bytes as its layout, if there is one.
+/// Returns the encoding that has these bytes as its layout, if there is one.
 fn parse_layout(bytes: &[u8]) -> Option<Encoding>
     requires { 514 ≤ length bytes.now }
     ensures base { IfSome result IsSpecified }
@@ -140,7 +121,7 @@ fn parse_layout(bytes: &[u8]) -> Option<Encoding>
     build(&parts).ok()
 }
 
-// The order of the bits, by the bit 8.
+/// Returns the order of the bits, by bit 8 of the flags.
 fn order_of(flags: u8) -> BitOrder
     ensures { result
         ≡ (if flags / 8 % 2 == 1 then MostSignificantFirst else LeastSignificantFirst) }
@@ -152,7 +133,7 @@ fn order_of(flags: u8) -> BitOrder
     }
 }
 
-// The length of a line, or 0 if the layout has no lines.
+/// Returns the length of a line, or 0 for a layout without lines.
 fn column_of(bytes: &[u8]) -> u8
     ensures { result ≡ slice_index bytes.now 514 }
 {
@@ -162,7 +143,7 @@ fn column_of(bytes: &[u8]) -> u8
     bytes[514]
 }
 
-// The bytes after the length of a line.
+/// Returns the bytes after the length of a line.
 fn separator_of(bytes: &[u8]) -> &[u8]
     ensures { result.now ≡ drop 515 bytes.now }
 {

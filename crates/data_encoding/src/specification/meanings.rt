@@ -12,7 +12,7 @@ use crate::encoding::{ASCII, IGNORED, INVALID, PADDING, group_symbols};
 pub use data_encoding_meaning::refusal::Refusal;
 use std::marker::Model;
 
-// What the bytes mean so far, as a table of values.
+// The meanings of the bytes so far, as a table of values.
 #[derive(Drop)]
 pub(crate) struct Meanings {
     values: [u8; 256],
@@ -32,7 +32,7 @@ impl Model for Meanings {
 }
 
 impl Meanings {
-    // No byte means anything.
+    /// Returns the meanings before any check: no byte has one.
     pub(crate) fn new() -> Meanings
         ensures { result ≡ no_meanings }
     {
@@ -41,7 +41,7 @@ impl Meanings {
         }
     }
 
-    // The entry of the byte.
+    /// Returns the entry of the byte.
     fn entry(&self, byte: u8) -> u8
         ensures meaning { slice_index_or self.now byte Invalid ≡ meaning_of_entry result }
         ensures entry { IsTrue (is_entry_of 64 result) }
@@ -49,7 +49,7 @@ impl Meanings {
         self.values[byte as usize]
     }
 
-    // Gives the byte a meaning, if it has no other.
+    /// Gives the byte a meaning, unless it has another.
     fn define(&mut self, byte: u8, entry: u8) -> Result<(), Refusal>
         requires { IsTrue (is_entry_of 64 entry) }
         ensures defined { OnOk result
@@ -71,7 +71,7 @@ impl Meanings {
         Ok(())
     }
 
-    // Gives each symbol its value.
+    /// Gives each symbol its value.
     pub(crate) fn define_symbols(&mut self, symbols: &[u8]) -> Result<(), Refusal>
         requires { length symbols.now ≤ 64 }
         ensures defined { OnOk result
@@ -86,7 +86,7 @@ impl Meanings {
         Ok(())
     }
 
-    // Makes the character padding, if there is one.
+    /// Makes the character padding, if there is one.
     pub(crate) fn define_padding(&mut self, width: u8, padding: Option<char>) -> Result<(), Refusal>
         requires { 0 < width }
         ensures defined { OnOk result
@@ -108,7 +108,7 @@ impl Meanings {
         self.define(code as u8, PADDING)
     }
 
-    // Makes the bytes ignored.
+    /// Makes the bytes ignored.
     pub(crate) fn define_ignored(&mut self, bytes: &[u8]) -> Result<(), Refusal>
         ensures defined { OnOk result
             (meanings_after (Ok self.old) (ignored_judgements bytes.now) ≡ Ok self.new) }
@@ -122,7 +122,7 @@ impl Meanings {
         Ok(())
     }
 
-    // Judges the lines, if there are any, and makes the bytes of their separator ignored.
+    /// Checks the lines, if there are any, and makes the bytes of their separator ignored.
     pub(crate) fn define_wrapping(
         &mut self,
         width: u8,
@@ -150,7 +150,7 @@ impl Meanings {
         self.define_ignored(separator)
     }
 
-    // Gives a byte the meaning of another.
+    /// Gives a byte the meaning of another.
     fn translate_byte(&mut self, from: u8, to: u8) -> Result<(), Refusal>
         ensures defined { OnOk result (translated self.old from to ≡ Ok self.new) }
         ensures refused { IfErr result (λ refusal. translated self.old from to ≡ Err refusal) }
@@ -165,7 +165,7 @@ impl Meanings {
         self.define(from, entry)
     }
 
-    // Gives each byte of one text the meaning of the byte of the other at its position.
+    /// Gives each byte of `from` the meaning of the byte of `to` at its position.
     pub(crate) fn translate(&mut self, from: &[u8], to: &[u8]) -> Result<(), Refusal>
         ensures defined { OnOk result
             (meanings_after (Ok self.old) (translation_judgements from.now to.now)
@@ -183,14 +183,14 @@ impl Meanings {
         Ok(())
     }
 
-    // Whether some byte is ignored.
+    /// Returns `true` if some byte is ignored.
     pub(crate) fn ignores_some(&self) -> bool
         ensures { result ≡ list_any is_ignored self.now }
     {
         self.values[..ASCII as usize].contains(&IGNORED)
     }
 
-    // The table of values.
+    /// Returns the table of values.
     pub(crate) fn into_values(self) -> [u8; 256]
         ensures meanings { map meaning_of_entry (take 128 result) ≡ self }
         ensures entries { HoldsEntries result }
@@ -200,7 +200,7 @@ impl Meanings {
     }
 }
 
-// Whether there are lines.
+/// Returns `true` if there are lines.
 pub(crate) fn wraps(column: usize, separator: &[u8]) -> bool
     ensures { result ≡ wraps column separator.now }
 {

@@ -29,13 +29,13 @@ pub struct SpecificationParts<'a> {
     /// The character that fills the last group of a text.
     pub padding: Option<char>,
 
-    /// The ignored bytes: they may be anywhere in a text, and have no meaning.
+    /// The ignored bytes: they may be anywhere in a text, and add nothing to it.
     pub ignore: &'a [u8],
 
-    /// The number of characters of a line. If it is 0, texts have no lines.
+    /// The number of characters of a line. 0 means no lines.
     pub wrap_width: usize,
 
-    /// The separator that follows each line. If it is empty, texts have no lines.
+    /// The separator that follows each line. An empty one means no lines.
     pub wrap_separator: &'a [u8],
 
     /// The bytes that are translated.

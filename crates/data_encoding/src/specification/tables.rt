@@ -16,7 +16,7 @@ pub(crate) struct Tables<'a> {
     pub(crate) padding: Option<u8>,
 }
 
-// The bytes that are translated, in order, and what each of them is translated to.
+// The bytes that are translated, in order, and their targets.
 #[derive(Drop)]
 pub(crate) struct Translations {
     pub(crate) from: ArrayVec<u8, 128>,
@@ -24,7 +24,7 @@ pub(crate) struct Translations {
 }
 
 impl Tables<'_> {
-    // The bytes that are ignored, in order.
+    /// Returns the bytes that are ignored, in order.
     pub(crate) fn ignored(&self) -> ArrayVec<u8, 128>
         requires { length self.now.values.now ≡ 128 }
         ensures { (base : Base) → HasTables base self.now → result.items ≡ ignored_bytes base }
@@ -38,7 +38,7 @@ impl Tables<'_> {
         bytes
     }
 
-    // The bytes that are translated, in order, and what each of them is translated to.
+    /// Returns the bytes that are translated, in order, and their targets.
     pub(crate) fn translations(&self) -> Translations
         requires { length self.now.values.now ≡ 128 }
         ensures from { (base : Base) → HasTables base self.now
@@ -57,7 +57,8 @@ impl Tables<'_> {
         Translations { from, to }
     }
 
-    // The symbol or the padding character that the byte is translated to, if it is translated.
+    /// Returns the symbol or the padding character that the byte is translated to, if it is
+    /// translated.
     fn translation_of(&self, byte: u8) -> Option<u8>
         requires { byte < length self.now.values.now }
         ensures some { (base : Base) → HasTables base self.now
@@ -71,8 +72,8 @@ impl Tables<'_> {
         }
     }
 
-    // The symbol or the padding character that has the meaning of the byte, or 0 for a value that
-    // no symbol has.
+    /// Returns the symbol or the padding character that has the meaning of the byte, or 0 for a
+    /// value without a symbol.
     fn own_character(&self, byte: u8) -> Option<u8>
         requires { byte < length self.now.values.now }
         ensures { (base : Base) → HasTables base self.now
@@ -89,7 +90,7 @@ impl Tables<'_> {
     }
 }
 
-// The number of symbols.
+/// Returns the number of symbols.
 pub(crate) fn alphabet_len(width: u8) -> usize
     requires { width ≤ 6 }
     ensures value { result ≡ 2 ^ width }
@@ -98,7 +99,7 @@ pub(crate) fn alphabet_len(width: u8) -> usize
     1 << width
 }
 
-// The byte as a character.
+/// Returns the byte as a character.
 pub(crate) fn character(byte: Option<u8>) -> Option<char>
     ensures { result ≡ byte }
 {

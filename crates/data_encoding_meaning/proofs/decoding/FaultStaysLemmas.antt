@@ -5,7 +5,7 @@ use Rattle.data_encoding_meaning.specs.declared.error.DecodeError.{DecodeError}
 use Rattle.data_encoding_meaning.specs.text.Base.{Base, IsWidth, group_symbols}
 use Rattle.data_encoding_meaning.specs.decoding.Fault.{fault_of, first_after, first_fault, or_else}
 use Rattle.data_encoding_meaning.specs.text.Grammar.{Positioned, groups, is_final, kept}
-use Rattle.data_encoding_meaning.specs.laws.Laws.{further}
+use Rattle.data_encoding_meaning.specs.laws.Laws.{shifted}
 use Rattle.data_encoding_meaning.specs.text.Lengths.{length_fault}
 use Rattle.data_encoding_meaning.specs.decoding.Pieces.{HasRead, unfinished, whole_groups}
 use Rattle.data_encoding_meaning.proofs.decoding.PieceLemmas.{HasRead-faulty, fault_of-read, or_none}
@@ -70,6 +70,6 @@ fault-after base width text after error whole none h =
       gs : List (List Positioned)
       gs = groups base text
 
-      later : (o : Option DecodeError) → further (length text) o ≡ Some error
+      later : (o : Option DecodeError) → shifted (length text) o ≡ Some error
           → length text ≤ error.position
       later o e = grind arith

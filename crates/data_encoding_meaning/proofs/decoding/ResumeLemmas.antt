@@ -17,7 +17,7 @@ use Rattle.data_encoding_meaning.proofs.decoding.GatherLemmas.{HasGathered, gath
 use Rattle.data_encoding_meaning.proofs.decoding.LastRunLemmas.{last-none, last-sound, last-unsound}
 use Rattle.data_encoding_meaning.proofs.decoding.ProgressLemmas.{IsNext, after-group, at-end, begin, written_len}
 use Rattle.data_encoding_meaning.proofs.decoding.StopLemmas.{IsAtFault, at-fault, fault-partial, sound-front}
-use Rattle.data_encoding_meaning.specs.laws.Laws.{MayBeFollowed, Resumes, further}
+use Rattle.data_encoding_meaning.specs.laws.Laws.{MayBeFollowed, Resumes, shifted}
 use Rattle.data_encoding_meaning.proofs.grammar.JoinFaultLemmas.{fault-join, sound_bytes-join}
 use Rattle.data_encoding_meaning.proofs.grammar.JoinLemmas.{Means-join}
 use Rattle.data_encoding_meaning.proofs.judgement.RuleLemmas.{IsRuled}
@@ -172,7 +172,7 @@ module _ (base : Base) (width : IsWidth base.width) (text : List ℕ)
   walk zero read written ended output so_far left = absurd (omega (arith, so_far.within))
   walk (suc fuel) read written ended output so_far left =
       step read written ended output so_far
-      (λ stop count end new further more. walk fuel stop count end new further
+      (λ stop count end new shifted more. walk fuel stop count end new shifted
       (omega (arith, more, left)))
 
 -- what is read means bytes, is no more than the text, and has its bytes
@@ -214,7 +214,7 @@ module _ (base : Base) (ruled : IsRuled base) (piece next : List ℕ) where
         rest_means = λ more then. rw (← whole partial.read)
             (Means-join base ruled front rest bytes more follows means.1 then);
         fault = rw (← whole partial.read, fault-join base ruled front rest bytes follows means.1)
-            (ap (λ n. further n (fault_of base rest))
+            (ap (λ n. shifted n (fault_of base rest))
             (length-take-le partial.read piece means.0));
         sound = rw (← whole partial.read)
             (sound_bytes-join base ruled front rest bytes follows means.1);

@@ -9,7 +9,7 @@ use Rattle.data_encoding_meaning.specs.declared.error.DecodePartial.{DecodeParti
 use Rattle.data_encoding_meaning.specs.text.Base.{Base, IsWidth, group_symbols, ignores_some, is_padded}
 use Rattle.data_encoding_meaning.specs.decoding.Fault.{first_fault, fault_of, AreSound}
 use Rattle.data_encoding_meaning.specs.text.Grammar.{Means, Positioned, groups, is_final, kept, meanings_in}
-use Rattle.data_encoding_meaning.specs.laws.Laws.{further}
+use Rattle.data_encoding_meaning.specs.laws.Laws.{shifted}
 use Rattle.data_encoding_meaning.specs.text.Lengths.{length_fault, is_valid_count, most_bytes}
 use Rattle.data_encoding_meaning.specs.decoding.Partial.{partial_of, is_length_fault}
 use Rattle.data_encoding_meaning.specs.decoding.Pieces.{HasRead, IsOfWholeGroup, unfinished, whole_bytes, whole_groups, held_fault}
@@ -111,7 +111,7 @@ module _ (base : Base) (width : IsWidth base.width) where
     -- what is kept of the piece alone, with the length before it added
     HasRead-after : (fault : Option DecodeError) (held : List Positioned) (ended : Bool)
         → HasRead base piece (length piece) fault held ended
-        → HasRead base (text ++ piece) (len + length piece) (further len fault) (moved len held)
+        → HasRead base (text ++ piece) (len + length piece) (shifted len fault) (moved len held)
         ended
     HasRead-after fault held ended alone = record {
       counted = omega (arith, read.counted, length-append text piece);
@@ -127,7 +127,7 @@ module _ (base : Base) (width : IsWidth base.width) where
           rw (is, groups_are, list_any-append (is_final base) before others, ← read.ends refl)
           (sym (any_final-moved len (whole_groups base piece)));
     } where
-      none_further : (o : Option DecodeError) → further len o ≡ None → o ≡ None
+      none_further : (o : Option DecodeError) → shifted len o ≡ None → o ≡ None
       none_further o h = grind arith
 
     -- and its bytes are appended
@@ -161,7 +161,7 @@ module _ (base : Base) (width : IsWidth base.width) where
         → partial_of base piece ≡ Some partial
         → IsOfWholeGroup base (length piece) partial.error.kind
         → Means base (take partial.read piece) bytes
-        → HasRead base (text ++ piece) (len + length piece) (further len (Some partial.error)) []
+        → HasRead base (text ++ piece) (len + length piece) (shifted len (Some partial.error)) []
         false
         × (whole_bytes base (text ++ piece) ≡ whole_bytes base text ++ bytes)
     ReadsFaulty-whole bytes partial is of_whole means =

@@ -13,7 +13,7 @@ use Rattle.data_encoding_meaning.specs.declared.encoding.Character.TheVariants.{
 use Rattle.data_encoding_meaning.specs.declared.error.DecodeError.{DecodeError}
 use Rattle.data_encoding_meaning.specs.text.Base.{Base, is_padding, is_padded, value_of, group_symbols, IsWidth}
 use Rattle.data_encoding_meaning.specs.text.Grammar.{Positioned, PlainMeans, GroupMeans, bytes_in, meanings_in}
-use Rattle.data_encoding_meaning.specs.laws.Laws.{further}
+use Rattle.data_encoding_meaning.specs.laws.Laws.{shifted}
 use Rattle.data_encoding_meaning.specs.text.Lengths.{is_valid_count}
 use Rattle.data_encoding_meaning.specs.decoding.Fault.{character_fault, count_before_padding, group_fault, located, padded_fault_at, plain_fault, position_of, symbol_bytes, symbols_fault}
 use Rattle.data_encoding_meaning.proofs.grammar.LengthLemmas.{widths}
@@ -69,12 +69,12 @@ located-inside group None error inside e = cc
 located-inside group (Some fault) error inside e = (fault.index, inside, cc)
 
 -- or with an offset, if each byte of one group is that far after that of the other
-pub located-further : (ks js : List Positioned) (count : ℕ) (o : Option GroupFault)
+pub located-shifted : (ks js : List Positioned) (count : ℕ) (o : Option GroupFault)
     → IsInside (length ks) o
     → ((index : ℕ) → index < length ks → position_of js index ≡ count + position_of ks index)
-    → located js o ≡ further count (located ks o)
-located-further ks js count None inside later = refl
-located-further ks js count (Some fault) inside later = rw (later fault.index inside)
+    → located js o ≡ shifted count (located ks o)
+located-shifted ks js count None inside later = refl
+located-shifted ks js count (Some fault) inside later = rw (later fault.index inside)
 
 -- symbols are a group: a whole one, or any if there is no padding
 pub GroupMeans-symbols : (base : Base) (group : List Character) (bytes : List ℕ)

@@ -8,9 +8,9 @@ use Rattle.data_encoding_meaning.specs.text.Base.{Base, IsWidth, ignores_some, g
 use Rattle.data_encoding_meaning.specs.text.Grammar.{Positioned, kept, groups, is_final, Means, kept_in, bytes_in, positioned_from}
 use Rattle.data_encoding_meaning.specs.text.Lengths.{greatest_valid_count, is_valid_length, length_fault}
 use Rattle.data_encoding_meaning.specs.decoding.Fault.{bytes_of_group, fault_after, fault_of, first_after, first_fault, or_else, position_of, sound_after, sound_bytes, group_fault, AreSound}
-use Rattle.data_encoding_meaning.specs.laws.Laws.{MayBeFollowed, further}
+use Rattle.data_encoding_meaning.specs.laws.Laws.{MayBeFollowed, shifted}
 use Rattle.data_encoding_meaning.proofs.digits.WidthLemmas.{group_symbols-pos}
-use Rattle.data_encoding_meaning.proofs.grammar.GroupLemmas.{group_fault-inside, located-further}
+use Rattle.data_encoding_meaning.proofs.grammar.GroupLemmas.{group_fault-inside, located-shifted}
 use Rattle.data_encoding_meaning.proofs.grammar.JoinLemmas.{followed}
 use Rattle.data_encoding_meaning.proofs.grammar.KeptLemmas.{kept_in-append}
 use Rattle.data_encoding_meaning.proofs.grammar.MeaningLemmas.{no_fault-Means, sound_bytes-Means}
@@ -42,9 +42,9 @@ position_of-moved count [] index h = absurd (omega (arith, h))
 position_of-moved count (k ∷ ks) zero h = refl
 position_of-moved count (k ∷ ks) (suc index) h = position_of-moved count ks index (omega (arith, h))
 
-further-or_else : (count : ℕ) (o p : Option DecodeError)
-    → or_else (further count o) (further count p) ≡ further count (or_else o p)
-further-or_else count o p = grind arith
+shifted-or_else : (count : ℕ) (o p : Option DecodeError)
+    → or_else (shifted count o) (shifted count p) ≡ shifted count (or_else o p)
+shifted-or_else count o p = grind arith
 
 -- What follows whole groups is as valid as it is alone: its bits and the greatest valid count, and
 -- the rest of a group and the whole groups.
@@ -66,7 +66,7 @@ module _ (base : Base) (width : IsWidth base.width) where
       grind (arith, is_after base.width width m n h)
 
   pub length_fault-after : (m n : ℕ) → (ignores_some base ≡ false → m % size ≡ 0)
-      → length_fault base (m + n) ≡ further m (length_fault base n)
+      → length_fault base (m + n) ≡ shifted m (length_fault base n)
   length_fault-after m n whole =
       let is = λ (none : ignores_some base ≡ false). is_after base.width width m n (whole none) in
       grind (arith, is)
@@ -82,11 +82,11 @@ module _ (base : Base) (width : IsWidth base.width) where
 
   fault_after-moved : (count : ℕ) (ended : Bool) (group : List Positioned) → 0 < length group
       → length group ≤ size
-      → fault_after ended base (moved count group) ≡ further count (fault_after ended base group)
+      → fault_after ended base (moved count group) ≡ shifted count (fault_after ended base group)
   fault_after-moved count true group some few = rw (position_of-moved count group 0 some)
   fault_after-moved count false group some few =
       rw (bytes-moved count group)
-      (located-further group (moved count group) count (group_fault base (bytes_in group))
+      (located-shifted group (moved count group) count (group_fault base (bytes_in group))
       (group_fault-inside base width group some few) (position_of-moved count group))
 
   pub final-moved : (count : ℕ) (group : List Positioned)
@@ -94,11 +94,11 @@ module _ (base : Base) (width : IsWidth base.width) where
   final-moved count group = rw (bytes-moved count group)
 
   pub first-moved : (count : ℕ) (ended : Bool) (gs : List (List Positioned)) → AreFew gs
-      → first_after ended base (map (moved count) gs) ≡ further count (first_after ended base gs)
+      → first_after ended base (map (moved count) gs) ≡ shifted count (first_after ended base gs)
   first-moved count ended [] few = refl
   first-moved count ended (g ∷ gs) few =
       rw (fault_after-moved count ended g few.0.0 few.0.1, final-moved count g)
-      (rw (first-moved count (is_final base g) gs few.1) (further-or_else count _ _))
+      (rw (first-moved count (is_final base g) gs few.1) (shifted-or_else count _ _))
 
   abbrev pub bytes_before : Bool → List (List Positioned) → List ℕ
   bytes_before ended gs = flat_map (bytes_of_group base) (sound_after ended base gs)
@@ -140,7 +140,7 @@ module _ (base : Base) (width : IsWidth base.width) (text after : List ℕ)
   module _ (ended : Bool) (sound : AreSound base false (groups base text) ended) where
     -- its fault, with the length of the first text added
     pub fault-after_whole : fault_of base (text ++ after)
-        ≡ further count (or_else (length_fault base (length after))
+        ≡ shifted count (or_else (length_fault base (length after))
         (first_after ended base (groups base after)))
     fault-after_whole =
         let lengths = length_fault-after base width count (length after)
@@ -152,7 +152,7 @@ module _ (base : Base) (width : IsWidth base.width) (text after : List ℕ)
           first-AreSound base false ended (groups base text) others sound,
           first-moved base width count ended (groups base after) few,
         )
-        (further-or_else count _ _)
+        (shifted-or_else count _ _)
 
     -- and its bytes
     pub bytes-after_whole : sound_bytes base (text ++ after)
@@ -178,7 +178,7 @@ module _ (base : Base) (ruled : IsRuled base) (text after bytes : List ℕ)
       rw (not_ended base is_width false (groups base text) refl whole.1)
       at (AreSound-none base false (groups base text) none.1)
 
-  pub fault-join : fault_of base (text ++ after) ≡ further (length text) (fault_of base after)
+  pub fault-join : fault_of base (text ++ after) ≡ shifted (length text) (fault_of base after)
   fault-join = fault-after_whole base is_width text after whole.0 false sound
 
   pub sound_bytes-join : sound_bytes base (text ++ after) ≡ bytes ++ sound_bytes base after

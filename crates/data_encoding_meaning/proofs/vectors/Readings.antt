@@ -19,7 +19,7 @@ use Rattle.data_encoding_meaning.specs.text.Lengths.{alignment, decoded_len, gre
 use Rattle.data_encoding_meaning.specs.decoding.Partial.{partial_of, position_after, position_after_first, sound_len, ignoring_nothing, is_sound_run, is_length_fault, read_len, partial_at, partial_by}
 use Rattle.data_encoding_meaning.specs.decoding.Pieces.{unfinished, whole_bytes, whole_groups, held_fault, held_with, bytes_unless, fault_in}
 use Rattle.data_encoding_meaning.specs.specification.Predefined.{translated_fields, hexlower_fields, hexlower_permissive_fields, hexupper_fields, hexupper_permissive_fields, base32_fields, base32_nopad_fields, base32_nopad_nocase_fields, base32_nopad_visual_fields, base32_dnssec_fields, base32_dnscurve_fields, base64_fields, base64_nopad_fields, base64_mime_fields, base64_mime_permissive_fields}
-use Rattle.data_encoding_meaning.specs.laws.Laws.{further}
+use Rattle.data_encoding_meaning.specs.laws.Laws.{shifted}
 use Rattle.data_encoding_meaning.specs.text.Text.{text_of}
 use Rattle.data_encoding_meaning.proofs.vectors.Examples.{Hold, built, by, decoded, bytes, fault, octal_fields, reversed, unchecked, nopad_ignoring_lf_fields, lines_of_8_fields, single_fields}
 
@@ -380,7 +380,7 @@ pieces_by_steps :
 pieces_by_steps = (refl, refl, refl, refl, refl, refl, refl, refl, refl)
 
 -- a fault with this many bytes added to its position
-found_further : (further 4 (at Symbol 1) ≡ at Symbol 5) × (further 4 None ≡ None)
+found_further : (shifted 4 (at Symbol 1) ≡ at Symbol 5) × (shifted 4 None ≡ None)
 found_further = (refl, refl)
 
 -- The reasons for the premises of laws. What follows may remove the fault of an unfinished group;

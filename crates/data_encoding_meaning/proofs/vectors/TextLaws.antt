@@ -10,7 +10,7 @@ use Rattle.data_encoding_meaning.specs.decoding.Fault.{fault_of, sound_bytes}
 use Rattle.data_encoding_meaning.specs.specification.Fields.{IsSpecified, base_of}
 use Rattle.data_encoding_meaning.specs.specification.Predefined.{base64_fields, base64_mime_fields, base64_nopad_fields, hexlower_fields}
 use Rattle.data_encoding_meaning.specs.laws.Canonical.{IsCanonical}
-use Rattle.data_encoding_meaning.specs.laws.Laws.{JoinDecode, JoinEncode, JoinFault, OneMeaning, Resume, Resumes, RoundTrip, SoundMeans, SpecificationAgain, Unpadded, further}
+use Rattle.data_encoding_meaning.specs.laws.Laws.{JoinDecode, JoinEncode, JoinFault, OneMeaning, Resume, Resumes, RoundTrip, SoundMeans, SpecificationAgain, Unpadded, shifted}
 use Rattle.data_encoding_meaning.specs.laws.Tight.{LengthAgain, MeansMost}
 use Rattle.data_encoding_meaning.specs.laws.Verdicts.{FixedLength, MeansSound}
 use Rattle.data_encoding_meaning.proofs.vectors.Examples.{built, single_fields}
@@ -125,7 +125,7 @@ resumed_told : (next more : List ℕ)
     × (Means (built base64_mime_fields) (13 ∷ 10 ∷ codes "bG" ++ next) more
     → Means (built base64_mime_fields) (stopped ++ next) (codes "Hel" ++ more))
     × (fault_of (built base64_mime_fields) (stopped ++ next)
-    ≡ further 4 (fault_of (built base64_mime_fields) (13 ∷ 10 ∷ codes "bG" ++ next)))
+    ≡ shifted 4 (fault_of (built base64_mime_fields) (13 ∷ 10 ∷ codes "bG" ++ next)))
     × (sound_bytes (built base64_mime_fields) (stopped ++ next)
     ≡ codes "Hel" ++ sound_bytes (built base64_mime_fields) (13 ∷ 10 ∷ codes "bG" ++ next))
 resumed_told next more resumes =

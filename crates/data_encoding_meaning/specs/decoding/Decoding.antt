@@ -29,7 +29,7 @@ pub record HasDecodedTo (base : Base) (text : List ℕ) (read written : ℕ) (en
   pub fits : written ≤ length output
   pub writes : take written output ≡ flat_map (bytes_of_group base) (groups base (take read text))
 
--- The group has no fault and has `count` symbols, and the output starts with their bytes.
+-- The group is valid and has `count` symbols, and the output starts with their bytes.
 pub record IsDecodedGroup (base : Base) (group : List ℕ) (count : ℕ) (new : List ℕ)
     : Type 0 where
   pub within : count ≤ length group
@@ -113,7 +113,7 @@ HasRoom base rest room =
     length (valid_front base rest) ≤ group_symbols base.width
     → base.width * length (valid_front base rest) / 8 ≤ room
 
--- The text has no fault, and means the first `written` bytes of the output.
+-- The text is valid, and means the first `written` bytes of the output.
 pub record IsDecoded (base : Base) (text : List ℕ) (written : ℕ) (output : List ℕ) : Type 0 where
   pub fits : written ≤ length output
   pub no_fault : fault_of base text ≡ None

@@ -30,7 +30,7 @@ abbrev pub ignoring_nothing : Base → Base
 ignoring_nothing base =
     record base { meanings = map (λ m. if is_ignored m then Invalid else m) base.meanings }
 
--- `true` if the longest prefix of valid length has no fault, where ignored bytes count as invalid.
+-- `true` if the longest prefix of valid length is valid, where ignored bytes count as invalid.
 abbrev pub is_sound_run : Base → List ℕ → Bool
 is_sound_run base bytes =
     is_none (fault_of (ignoring_nothing base)

@@ -9,7 +9,7 @@ use Rattle.data_encoding_meaning.specs.text.Base.{Base, meaning, is_ignored, is_
 use Rattle.data_encoding_meaning.specs.decoding.Fault.{bytes_of_group, fault_after, fault_at, fault_of, first_fault, or_else, sound_bytes, sound_groups}
 use Rattle.data_encoding_meaning.specs.specification.Fields.{IsSpecified}
 use Rattle.data_encoding_meaning.specs.text.Grammar.{Means, Positioned, positioned, positioned_from, groups, kept, is_final, bytes_in}
-use Rattle.data_encoding_meaning.specs.laws.Laws.{further}
+use Rattle.data_encoding_meaning.specs.laws.Laws.{shifted}
 use Rattle.data_encoding_meaning.specs.text.Lengths.{decoded_len, length_fault, most_bytes}
 use Rattle.data_encoding_meaning.specs.decoding.Partial.{is_length_fault, partial_of}
 
@@ -75,7 +75,7 @@ HoldsPiece =
     × (whole_bytes base (text ++ piece) ≡ whole_bytes base text)
 
 -- If a piece completes one group and leaves no byte after it, the group is checked, and decoded if
--- it has no fault.
+-- it is valid.
 abbrev pub ReadsGroup : Type 0
 ReadsGroup =
     (base : Base) → IsSpecified base → (text piece : List ℕ) (len : ℕ)
@@ -165,7 +165,7 @@ ReadsFaulty =
     → partial_of base piece ≡ Some partial
     → IsOfWholeGroup base (length piece) partial.error.kind
     → Means base (take partial.read piece) bytes
-    → HasRead base (text ++ piece) (len + length piece) (further len (Some partial.error)) [] false
+    → HasRead base (text ++ piece) (len + length piece) (shifted len (Some partial.error)) [] false
     × (whole_bytes base (text ++ piece) ≡ whole_bytes base text ++ bytes)
 
 -- A text that means data is whole groups if it is padded, if eight bits are whole symbols, or if

@@ -6,7 +6,7 @@ use Rattle.data_encoding_meaning.specs.specification.Fields.{Fields, base_of, Is
 use Rattle.data_encoding_meaning.specs.laws.Order.{IsOrdered}
 use Rattle.data_encoding_meaning.specs.specification.Predefined.{hexlower_fields, hexlower_permissive_fields, hexupper_fields, hexupper_permissive_fields, base32_fields, base32_nopad_fields, base32_nopad_nocase_fields, base32_nopad_visual_fields, base32hex_fields, base32hex_nopad_fields, base32_dnssec_fields, base32_dnscurve_fields, base64_fields, base64_nopad_fields, base64_mime_fields, base64_mime_permissive_fields, base64url_fields, base64url_nopad_fields}
 
--- A base is canonical if and only if it has no cause of a second text.
+-- A base is canonical if and only if no cause of a second text exists.
 abbrev pub CanonicalByCauses : Type 0
 CanonicalByCauses =
     (base : Base) → IsSpecified base → (has_one_text base ≡ true) ↔ IsCanonical base

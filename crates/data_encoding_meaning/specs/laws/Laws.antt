@@ -74,9 +74,9 @@ abbrev pub NoOrder : Type 0
 NoOrder = (base : Base) → IsSpecified base → base.wrapping ≡ None → IsBroken base
 
 -- The fault, with `count` added to its position.
-abbrev pub further : ℕ → Option DecodeError → Option DecodeError
-further count None = None
-further count (Some fault) =
+abbrev pub shifted : ℕ → Option DecodeError → Option DecodeError
+shifted count None = None
+shifted count (Some fault) =
     Some (record { position = count + fault.position; kind = fault.kind })
 
 -- After a text that means bytes and may be followed, another text has the fault that it has alone,
@@ -86,7 +86,7 @@ abbrev pub JoinFault : Type 0
 JoinFault =
     (base : Base) → IsSpecified base → (text after bytes : List ℕ)
     → MayBeFollowed base text → Means base text bytes
-    → (fault_of base (text ++ after) ≡ further (length text) (fault_of base after))
+    → (fault_of base (text ++ after) ≡ shifted (length text) (fault_of base after))
     × (sound_bytes base (text ++ after) ≡ bytes ++ sound_bytes base after)
 
 -- The first `read` bytes of `piece` mean `bytes`. The rest of `piece`, joined to `next`, has the
@@ -96,7 +96,7 @@ pub record Resumes (base : Base) (piece next : List ℕ) (read : ℕ) (bytes : L
   pub rest_means : (more : List ℕ) → Means base (drop read piece ++ next) more
       → Means base (piece ++ next) (bytes ++ more)
   pub fault : fault_of base (piece ++ next)
-      ≡ further read (fault_of base (drop read piece ++ next))
+      ≡ shifted read (fault_of base (drop read piece ++ next))
   pub sound : sound_bytes base (piece ++ next)
       ≡ bytes ++ sound_bytes base (drop read piece ++ next)
 

@@ -7,7 +7,7 @@ use Rattle.data_encoding_meaning.specs.specification.Fields.{IsSpecified}
 use Rattle.data_encoding_meaning.specs.text.Grammar.{Means}
 use Rattle.data_encoding_meaning.specs.text.Text.{text_of}
 
--- A text means bytes if and only if it has no fault and the bytes are its sound bytes.
+-- A text means bytes if and only if it is valid and the bytes are its sound bytes.
 abbrev pub MeansSound : Type 0
 MeansSound =
     (base : Base) → IsSpecified base → (text bytes : List ℕ)

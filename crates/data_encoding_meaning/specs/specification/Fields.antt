@@ -42,14 +42,14 @@ abbrev pub given : List (ℕ × Character) → ℕ → Character
 given [] byte = Invalid
 given (pair ∷ pairs) byte = if pair.0 == byte then pair.1 else given pairs byte
 
--- The pair of a judgement, if it has one. A translated byte has the meaning that an earlier pair
+-- The pair of a check, if it has one. A translated byte has the meaning that an earlier pair
 -- gives to its target.
 abbrev pub pairs_of : List (ℕ × Character) → Judgement → List (ℕ × Character)
 pairs_of earlier (Require holds refusal) = []
 pairs_of earlier (Define byte m) = (byte, m) ∷ []
 pairs_of earlier (Translate from to) = (from, given earlier to) ∷ []
 
--- The earlier pairs, followed by the pairs of all judgements in order.
+-- The earlier pairs, followed by the pairs of all checks in order.
 abbrev pub pairs_after : List (ℕ × Character) → List Judgement → List (ℕ × Character)
 pairs_after earlier [] = earlier
 pairs_after earlier (judgement ∷ others) =
@@ -75,13 +75,13 @@ translation_refusal earlier from to =
     else if is_invalid (given earlier to) then Some (Undefined to)
     else pair_refusal earlier from (given earlier to)
 
--- The reason why a judgement fails.
+-- The reason why a check fails.
 abbrev pub judgement_refusal : List (ℕ × Character) → Judgement → Option Refusal
 judgement_refusal earlier (Require holds refusal) = if holds then None else Some refusal
 judgement_refusal earlier (Define byte m) = pair_refusal earlier byte m
 judgement_refusal earlier (Translate from to) = translation_refusal earlier from to
 
--- The refusal of the first judgement that fails.
+-- The refusal of the first check that fails.
 abbrev pub first_refusal : List (ℕ × Character) → List Judgement → Option Refusal
 first_refusal earlier [] = None
 first_refusal earlier (judgement ∷ others) =
@@ -98,7 +98,7 @@ abbrev pub meanings_unless : Option Refusal → List (ℕ × Character)
 meanings_unless None pairs = Ok (meanings_by pairs)
 meanings_unless (Some refusal) pairs = Err refusal
 
--- The meanings by the pairs of all judgements, or the refusal of the first that fails.
+-- The meanings by the pairs of all checks, or the refusal of the first that fails.
 abbrev pub meanings_of : List Judgement → Result (List Character) Refusal
 meanings_of all = meanings_unless (first_refusal [] all) (pairs_after [] all)
 
@@ -112,7 +112,7 @@ abbrev pub symbol_judgements : ℕ → List ℕ → List Judgement
 symbol_judgements value symbols =
     map (λ (p : ℕ × ℕ). Define p.1 (Symbol p.0)) (enumerate_from value symbols)
 
--- The judgements of padding: the width needs it, and the character is ASCII and has no other
+-- The checks of padding: the width needs it, and the character is ASCII and has no other
 -- meaning.
 abbrev pub padding_judgements : ℕ → Option ℕ → List Judgement
 padding_judgements width None = []
@@ -120,7 +120,7 @@ padding_judgements width (Some character) =
     Require (not (8 % width == 0)) ExtraPadding ∷ Require (nat_lt character 128) NotAscii
     ∷ Define character Padding ∷ []
 
--- The judgements of ignored bytes.
+-- The checks of ignored bytes.
 abbrev pub ignored_judgements : List ℕ → List Judgement
 ignored_judgements bytes = map (λ byte. Define byte Ignored) bytes
 
@@ -128,7 +128,7 @@ ignored_judgements bytes = map (λ byte. Define byte Ignored) bytes
 abbrev pub wraps : ℕ → List ℕ → Bool
 wraps column separator = not (column == 0) && not (length separator == 0)
 
--- The judgements of lines: their lengths, and the separator. Its bytes are ignored.
+-- The checks of lines: their lengths, and the separator. Its bytes are ignored.
 abbrev pub wrapping_judgements : ℕ → ℕ → List ℕ → List Judgement
 wrapping_judgements width column separator =
     if wraps column separator
@@ -137,16 +137,16 @@ wrapping_judgements width column separator =
     ∷ ignored_judgements separator
     else []
 
--- The judgements of translations, pair by pair.
+-- The checks of translations, pair by pair.
 abbrev pub pair_judgements : List ℕ → List ℕ → List Judgement
 pair_judgements from to = map (λ (p : ℕ × ℕ). Translate p.0 p.1) (zip from to)
 
--- The judgements of a translation: its two texts have the same length, and each pair is checked.
+-- The checks of a translation: its two texts have the same length, and each pair is checked.
 abbrev pub translation_judgements : List ℕ → List ℕ → List Judgement
 translation_judgements from to =
     Require (length from == length to) FromTo ∷ pair_judgements from to
 
--- The judgements of a specification, in order.
+-- The checks of a specification, in order.
 abbrev pub judgements : ℕ → Fields → List Judgement
 judgements width fields =
     symbol_judgements 0 fields.symbols

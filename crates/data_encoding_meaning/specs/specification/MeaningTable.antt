@@ -1,4 +1,4 @@
--- The table of meanings. Each judgement fills it.
+-- The table of meanings. Each check adds to it.
 use Rattle.std.specs.Prelude.{ℕ, nat_le, if◌then◌else◌, List, [], ◌∷◌, replicate, slice_index_or, slice_set, Result, Ok, Err}
 use Rattle.data_encoding_meaning.specs.declared.encoding.Character.{Character}
 use Rattle.data_encoding_meaning.specs.declared.encoding.Character.TheVariants.{Invalid}
@@ -6,7 +6,7 @@ use Rattle.data_encoding_meaning.specs.declared.refusal.Refusal.{Refusal}
 use Rattle.data_encoding_meaning.specs.declared.refusal.Refusal.TheVariants.{NotAscii, Duplicate, Undefined}
 use Rattle.data_encoding_meaning.specs.specification.Fields.{Judgement, Require, Define, Translate, is_same}
 
--- The meanings, with one more if `byte` is ASCII and has no other meaning.
+-- The meanings, with one more if `byte` is ASCII and without another meaning.
 abbrev pub defined : List Character → ℕ → Character → Result (List Character) Refusal
 defined meanings byte m =
     if nat_le 128 byte then Err NotAscii
@@ -22,17 +22,17 @@ translated meanings from to =
     else if is_same (slice_index_or meanings to Invalid) Invalid then Err (Undefined to)
     else defined meanings from (slice_index_or meanings to Invalid)
 
--- The meanings after one judgement, or the refusal.
+-- The meanings after one check, or the refusal.
 abbrev pub judged : List Character → Judgement → Result (List Character) Refusal
 judged meanings (Require holds refusal) = if holds then Ok meanings else Err refusal
 judged meanings (Define byte m) = defined meanings byte m
 judged meanings (Translate from to) = translated meanings from to
 
--- The meanings before any judgement.
+-- The meanings before any check.
 abbrev pub no_meanings : List Character
 no_meanings = replicate 128 Invalid
 
--- The meanings after all judgements, or the first refusal.
+-- The meanings after all checks, or the first refusal.
 abbrev pub meanings_after : Result (List Character) Refusal → List Judgement
     → Result (List Character) Refusal
 meanings_after (Err refusal) judgements = Err refusal

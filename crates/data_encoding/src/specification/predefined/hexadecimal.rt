@@ -4,8 +4,8 @@ ghost use Rattle.std.specs.Prelude.{◌≡◌, Ok};
 ghost use Rattle.data_encoding_meaning.specs.specification.Fields.{base_of};
 ghost use Rattle.data_encoding_meaning.specs.specification.Predefined.{hexlower_fields, hexlower_permissive_fields, hexupper_fields, hexupper_permissive_fields};
 
+use crate::encoding::plain::PlainFields;
 use crate::encoding::{Encoding, EncodingRef, INVALID};
-use crate::plain::PlainFields;
 use crate::specification::predefined::forms::{EITHER_CASE_FORM, LOWER_FORM, UPPER_FORM};
 use data_encoding_kernel::lanes::offset_alphabet::PlainOffsets;
 use data_encoding_kernel::symbol_table::SymbolTable;

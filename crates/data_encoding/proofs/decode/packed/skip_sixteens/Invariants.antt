@@ -4,9 +4,9 @@ use Rattle.data_encoding_meaning.specs.text.Grammar.{kept}
 use Rattle.data_encoding_kernel.specs.Ignore.{HoldsIgnored}
 use Rattle.data_encoding.proofs.decode.packed.skip_sixteens.Given as goal
 
-abbrev pub invariant-loop-turn : goal.invariant-loop-turn
-invariant-loop-turn l =
+abbrev pub invariant-loop-index : goal.invariant-loop-index
+invariant-loop-index l =
     (l.left ≤ l.last)
     × ((base : Base) → HoldsIgnored base l.ignored
-    → length (kept base (take (length l.part - 16 * l.turn) l.part)) + (l.last - l.left)
+    → length (kept base (take (length l.part - 16 * l.index) l.part)) + (l.last - l.left)
     ≡ length (kept base l.part))

@@ -1,4 +1,4 @@
-use Rattle.std.proofs.Common.{◌≡◌, ◌+◌, ◌++◌, length, take, rules, arith, refl, sym, ap, ◌∙◌, subst}
+use Rattle.std.proofs.Common.{◌≡◌, ◌++◌, rules, arith, refl, sym, ap, ◌∙◌, subst}
 use Rattle.std.proofs.lemmas.Grind.{common_steps}
 use Rattle.std.proofs.lemmas.Str.{IsUtf8-append, IsUtf8-from_ascii, IsUtf8-string_bytes}
 use Rattle.std.proofs.lemmas.Str.Ascii.{IsAscii-from_all}
@@ -7,8 +7,10 @@ use Rattle.std.specs.String.{string_bytes, string_vec}
 use Rattle.std.specs.Vec.{vec_capacity, vec_len}
 use Rattle.data_encoding.specs.KeptData.{held_data, piece_text}
 use Rattle.data_encoding_meaning.specs.text.EncodedPieces.{HasEncoded}
-use Rattle.data_encoding.proofs.text.AppendLemmas.{written}
+use Rattle.data_encoding.proofs.text.AppendLemmas.{IsExtended, written}
+use Rattle.data_encoding.proofs.encoding.EncodingRef.append_piece.Given.{Over}
 use Rattle.data_encoding.proofs.encoding.EncodingRef.append_piece.Goals as goal
+use Rattle.data_encoding.proofs.encoding.EncodingRef.append_piece.Goals.{After-deref_mut}
 
 pub unwrap-requires : goal.unwrap-requires
 unwrap-requires g c =
@@ -16,33 +18,33 @@ unwrap-requires g c =
     c.resize.ensures.succeeds
     (omega (arith, c.requires.room, c.len-start.ensures, ap vec_len seen, ap vec_capacity seen))
 
+-- the old text, and room for the due one
+extended : (g : Over) (c : After-deref_mut g)
+    → IsExtended (string_bytes c.args.output.now) c.deref_mut.result.now c.len-start.result
+    c.args.due.total c.resize.new.self.len
+extended g c = record {
+  front = grind (arith, common_steps);
+  whole = search rules;
+  sized = search rules;
+}
+
 pub from_utf8_unchecked-requires : goal.from_utf8_unchecked-requires
 from_utf8_unchecked-requires g c =
-    let old = string_bytes c.args.output.now in
     let text = c.read_piece.new.output in
-    let front : take c.len-start.result c.deref_mut.result.now ≡ old =
-    grind (arith, common_steps) in
-    let whole : length c.deref_mut.result.now ≡ c.resize.new.self.len = search rules in
-    let sized : c.resize.new.self.len ≡ c.len-start.result + c.args.due.total = search rules in
-    let is = written old c.deref_mut.result.now text
-    (piece_text c.args.self.now c.args.kept.now c.args.piece.now) c.resize.new.self.items
-    c.len-start.result c.args.due.total c.resize.new.self.len front whole sized
+    let is = written text (piece_text c.args.self.now c.args.kept.now c.args.piece.now)
+    c.resize.new.self.items
+    (extended g (goal.at.from_utf8_unchecked-requires g c).After-deref_mut)
     (c.requires.due.total c.args.piece.now refl) c.read_piece.ensures.text in
     subst IsUtf8 (sym is)
-    (IsUtf8-append old text (IsUtf8-string_bytes c.args.output.now)
+    (IsUtf8-append (string_bytes c.args.output.now) text (IsUtf8-string_bytes c.args.output.now)
     (IsUtf8-from_ascii text (IsAscii-from_all text c.read_piece.ensures.ascii)))
 
 pub returns-clause-encodes : goal.returns-clause-encodes
 returns-clause-encodes g c = λ before bytes has.
     let old = string_bytes c.args.output.now in
     let text = c.read_piece.new.output in
-    let front : take c.len-start.result c.deref_mut.result.now ≡ old =
-    grind (arith, common_steps) in
-    let whole : length c.deref_mut.result.now ≡ c.resize.new.self.len = search rules in
-    let sized : c.resize.new.self.len ≡ c.len-start.result + c.args.due.total = search rules in
-    let is = written old c.deref_mut.result.now text
-    (piece_text c.args.self.now c.args.kept.now c.args.piece.now) c.resize.new.self.items
-    c.len-start.result c.args.due.total c.resize.new.self.len front whole sized
+    let is = written text (piece_text c.args.self.now c.args.kept.now c.args.piece.now)
+    c.resize.new.self.items (extended g (goal.at.returns-clause-encodes g c).After-deref_mut)
     (c.requires.due.total c.args.piece.now refl) c.read_piece.ensures.text in
     let all : string_bytes c.from_utf8_unchecked.result ≡ old ++ text = search (rules, is) in
     subst

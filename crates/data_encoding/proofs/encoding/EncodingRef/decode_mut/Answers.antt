@@ -7,34 +7,34 @@ use Rattle.data_encoding_meaning.proofs.decoding.StopLemmas.{fault-partial, most
 use Rattle.data_encoding_meaning.proofs.grammar.MeaningLemmas.{no_fault-Means}
 use Rattle.data_encoding_meaning.proofs.grammar.TightLemmas.{full-Means}
 use Rattle.data_encoding.proofs.encoding.EncodingRef.decode_mut.Goals as goal
-use Rattle.data_encoding.proofs.encoding.EncodingRef.decode_mut.Goals.{After-stopped}
+use Rattle.data_encoding.proofs.encoding.EncodingRef.decode_mut.Goals.{After-partial_error}
 
-stops : (c : After-stopped)
-    → StopsAt c.args.self.now c.args.input.now c.stopped.new.output c.stopped.result
+stops : (c : After-partial_error)
+    → StopsAt c.args.self.now c.args.input.now c.partial_error.new.output c.partial_error.result
 stops c =
     let ended : HasStopped c.args.self.now c.args.input.now c.decode_by_order.new.output
     c.decode_by_order.new.stop =
     rw c.if-decode_by_order.false at c.decode_by_order.ensures.ends in
-    ended.stops c.stopped.new.output c.stopped.result
-    (omega (arith, c.stopped.auto.output, ended.fits)) c.stopped.ensures.kept c.stopped.ensures.stop
+    ended.stops c.partial_error.new.output c.partial_error.result
+    (omega (arith, c.partial_error.auto.output, ended.fits)) c.partial_error.ensures.kept c.partial_error.ensures.stop
 
 pub returns : goal.returns
 returns c =
     let base = c.args.self.now in
     let width = c.decode_by_order.ensures.width in
-    let new = c.stopped.new.output in
-    let stops = stops (goal.at.returns c).After-stopped in
+    let new = c.partial_error.new.output in
+    let stops = stops (goal.at.returns c).After-partial_error in
     record {
       decoded = cc;
       sound = cc;
       accepted = λ bytes means.
-          let fault = fault-partial base c.args.input.now c.stopped.result stops.is_partial in
+          let fault = fault-partial base c.args.input.now c.partial_error.result stops.is_partial in
           let none = no_fault-Means base width c.args.input.now bytes means in
           cc;
       fault = stops.is_partial;
       partial = stops.means;
       bounds = (stops.read_before, stops.within);
-      most = most-partial base width c.args.input.now new c.stopped.result stops;
+      most = most-partial base width c.args.input.now new c.partial_error.result stops;
       full = cc;
       len = cc;
     }

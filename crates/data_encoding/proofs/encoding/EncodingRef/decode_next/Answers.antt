@@ -61,9 +61,9 @@ overflow_add-stop-2 g c =
     let few = written-few (after g (goal.at.overflow_add-stop-2 g c).After-WIDTH refl) in
     record { fits = omega (arith, few, c.requires.at.exact.limit) }
 
-pub is_end-requires-clause-within : goal.is_end-requires-clause-within
-is_end-requires-clause-within g c =
-    (after g (goal.at.is_end-requires-clause-within g c).After-WIDTH
+pub check_nothing_follows-requires-clause-within : goal.check_nothing_follows-requires-clause-within
+check_nothing_follows-requires-clause-within g c =
+    (after g (goal.at.check_nothing_follows-requires-clause-within g c).After-WIDTH
     (final-is _ _ c.self.view_is c.if-not-self.true c.if-count-group.true)).so_far.within
 
 -- the room is that of the output
@@ -73,16 +73,16 @@ exact g c =
     exact-same c.requires.at.exact (length-rewritten_same c.args.at.written c.args.output.now
     c.decode_group.new.output c.requires.at.so_far.fits c.decode_group.auto.output)
 
-pub returns-then-is_end : goal.returns-then-is_end
-returns-then-is_end g c =
-    let before = (goal.at.returns-then-is_end g c).After-WIDTH in
-    c.if-is_end.ensures _ (exact g before) (after g before
+pub returns-then-check_nothing_follows : goal.returns-then-check_nothing_follows
+returns-then-check_nothing_follows g c =
+    let before = (goal.at.returns-then-check_nothing_follows g c).After-WIDTH in
+    c.if-check_nothing_follows.ensures _ (exact g before) (after g before
     (final-is _ _ c.self.view_is c.if-not-self.true c.if-count-group.true)).so_far
 
 pub returns-then-not-self : goal.returns-then-not-self
 returns-then-not-self g c =
     let before = (goal.at.returns-then-not-self g c).After-WIDTH in
-    c.if-is_end.ensures _ (exact g before) (after g before
+    c.if-check_nothing_follows.ensures _ (exact g before) (after g before
     (final-is _ _ c.self.view_is c.if-not-self.true c.if-count-group.true)).so_far
 
 pub returns : goal.returns

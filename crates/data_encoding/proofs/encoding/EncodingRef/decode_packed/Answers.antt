@@ -10,7 +10,7 @@ use Rattle.data_encoding_meaning.proofs.grammar.PositionLemmas.{length-by_bytes}
 use Rattle.data_encoding_meaning.proofs.lists.PartLemmas.{IsWhole-same, groups-within}
 use Rattle.data_encoding_meaning.proofs.lists.WriteLemmas.{length-rewritten_same, rewritten}
 use Rattle.data_encoding.proofs.decoding.OutputLemmas.{exact-same, goes-nowhere_rest}
-use Rattle.data_encoding.proofs.decoding.PlacingLemmas.{packed-front, packed-to}
+use Rattle.data_encoding.proofs.decoding.PlacingLemmas.{IsPackedTo, packed-to}
 use Rattle.data_encoding.proofs.decoding.StepLemmas.{room-next_run, under_way}
 use Rattle.data_encoding.proofs.tables.TableLemmas.{Reads-seen, ascii-seen}
 use Rattle.data_encoding.proofs.encoding.EncodingRef.decode_packed.Given.{Over}
@@ -52,12 +52,7 @@ returns-then-found-eq0 g c =
     goes-nowhere_rest _ (subst IsWidth (sym c.requires.coded.width_is)
     g.G.GroupSize.is_group.is_width) c.requires.at c.decode_groups-found.auto.output
 
--- what was decoded of the packed bytes, and what follows if that is all
-record IsPackedTo (base : Base) (text : List ℕ) (read written ignored : ℕ) (all : Type 0)
-    (output : List ℕ) : Type 0 where
-  so_far : HasDecodedTo base text read written false output
-  front : all → IsIgnoredFront base (drop read text) ignored
-
+-- the packed groups, placed in the text
 reached : (g : Over) (c : After-span_before-end g)
     → IsPackedTo c.args.self.now c.args.input.now
     (c.args.at.read + c.args.at.ignored + c.span_before-end.result)
@@ -87,16 +82,10 @@ reached g c =
     (rw slice (omega (arith, count_len, packed_len)))) in
     let inside = rw slice at c.span_before-end.ensures.within in
     let some : 0 < c.decode_groups-found.result.read = omega (arith, c.if-found-eq0.false) in
-    record {
-      so_far = packed-to width c.requires.at c.decode_groups-found.new.output
-          c.decode_groups-found.auto.output c.pack-span.new.room c.pack-span.result.1
-          c.pack-span.ensures.room span within are c.decode_groups-found.ensures some
-          c.span_before-end.result before inside;
-      front = packed-front width c.requires.at c.decode_groups-found.new.output
-          c.decode_groups-found.auto.output c.pack-span.new.room c.pack-span.result.1
-          c.pack-span.ensures.room span within are c.decode_groups-found.ensures some
-          c.span_before-end.result before inside;
-    }
+    packed-to width c.requires.at c.decode_groups-found.new.output
+    c.decode_groups-found.auto.output
+    (record { few = c.pack-span.ensures.room; within = within; are = are })
+    c.decode_groups-found.ensures some before inside
 
 pub returns-then-found-count : goal.returns-then-found-count
 returns-then-found-count g c =

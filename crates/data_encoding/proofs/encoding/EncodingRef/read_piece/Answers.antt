@@ -1,8 +1,8 @@
 use Rattle.std.proofs.Common.{◌≡◌, ◌-◌, ◌%◌, ◌+◌, ◌<◌, ◌++◌, ℕ, List, [], length, take, drop, refl, sym, ap, ◌∙◌, subst, arith, rules, length-append, length-take-le}
 use Rattle.std.proofs.lemmas.List.{nil_from_length}
 use Rattle.data_encoding.specs.KeptData.{held_data, IsDue}
-use Rattle.data_encoding.specs.declared.kept_data.DueLen.{DueLen}
-use Rattle.data_encoding.specs.declared.kept_data.KeptData.{KeptData}
+use Rattle.data_encoding.specs.declared.encode.kept_data.DueLen.{DueLen}
+use Rattle.data_encoding.specs.declared.encode.kept_data.KeptData.{KeptData}
 use Rattle.data_encoding_meaning.specs.text.Base.{Base}
 use Rattle.data_encoding_meaning.specs.text.Lengths.{alignment}
 use Rattle.data_encoding_meaning.specs.text.EncodedPieces.{HasEncoded}

@@ -3,7 +3,7 @@ use Rattle.std.proofs.lemmas.Bool.{false≢true}
 use Rattle.std.proofs.lemmas.List.{take-append-le, take-take}
 use Rattle.data_encoding.specs.Base.{group_symbols}
 use Rattle.data_encoding.specs.Grammar.{Means}
-use Rattle.data_encoding.specs.Laws.{further}
+use Rattle.data_encoding.specs.Laws.{shifted}
 use Rattle.encoding_stream.specs.Pieces.{base_of_pieces, FillsGroups}
 use Rattle.encoding_stream.specs.Reading.{ReadsOn}
 use Rattle.encoding_stream.proofs.PieceLemmas.{is-specified, no-fault, no-fault-inside}
@@ -43,12 +43,12 @@ returns-in-Err-clause-reads c =
     rw (take-append-le partial.written new (drop c.due-len.result.1 c.args.output.now) within)
     (subst (λ e. ReadsOn base old (record old {
       len = old.len + c.due-len.result.0;
-      fault = further old.len (Some partial.error);
+      fault = shifted old.len (Some partial.error);
       ended = e;
     }) text bytes) (sym fresh.goes_on)
     (subst (λ n. ReadsOn base old (record old {
       len = old.len + n;
-      fault = further old.len (Some partial.error);
+      fault = shifted old.len (Some partial.error);
       ended = false;
     }) text bytes) text-is
     (reads-run base s.width old fresh old.positions old.bytes text bytes (Some partial.error) false

@@ -34,7 +34,7 @@ pub struct DueLen {
 }
 
 impl KeptData {
-    // Holds more bytes.
+    /// Holds more bytes.
     fn hold(&mut self, more: &[u8])
         requires room { self.old.count + length more.now ≤ 189 }
         ensures held { held_data self.new ≡ held_data self.old ++ more.now }
@@ -128,7 +128,7 @@ impl EncodingRef<'_> {
         kept.hold(left);
     }
 
-    // Writes the texts of two inputs one after the other. That of the first has this length.
+    /// Writes the texts of two inputs one after the other. The first text has `len` bytes.
     fn encode_both(&self, first: &[u8], len: usize, second: &[u8], output: &mut [u8])
         requires first { length first.now ≤ ENCODE_LIMIT }
         requires second { length second.now ≤ ENCODE_LIMIT }

@@ -1,7 +1,7 @@
 use Rattle.std.proofs.Common.{◌-◌, length, refl}
 use borrow.Rule.Slice.PartMut.{mid_of, put_same}
 use Rattle.data_encoding.proofs.decoding.StepLemmas.{decoded-empty, group-stopped, some-group, under_way}
-use Rattle.data_encoding.proofs.encoding.EncodingRef.is_end.Goals as goal
+use Rattle.data_encoding.proofs.encoding.EncodingRef.check_nothing_follows.Goals as goal
 
 pub returns-then-is_empty : goal.returns-then-is_empty
 returns-then-is_empty g c = λ output exact so_far.

@@ -1,5 +1,5 @@
 use Rattle.std.proofs.Common.{refl}
-use Rattle.data_encoding.proofs.plain.PlainFields.order.Goals as goal
+use Rattle.data_encoding.proofs.encoding.plain.PlainFields.order.Goals as goal
 
 pub returns-then-self : goal.returns-then-self
 returns-then-self c = rw c.if-self.true refl

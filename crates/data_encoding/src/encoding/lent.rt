@@ -5,7 +5,7 @@ ghost use Rattle.data_encoding.specs.Encoding.{KeepsRules};
 ghost use Rattle.data_encoding.specs.PlainTables.{plain_tables};
 
 use crate::encoding::EncodingRef;
-use crate::plain::PlainFields;
+use crate::encoding::plain::PlainFields;
 
 /// A reference to an encoding that can be copied.
 ///
@@ -15,7 +15,7 @@ use crate::plain::PlainFields;
 pub struct LentEncoding<'a> {
     pub(crate) fields: &'a PlainFields,
 
-    // What follows each line.
+    // The separator after each line.
     pub(crate) separator: &'a [u8],
 
     ghost kept: { ∥ KeepsRules (plain_tables fields.now separator.now) ∥₁ },

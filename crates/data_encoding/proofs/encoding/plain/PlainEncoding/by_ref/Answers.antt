@@ -1,7 +1,7 @@
 use Rattle.std.proofs.Common.{take}
 use Rattle.data_encoding.specs.PlainTables.{plain_tables}
 use Rattle.data_encoding.proofs.tables.PlainLemmas.{kept-rules}
-use Rattle.data_encoding.proofs.plain.PlainEncoding.by_ref.Goals as goal
+use Rattle.data_encoding.proofs.encoding.plain.PlainEncoding.by_ref.Goals as goal
 
 pub invariant_of-result : goal.invariant_of-result
 invariant_of-result c =

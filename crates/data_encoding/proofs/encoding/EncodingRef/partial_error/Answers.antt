@@ -8,8 +8,8 @@ use Rattle.data_encoding_meaning.specs.text.Grammar.{kept}
 use Rattle.data_encoding_meaning.specs.decoding.Partial.{is_length_fault}
 use Rattle.data_encoding_meaning.proofs.lists.PartLemmas.{length-rest}
 use Rattle.data_encoding_meaning.proofs.lists.WriteLemmas.{drop-put_mid_at, length-put_mid}
-use Rattle.data_encoding.proofs.encoding.EncodingRef.stopped.Goals as goal
-use Rattle.data_encoding.proofs.encoding.EncodingRef.stopped.Goals.{After-kept_position, Then-matches, in-Length, in_default}
+use Rattle.data_encoding.proofs.encoding.EncodingRef.partial_error.Goals as goal
+use Rattle.data_encoding.proofs.encoding.EncodingRef.partial_error.Goals.{After-kept_position, Then-matches, in-Length, in_default}
 
 is_length : (kind : DecodeKind) → is_length_fault kind ≡ true → kind ≡ Length
 is_length kind h = grind arith
@@ -54,9 +54,9 @@ returns-in-Some-clause-stop c =
     let output = c.args.output.now in
     let written = c.args.stop.written in
     let count = c.in-Some.count in
-    let last = c.decode_front.new.output in
+    let last = c.decode_valid_prefix.new.output in
     let run = c.in-Some.ensures in
-    let left = c.decode_front.auto.output ∙ length-rest written output in
+    let left = c.decode_valid_prefix.auto.output ∙ length-rest written output in
     let new_len = length-put_mid written (length output - written) output last (omega arith) left
     in
     record {
@@ -71,26 +71,26 @@ returns-in-Some-clause-stop c =
       );
     }
 
-pub returns-in_default-decode_front-clause-stop : goal.returns-in_default-decode_front-clause-stop
-returns-in_default-decode_front-clause-stop c = record {
+pub returns-in_default-decode_valid_prefix-clause-stop : goal.returns-in_default-decode_valid_prefix-clause-stop
+returns-in_default-decode_valid_prefix-clause-stop c = record {
   error_is =
-      rw (found (goal.at.returns-in_default-decode_front-clause-stop c).After-kept_position);
-  how = inl (refl, refl, λ _. rw take_rest at c.in_default-decode_front.ensures);
+      rw (found (goal.at.returns-in_default-decode_valid_prefix-clause-stop c).After-kept_position);
+  how = inl (refl, refl, λ _. rw take_rest at c.in_default-decode_valid_prefix.ensures);
 }
 
-pub decode_front-requires-clause-room : goal.decode_front-requires-clause-room
-decode_front-requires-clause-room c =
+pub decode_valid_prefix-requires-clause-room : goal.decode_valid_prefix-requires-clause-room
+decode_valid_prefix-requires-clause-room c =
     simp (take_rest, length-drop c.args.stop.written c.args.output.now)
-    (c.requires.room (length_is (goal.at.decode_front-requires-clause-room c).Then-matches))
+    (c.requires.room (length_is (goal.at.decode_valid_prefix-requires-clause-room c).Then-matches))
 
 pub slice_bounds-rest-count : goal.slice_bounds-rest-count
 slice_bounds-rest-count c = c.requires.within
 
-pub slice_bounds-decode_front-count : goal.slice_bounds-decode_front-count
-slice_bounds-decode_front-count c = c.requires.fits
+pub slice_bounds-decode_valid_prefix-count : goal.slice_bounds-decode_valid_prefix-count
+slice_bounds-decode_valid_prefix-count c = c.requires.fits
 
-pub decode_front-requires-clause-limit : goal.decode_front-requires-clause-limit
-decode_front-requires-clause-limit c =
+pub decode_valid_prefix-requires-clause-limit : goal.decode_valid_prefix-requires-clause-limit
+decode_valid_prefix-requires-clause-limit c =
     omega (arith, length-rest c.args.stop.read c.args.input.now)
 
 pub overflow_add-written : goal.overflow_add-written
@@ -102,13 +102,13 @@ pub returns-in-Some-clause-kept : goal.returns-in-Some-clause-kept
 returns-in-Some-clause-kept c =
     let written = c.args.stop.written in
     take-put_mid_below written (length c.args.output.now - written) c.args.output.now
-    c.decode_front.new.output written (omega arith) c.requires.fits
+    c.decode_valid_prefix.new.output written (omega arith) c.requires.fits
 
-pub returns-in_default-decode_front-clause-kept : goal.returns-in_default-decode_front-clause-kept
-returns-in_default-decode_front-clause-kept c =
+pub returns-in_default-decode_valid_prefix-clause-kept : goal.returns-in_default-decode_valid_prefix-clause-kept
+returns-in_default-decode_valid_prefix-clause-kept c =
     let written = c.args.stop.written in
     take-put_mid_below written (length c.args.output.now - written) c.args.output.now
-    c.decode_front.new.output written (omega arith) c.requires.fits
+    c.decode_valid_prefix.new.output written (omega arith) c.requires.fits
 
 pub returns-else-matches-clause-kept : goal.returns-else-matches-clause-kept
 returns-else-matches-clause-kept c = refl

@@ -16,8 +16,8 @@ pub struct PlainFields {
     // The symbols in order of value, repeated to fill the table.
     pub(crate) symbols: SymbolTable,
 
-    // The value of each symbol and of each byte that is translated to it; 128 for an invalid byte,
-    // 129 for an ignored one, and 130 for padding.
+    // The value of each symbol and of each byte that is translated to it. An invalid byte has 128,
+    // an ignored one 129, and padding 130.
     pub(crate) values: ValueTable,
 
     pub(crate) width: u8,
@@ -31,15 +31,15 @@ pub struct PlainFields {
     pub(crate) least_significant_first: bool,
     pub(crate) checks_trailing_bits: bool,
 
-    // Whether a text may continue after a padded group.
+    // `true` if a text may continue after a padded group.
     pub(crate) concatenates: bool,
 
-    // Whether some byte is ignored, by the table of values.
+    // `true` if some byte is ignored, by the table of values.
     pub(crate) ignores: bool,
 }
 
 impl PlainFields {
-    // The order of the bits.
+    /// Returns the order of the bits.
     #[inline(always)]
     pub(crate) fn order(&self) -> BitOrder
         ensures { result ≡ order_by self.now.least_significant_first }
@@ -51,7 +51,7 @@ impl PlainFields {
         }
     }
 
-    // The padding character.
+    /// Returns the padding character.
     #[inline(always)]
     pub(crate) fn padding_character(&self) -> Option<u8>
         ensures { result ≡ padding_by self.now.padding }
@@ -59,7 +59,7 @@ impl PlainFields {
         padding_of(self.padding)
     }
 
-    // Whether there is a padding character.
+    /// Returns `true` if there is a padding character.
     #[inline(always)]
     pub(crate) fn is_padded(&self) -> bool
         ensures { result ≡ is_some (padding_by self.now.padding) }
@@ -68,7 +68,7 @@ impl PlainFields {
     }
 }
 
-// The padding character that the entry means.
+/// Returns the padding character of an entry, or `None` for 128.
 #[inline(always)]
 pub(crate) fn padding_of(entry: u8) -> Option<u8>
     ensures { result ≡ padding_by entry }
@@ -126,7 +126,7 @@ impl Encoding {
     }
 }
 
-// The bytes, followed by zeros.
+/// Returns the bytes, followed by zeros.
 fn filled(bytes: &[u8]) -> [u8; 255]
     requires { length bytes.now < 256 }
     ensures { take (length bytes.now) result ≡ bytes.now }
