@@ -1,4 +1,4 @@
--- Whole groups in a row, and the kept bytes of a part of a text.
+-- Consecutive whole groups, and the kept bytes of a part of a text.
 use Rattle.std.specs.Prelude.{◌≡◌, ℕ, ◌+◌, ◌-◌, ◌*◌, ◌/◌, ◌%◌, ◌<◌, ◌≤◌, false, List, length, map, take, slice_index}
 use Rattle.std.specs.List.{list_any}
 use Rattle.data_encoding.specs.declared.decode.groups.Groups.{Groups}

@@ -42,7 +42,7 @@ pub(crate) struct Stop {
 }
 
 impl Stop {
-    /// Returns the place of a fault. `index` is its index in the group after `read` bytes.
+    /// Returns the stop at a fault. `index` is its index in the group after `read` bytes.
     #[inline(always)]
     pub(crate) fn new(read: usize, written: usize, index: usize, kind: DecodeKind) -> Stop
         ensures { result ≡ record { read = read; written = written; index = index; kind = kind } }
@@ -89,7 +89,7 @@ impl EncodingRef<'_> {
 
     /// Returns the error of the faulty group that follows the first `stop.read` bytes.
     ///
-    /// After a `Length` fault, the part of that group that `decode_valid_prefix` decodes is read
+    /// After a `Length` fault, the part of that group that `decode_prefix` decodes is read
     /// and written too.
     #[inline(always)]
     fn partial_error(&self, input: &[u8], output: &mut [u8], stop: Stop) -> DecodePartial
@@ -108,7 +108,7 @@ impl EncodingRef<'_> {
         let mut written = stop.written;
         let position = read + self.kept_position(rest, stop.index);
         if matches!(stop.kind, DecodeKind::Length) {
-            if let Some(count) = self.decode_valid_prefix(rest, &mut output[written..]) {
+            if let Some(count) = self.decode_prefix(rest, &mut output[written..]) {
                 read = position;
                 written += count;
             }
@@ -129,24 +129,20 @@ impl EncodingRef<'_> {
     /// byte, has a fault, or is longer than a group.
     #[cold]
     #[inline(never)]
-    fn decode_valid_prefix(&self, rest: &[u8], output: &mut [u8]) -> Option<usize>
+    fn decode_prefix(&self, rest: &[u8], output: &mut [u8]) -> Option<usize>
         requires limit { length rest.now ≤ DECODE_LIMIT }
         requires room { HasRoom self.now rest.now (length output.old) }
         ensures { DecodesLastRun self.now rest.now output.new result }
     {
         call_by_width!(
             self.fields.width,
-            self.decode_valid_prefix_by_width::<>(rest, output)
+            self.decode_prefix_by_width::<>(rest, output)
         )
     }
 
-    /// Like [`decode_valid_prefix`](EncodingRef::decode_valid_prefix), with the width as a
+    /// Like [`decode_prefix`](EncodingRef::decode_prefix), with the width as a
     /// constant.
-    fn decode_valid_prefix_by_width<G: GroupSize>(
-        &self,
-        rest: &[u8],
-        output: &mut [u8],
-    ) -> Option<usize>
+    fn decode_prefix_by_width<G: GroupSize>(&self, rest: &[u8], output: &mut [u8]) -> Option<usize>
         requires width { self.now.width ≡ G.WIDTH }
         requires limit { length rest.now ≤ DECODE_LIMIT }
         requires room { HasRoom self.now rest.now (length output.old) }

@@ -24,7 +24,7 @@ begins-within {text = text} {at = at} reached =
     )
 
 -- nothing is decoded
-pub goes-nowhere : {base : Base} {text output : List ℕ} {at : Progress}
+goes-nowhere : {base : Base} {text output : List ℕ} {at : Progress}
     → HasReached base text at output → GoesOn base text at.read at output
 goes-nowhere reached = record { reached = reached; further = omega arith }
 

@@ -1,4 +1,4 @@
-//! Decoding of whole groups in a row, without ignored bytes.
+//! Decoding of consecutive whole groups, without ignored bytes.
 
 ghost use Rattle.std.specs.Prelude.{◌≡◌, true, ◌+◌, ◌*◌, ◌/◌, ◌≤◌, length, take, IsTrue};
 ghost use Rattle.data_encoding.specs.Groups.{HasReadGroups};

@@ -40,7 +40,8 @@ loop-preserved g c =
           so_far = rw (at.read, at.written, ← whole)
               (placed-here c.requires.entries.reads.holds.is_width reached
               c.decode_line-found.new.output c.decode_line-found.auto.output c.args.len
-              (c.decode_line-found.ensures c.args.self.now c.requires.entries) (omega (arith, whole, c.requires.some)));
+              (c.decode_line-found.ensures c.args.self.now c.requires.entries)
+              (omega (arith, whole, c.requires.some)));
           front = rw at.read (at.front c.args.self.now c.requires.entries.reads.holds);
         };
         further = omega (arith, at.read, c.loop.invariant.on.further);

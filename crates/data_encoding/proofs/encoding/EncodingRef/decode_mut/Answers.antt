@@ -16,7 +16,8 @@ stops c =
     c.decode_by_order.new.stop =
     rw c.if-decode_by_order.false at c.decode_by_order.ensures.ends in
     ended.stops c.partial_error.new.output c.partial_error.result
-    (omega (arith, c.partial_error.auto.output, ended.fits)) c.partial_error.ensures.kept c.partial_error.ensures.stop
+    (omega (arith, c.partial_error.auto.output, ended.fits)) c.partial_error.ensures.kept
+    c.partial_error.ensures.stop
 
 pub returns : goal.returns
 returns c =

@@ -54,9 +54,9 @@ returns-in-Some-clause-stop c =
     let output = c.args.output.now in
     let written = c.args.stop.written in
     let count = c.in-Some.count in
-    let last = c.decode_valid_prefix.new.output in
+    let last = c.decode_prefix.new.output in
     let run = c.in-Some.ensures in
-    let left = c.decode_valid_prefix.auto.output ∙ length-rest written output in
+    let left = c.decode_prefix.auto.output ∙ length-rest written output in
     let new_len = length-put_mid written (length output - written) output last (omega arith) left
     in
     record {
@@ -71,26 +71,26 @@ returns-in-Some-clause-stop c =
       );
     }
 
-pub returns-in_default-decode_valid_prefix-clause-stop : goal.returns-in_default-decode_valid_prefix-clause-stop
-returns-in_default-decode_valid_prefix-clause-stop c = record {
+pub returns-in_default-decode_prefix-clause-stop : goal.returns-in_default-decode_prefix-clause-stop
+returns-in_default-decode_prefix-clause-stop c = record {
   error_is =
-      rw (found (goal.at.returns-in_default-decode_valid_prefix-clause-stop c).After-kept_position);
-  how = inl (refl, refl, λ _. rw take_rest at c.in_default-decode_valid_prefix.ensures);
+      rw (found (goal.at.returns-in_default-decode_prefix-clause-stop c).After-kept_position);
+  how = inl (refl, refl, λ _. rw take_rest at c.in_default-decode_prefix.ensures);
 }
 
-pub decode_valid_prefix-requires-clause-room : goal.decode_valid_prefix-requires-clause-room
-decode_valid_prefix-requires-clause-room c =
+pub decode_prefix-requires-clause-room : goal.decode_prefix-requires-clause-room
+decode_prefix-requires-clause-room c =
     simp (take_rest, length-drop c.args.stop.written c.args.output.now)
-    (c.requires.room (length_is (goal.at.decode_valid_prefix-requires-clause-room c).Then-matches))
+    (c.requires.room (length_is (goal.at.decode_prefix-requires-clause-room c).Then-matches))
 
 pub slice_bounds-rest-count : goal.slice_bounds-rest-count
 slice_bounds-rest-count c = c.requires.within
 
-pub slice_bounds-decode_valid_prefix-count : goal.slice_bounds-decode_valid_prefix-count
-slice_bounds-decode_valid_prefix-count c = c.requires.fits
+pub slice_bounds-decode_prefix-count : goal.slice_bounds-decode_prefix-count
+slice_bounds-decode_prefix-count c = c.requires.fits
 
-pub decode_valid_prefix-requires-clause-limit : goal.decode_valid_prefix-requires-clause-limit
-decode_valid_prefix-requires-clause-limit c =
+pub decode_prefix-requires-clause-limit : goal.decode_prefix-requires-clause-limit
+decode_prefix-requires-clause-limit c =
     omega (arith, length-rest c.args.stop.read c.args.input.now)
 
 pub overflow_add-written : goal.overflow_add-written
@@ -102,13 +102,13 @@ pub returns-in-Some-clause-kept : goal.returns-in-Some-clause-kept
 returns-in-Some-clause-kept c =
     let written = c.args.stop.written in
     take-put_mid_below written (length c.args.output.now - written) c.args.output.now
-    c.decode_valid_prefix.new.output written (omega arith) c.requires.fits
+    c.decode_prefix.new.output written (omega arith) c.requires.fits
 
-pub returns-in_default-decode_valid_prefix-clause-kept : goal.returns-in_default-decode_valid_prefix-clause-kept
-returns-in_default-decode_valid_prefix-clause-kept c =
+pub returns-in_default-decode_prefix-clause-kept : goal.returns-in_default-decode_prefix-clause-kept
+returns-in_default-decode_prefix-clause-kept c =
     let written = c.args.stop.written in
     take-put_mid_below written (length c.args.output.now - written) c.args.output.now
-    c.decode_valid_prefix.new.output written (omega arith) c.requires.fits
+    c.decode_prefix.new.output written (omega arith) c.requires.fits
 
 pub returns-else-matches-clause-kept : goal.returns-else-matches-clause-kept
 returns-else-matches-clause-kept c = refl

@@ -3,7 +3,7 @@ use Rattle.data_encoding_meaning.specs.text.Base.{Base, group_symbols}
 use Rattle.data_encoding_meaning.specs.decoding.Decoding.{valid_front}
 use Rattle.data_encoding_meaning.specs.text.Lengths.{greatest_valid_length}
 use Rattle.data_encoding_meaning.proofs.decoding.GroupJudgementLemmas.{HasFault-some, few-bits, room-symbols}
-use Rattle.data_encoding.proofs.encoding.EncodingRef.decode_valid_prefix_by_width.Goals as goal
+use Rattle.data_encoding.proofs.encoding.EncodingRef.decode_prefix_by_width.Goals as goal
 
 module _ (base : Base) (rest : List ℕ) {len : ℕ}
     (value : len ≡ greatest_valid_length base (length rest)) (most : len ≤ length rest) where
