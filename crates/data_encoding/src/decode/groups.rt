@@ -5,9 +5,9 @@ ghost use Rattle.data_encoding.specs.Groups.{HasReadGroups};
 ghost use Rattle.data_encoding.specs.Progress.{ReadsBy};
 
 use crate::encoding::{EncodingRef, PADDING};
-use data_encoding_kernel::decode::{decode_by_turns, decode_run_within};
+use data_encoding_kernel::decode::{decode_iterations, decode_run_within};
 use data_encoding_kernel::group_size::GroupSize;
-use data_encoding_kernel::lanes::look_up::LookUp;
+use data_encoding_kernel::lanes::decode::look_up::LookUp;
 use data_encoding_kernel::order::ConstantOrder;
 use data_encoding_kernel::words::entry_of;
 
@@ -41,7 +41,7 @@ impl EncodingRef<'_> {
         requires room { len / G.SYMBOLS * G.BYTES ≤ length output.old }
         ensures { HasReadGroups self.now (take len part.now) result output.new }
     {
-        let count = decode_by_turns::<L, O, G>(entries.look_up, part, len, output) / G::SYMBOLS;
+        let count = decode_iterations::<L, O, G>(entries.look_up, part, len, output) / G::SYMBOLS;
         Groups {
             read: count * G::SYMBOLS,
             written: count * G::BYTES,

@@ -109,7 +109,7 @@ pub loop-index-init : goal.loop-index-init
 loop-index-init g c =
     record {
       run = λ base reads.
-          c.decode_by_several-first.ensures.run base (rw c.ORDER-order.ensures at reads);
+          c.decode_most-first.ensures.run base (rw c.ORDER-order.ensures at reads);
     }
 
 pub loop-index-preserved : goal.loop-index-preserved
@@ -143,7 +143,7 @@ pub returns-then-is_longest-clause-within : goal.returns-then-is_longest-clause-
 returns-then-is_longest-clause-within g c =
     omega (
       arith,
-      mul-le-mul_right g.G.GroupSize.SYMBOLS c.decode_by_several-first.ensures.within,
+      mul-le-mul_right g.G.GroupSize.SYMBOLS c.decode_most-first.ensures.within,
       groups-within c.args.len g.G.GroupSize.SYMBOLS,
     )
 
@@ -157,8 +157,8 @@ returns-clause-longest g c = λ base reads.
 
 pub returns-clause-run : goal.returns-clause-run
 returns-clause-run g c = λ base reads.
-    let within = subst (λ n. c.decode_by_several-first.result.0 ≤ c.args.len / n)
-    (sym c.SYMBOLS-symbols.ensures) c.decode_by_several-first.ensures.within in
+    let within = subst (λ n. c.decode_most-first.result.0 ≤ c.args.len / n)
+    (sym c.SYMBOLS-symbols.ensures) c.decode_most-first.ensures.within in
     let all : c.loop-index.index ≡ c.args.len / c.SYMBOLS-symbols.result =
     omega (arith, within, c.loop-index-test.false, c.loop-index.auto.index-end) in
     rw all at (c.loop-index.invariant.run base (rw c.ORDER-order.ensures reads))
