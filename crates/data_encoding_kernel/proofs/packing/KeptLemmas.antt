@@ -2,7 +2,7 @@
 use Rattle.std.proofs.Common.{◌≡◌, ℕ, zero, suc, ◌+◌, ◌-◌, ◌*◌, ◌/◌, ◌%◌, ◌^◌, ◌<◌, ◌≤◌, Bool, true, false, not, cond, List, [], ◌∷◌, ◌++◌, length, map, take, drop, replicate, refl, sym, ap, ◌∙◌, subst, arith, length-append, length-take-le}
 use Rattle.std.proofs.Math.Nat.{div-one, div-div-eq-div-mul, div-mul-le_self, mod-eq_of_lt, pow-succ'}
 use Rattle.std.proofs.Math.Seq.{take-add, take-append-add}
-use Rattle.std.proofs.lemmas.List.{drop-map, length-drop, length-map, length-replicate, take-append-drop, take-append-le, take-take, take_all}
+use Rattle.std.proofs.lemmas.List.{drop-map, length-drop, length-map, length-replicate, take-append-drop, take-append-le, take-take}
 use Rattle.std.proofs.lemmas.List.Elements.{filter-append}
 use Rattle.std.proofs.lemmas.List.Filters.{length-filter_both}
 use Rattle.std.proofs.lemmas.Simd.{mask_l-lt}
@@ -204,9 +204,3 @@ kept-last base part packed before last read rest all last_is before_is is =
     ∙ (λ i. sym before_is i
     ++ filter (keeps base) ((rest_is ∙ sym last_is) i))
     ∙ sym is
-
--- if none is left
-pub kept-all : (base : Base) (part packed : List ℕ) (read : ℕ) → length part ≤ read
-    → packed ≡ filter (keeps base) (take read part) → bytes_in (kept base part) ≡ packed
-kept-all base part packed read all is =
-    bytes-kept_in base 0 part ∙ ap (filter (keeps base)) (sym (take_all read part all)) ∙ sym is

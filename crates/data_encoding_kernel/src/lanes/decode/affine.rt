@@ -141,7 +141,7 @@ fn bytes_of_row(row: usize) -> u8x16
     indexes + u8x16::splat((16 * row) as u8)
 }
 
-/// Returns `true` if each entry below 128 that the form finds in a row is the entry of the table.
+/// Returns `true` if each entry below 128 that the form finds for `row` is the entry of the table.
 #[inline(always)]
 fn agrees_in_row(affine: &Affine, values: &[u8; 256], row: usize) -> bool
     requires { row < 8 }
@@ -155,7 +155,7 @@ fn agrees_in_row(affine: &Affine, values: &[u8; 256], row: usize) -> bool
     are_below(128, found.simd_eq(entries).select(u8x16::splat(0), moved))
 }
 
-// Finds the entries of bytes. `$in_row` looks bytes up in a row.
+// Finds the entries of bytes. `$in_row` looks bytes up in sixteen entries.
 macro_rules! found_by_rows {
     ($affine:ident, $bytes:ident, $in_row:ident, $lanes:ident) => {{
         let rows = $bytes >> $lanes::splat(4);

@@ -37,15 +37,15 @@ returns-then-SYMBOLS-eq4-clause-run g c = λ values held base reads.
     let four : g.G.GroupSize.SYMBOLS ≡ 4 =
     omega (arith, c.SYMBOLS-3.ensures, c.if-SYMBOLS-eq4.true) in
     let long = c.requires.symbols ∙ ap (λ s. 4 * s) (sym four) in
-    let found = words-found 4 whole.is_width whole.some_symbols c.WIDTH.ensures four
+    let found = words-found 4 whole.some_symbols c.WIDTH.ensures four
     (λ values. g.L.LookUp.holds values c.args.look_up.now) c.args.order c.args.input.now
     c.look_up_16-entries.result c.words_of_sixteen_by_four-words.result
     c.count_below-count.result long
     (λ j. (c.type_inv.input j).fits) c.count_below-count.ensures.lanes
     c.count_below-count.ensures.few c.count_below-count.ensures.below
     c.look_up_16-entries.ensures c.words_of_sixteen_by_four-words.ensures in
-    found-run 4 base values g.G.GroupSize.WIDTH bytes g.G.GroupSize.SYMBOLS c.args.order group
-    reads c.args.input.now c.args.output.now c.store_four.new.output
+    found-run base values g.G.GroupSize.WIDTH bytes g.G.GroupSize.SYMBOLS c.args.order group
+    reads 4 c.args.input.now c.args.output.now c.store_four.new.output
     c.words_of_sixteen_by_four-words.result c.count_below-count.result long
     (c.store_four.auto.output ∙ c.requires.exact
     ∙ ap (λ s. 16 / s * bytes) (sym group.has_symbols ∙ four))
@@ -66,15 +66,15 @@ returns-else-SYMBOLS-eq4-clause-run g c = λ values held base reads.
       c.if-SYMBOLS-eq4.false,
     ) in
     let long = c.requires.symbols ∙ ap (λ s. 2 * s) (sym eight) in
-    let found = words-found 2 whole.is_width whole.some_symbols c.WIDTH-else-SYMBOLS-eq4.ensures
+    let found = words-found 2 whole.some_symbols c.WIDTH-else-SYMBOLS-eq4.ensures
     eight (λ values. g.L.LookUp.holds values c.args.look_up.now) c.args.order c.args.input.now
     c.look_up_16-entries.result c.words_of_sixteen_by_eight-words.result
     c.count_below-count.result long
     (λ j. (c.type_inv.input j).fits) c.count_below-count.ensures.lanes
     c.count_below-count.ensures.few c.count_below-count.ensures.below
     c.look_up_16-entries.ensures c.words_of_sixteen_by_eight-words.ensures in
-    found-run 2 base values g.G.GroupSize.WIDTH bytes g.G.GroupSize.SYMBOLS c.args.order group
-    reads c.args.input.now c.args.output.now c.store_two.new.output
+    found-run base values g.G.GroupSize.WIDTH bytes g.G.GroupSize.SYMBOLS c.args.order group
+    reads 2 c.args.input.now c.args.output.now c.store_two.new.output
     c.words_of_sixteen_by_eight-words.result c.count_below-count.result long
     (c.store_two.auto.output ∙ c.requires.exact
     ∙ ap (λ s. 16 / s * bytes) (sym group.has_symbols ∙ eight))
