@@ -9,7 +9,7 @@ use Rattle.std.specs.List.{AllByRecursion, range_with_len}
 use Rattle.std.specs.Simd.{first_chunks}
 use Rattle.data_encoding_meaning.specs.declared.encoding.Character.{Character}
 use Rattle.data_encoding_meaning.specs.declared.encoding.BitOrder.{BitOrder}
-use Rattle.data_encoding_meaning.specs.text.Base.{Base, IsWidth, group_bytes, group_symbols, is_symbol, meaning, IsGroup}
+use Rattle.data_encoding_meaning.specs.text.Base.{Base, group_bytes, group_symbols, is_symbol, meaning, IsGroup}
 use Rattle.data_encoding_meaning.specs.text.Bits.{runs}
 use Rattle.data_encoding_kernel.specs.Runs.{IsRun}
 use Rattle.data_encoding_kernel.specs.Values.{AreEntries, AreValues}
@@ -19,7 +19,7 @@ use Rattle.data_encoding_kernel.specs.Words.{digit, word_of}
 use Rattle.data_encoding_kernel.proofs.digits.GatherStoreLemmas.{bytes_of_words}
 use Rattle.data_encoding_kernel.proofs.digits.FrontWordLemmas.{groups-front}
 use Rattle.data_encoding_kernel.proofs.digits.KernelLemmas.{symbol_bytes-word}
-use Rattle.data_encoding_kernel.proofs.decoding.SymbolRunLemmas.{few-groups, run-front}
+use Rattle.data_encoding_kernel.proofs.decoding.SymbolRunLemmas.{groups-at_most, run-front}
 use Rattle.data_encoding_meaning.proofs.digits.WidthLemmas.{by_width}
 use Rattle.data_encoding_meaning.proofs.decoding.GroupJudgementLemmas.{part_bytes}
 use Rattle.data_encoding_meaning.proofs.lists.PartLemmas.{IsWhole, IsWhole-group, groups-within}
@@ -37,7 +37,7 @@ bytes-front show size (suc count) (one ∷ made) each =
     rw more (take-append-add (show one) (flat_map show made) (count * size)
     ∙ ap (λ l. show one ++ l) (bytes-front show size count made each))
 
--- the bytes of the words of groups are those of the groups
+-- the bytes of the words of groups are the bytes of the groups
 module _ (base : Base) (values : List ℕ) (width bytes symbols : ℕ) (order : BitOrder)
     (group : IsGroup width bytes symbols) (reads : Reads base values width order) where
   abbrev word_bytes : ℕ → List ℕ
@@ -111,7 +111,7 @@ module _ (base : Base) (values : List ℕ) (width bytes symbols : ℕ) (order : 
             (is ∙ words-run n input long fits low);
       }
 
-  -- groups of symbols before the first byte that is none are a run
+  -- groups of symbols before the first byte that is not a symbol are a run
   pub found-run : (total : ℕ) (input old new words : List ℕ) (found : ℕ)
       → length input ≡ total * symbols → length new ≡ total * bytes
       → ((j : ℕ) → slice_index input j < 256) → found ≤ total * symbols
@@ -123,7 +123,7 @@ module _ (base : Base) (values : List ℕ) (width bytes symbols : ℕ) (order : 
       let count = found / symbols in
       let read = count * symbols in
       let within : read ≤ found = groups-within found symbols in
-      let most = few-groups found total whole.some_symbols few in
+      let most = groups-at_most found total whole.some_symbols few in
       let room : count * bytes ≤ length new =
       omega (arith, exact, mul-le-mul_right bytes most) in
       let part_len : length (take read input) ≡ read =
@@ -143,7 +143,7 @@ module _ (base : Base) (values : List ℕ) (width bytes symbols : ℕ) (order : 
       (λ word. length-map-range_with_len (digit order 8 bytes word) 0 bytes)
       ∙ ap (flat_map word_bytes) (words_are ∙ ap (map (word_of order width symbols)) chunks)))
 
--- the entries found for groups, of which the first are below 128
+-- the entries found for groups. The first `found` of them are below 128
 record AreFound (total number : ℕ) (values input entries : List ℕ) (found : ℕ) : Type 0 where
   long : length input ≡ total * number
   lanes : length entries ≡ total * number
@@ -157,8 +157,8 @@ module _ {total number found : ℕ} {values input entries : List ℕ} (some : 0 
   abbrev groups : ℕ
   groups = found / number
 
-  whole-groups : groups * number ≤ found
-  whole-groups = groups-within found number
+  groups-within_found : groups * number ≤ found
+  groups-within_found = groups-within found number
 
   entry-found : (j : ℕ) → j < found
       → slice_index entries j ≡ slice_index values (slice_index input j)
@@ -184,7 +184,7 @@ module _ {total number found : ℕ} {values input entries : List ℕ} (some : 0 
   entries-found =
       let size = groups * number in
       let first_len : length (take size entries) ≡ size =
-      length-take-le size entries (omega (arith, so_far.lanes, so_far.few, whole-groups)) in
+      length-take-le size entries (omega (arith, so_far.lanes, so_far.few, groups-within_found)) in
       let last_len : length (take size (map (slice_index values) input)) ≡ size =
       length-take-le size (map (slice_index values) input)
       (omega (
@@ -192,13 +192,13 @@ module _ {total number found : ℕ} {values input entries : List ℕ} (some : 0 
         length-map input (slice_index values),
         so_far.long,
         so_far.few,
-        whole-groups,
+        groups-within_found,
       )) in
       ext_get_or 0 (take size entries) (take size (map (slice_index values) input))
       (first_len ∙ sym last_len)
       (λ k h.
       let inside : k < size = omega (arith, h, first_len) in
-      let early : k < found = omega (arith, inside, whole-groups) in
+      let early : k < found = omega (arith, inside, groups-within_found) in
       get_or-take size entries k 0 inside
       ∙ entry-found k early
       ∙ sym (get_or-map (slice_index values) input k 0 0
@@ -210,12 +210,12 @@ module _ {total number found : ℕ} {values input entries : List ℕ} (some : 0 
   entries-small width own fits =
       let size = groups * number in
       let first_len : length (take size entries) ≡ size =
-      length-take-le size entries (omega (arith, so_far.lanes, so_far.few, whole-groups)) in
+      length-take-le size entries (omega (arith, so_far.lanes, so_far.few, groups-within_found)) in
       recursion_from_All (λ entry. entry < 2 ^ width) (take size entries)
       (All-from_get_or (λ entry. entry < 2 ^ width) (take size entries) 0
       (λ k h.
       let inside : k < size = omega (arith, h, first_len) in
-      let early : k < found = omega (arith, inside, whole-groups) in
+      let early : k < found = omega (arith, inside, groups-within_found) in
       rw (get_or-take size entries k 0 inside, entry-found k early)
       (own (slice_index input k) (fits k) (found-symbols k early))))
 
@@ -227,7 +227,7 @@ module _ {total number found : ℕ} {values input entries : List ℕ} (some : 0 
       → take groups made ≡ map (word_of order width number)
       (first_chunks number groups (map (slice_index values) input))
   found-words width own fits order made are_made =
-      let most = few-groups found total some so_far.few in
+      let most = groups-at_most found total some so_far.few in
       are_made groups most (entries-small width own fits)
       ∙ ap (map (word_of order width number))
       (sym (groups-front number groups entries)

@@ -32,7 +32,7 @@ digits-front q (suc k) zero x few = absurd (omega (arith, few))
 digits-front q (suc k) (suc n) x few =
     ap (λ l. x % q ∷ l) (digits-front q k n (x / q) (omega (arith, few)))
 
--- are those of its lowest part
+-- the first digits of a number are the digits of its lowest part
 digits-low : (q k low high : ℕ) → 0 < q
     → digits_l q k (low + q ^ k * high) ≡ digits_l q k low
 digits-low q zero low high pos = refl
@@ -45,7 +45,7 @@ digits-low q (suc k) low high pos =
     ∷ (ap (digits_l q k) (add-mul-div_left low rest {y = q} pos)
     ∙ digits-low q k (low / q) high pos) i)
 
--- the number of the first lanes, and that of the others
+-- the number of lanes, from the first ones and the others
 number-parts : (p m : ℕ) (xs : List ℕ) → m ≤ length xs
     → number_l p xs ≡ number_l p (take m xs) + p ^ m * number_l p (drop m xs)
 number-parts p zero xs few = omega (arith, ap (λ n. n * number_l p xs) (pow-zero p))
@@ -65,7 +65,7 @@ lanes-front p q m k n xs pos few within same =
     ∙ ap (digits_l q k) (number-parts p m xs within ∙ ap (λ s. low + s * high) (sym same))
     ∙ digits-low q k low high pos
 
--- the first groups of a list are those of its front
+-- the first groups of a list are the groups of its front
 pub groups-front : (size count : ℕ) (xs : List ℕ)
     → first_chunks size count (take (count * size) xs) ≡ first_chunks size count xs
 groups-front size zero xs = refl

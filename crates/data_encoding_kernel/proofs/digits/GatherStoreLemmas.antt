@@ -59,7 +59,7 @@ abbrev pub bytes_of_words : BitOrder → ℕ → List ℕ → List ℕ
 bytes_of_words order count words =
     flat_map (λ word. map (digit order 8 count word) (range_with_len 0 count)) words
 
--- the positions of the bytes of this many words in lanes
+-- the positions of the bytes of `count` words in lanes
 abbrev places : BitOrder → ℕ → ℕ → ℕ → List ℕ
 places MostSignificantFirst size lane count =
     map (λ k. k / size * lane + (size - 1 - k % size)) (range_with_len 0 (count * size))

@@ -19,7 +19,7 @@ digits_and_plus = record {
   shared = 0 ∷ 0 ∷ 0 ∷ 0 ∷ 0 ∷ 0 ∷ 0 ∷ 0 ∷ 0 ∷ 0 ∷ 0 ∷ 62 ∷ 0 ∷ 0 ∷ 0 ∷ 0 ∷ [];
 }
 
--- the digit `5`, byte 53, in the row with the bit 8, is 5; `+`, byte 43, is 62; `A` is invalid
+-- the digit `5`, byte 53, in the row with the bit 8, is 5. `+`, byte 43, is 62. `A` is invalid
 affine_digits :
     (symbol_bit digits_and_plus 53 ≡ 8)
     × (get_or bits_of_rows 3 0 ≡ 8)
@@ -32,7 +32,7 @@ affine_digits :
 unfolding digits_and_plus
 affine_digits = (refl, refl, refl, refl, refl, refl, refl, refl)
 
--- the affine form of digits and `+` as plain data, and that of a table that has none
+-- the affine form of digits and `+` as plain data, and the plain data without a form
 abbrev plain_digits_and_plus : PlainAffine
 plain_digits_and_plus = record {
   symbols = digits_and_plus.symbols;
@@ -54,7 +54,7 @@ abbrev values_with_plus : ℕ → List ℕ
 values_with_plus plus =
     replicate 43 128 ++ plus ∷ replicate 4 128 ++ range_with_len 0 10 ++ replicate 70 128
 
--- from `9` on: 9, and at `:` anything, since no entry is found there; without a form, any table
+-- from `9` on: 9, and at `:` anything, since no entry is found there. Without a form, any table
 forms_agree :
     (form_of plain_digits_and_plus ≡ digits_and_plus)
     × (agrees_from digits_and_plus 57 (9 ∷ 7 ∷ []) ≡ true)

@@ -28,7 +28,7 @@ symbols_by_offsets :
     × (offset_symbol base64_alphabet 63 ≡ 47)
 symbols_by_offsets = (refl, refl, refl, refl, refl, refl, refl, refl, refl, refl)
 
--- the offsets as plain data, and those of a table that has none
+-- the offsets as plain data, and the plain data without offsets
 abbrev plain_base64 : PlainOffsets
 plain_base64 = record {
   last = base64_alphabet.last;
@@ -45,7 +45,7 @@ abbrev symbols_with : ℕ → List ℕ
 symbols_with final =
     range_with_len 65 26 ++ range_with_len 97 26 ++ range_with_len 48 10 ++ 43 ∷ final ∷ []
 
--- from 61 on: `9`, `+`, `/`; without offsets, any table
+-- from 61 on: `9`, `+`, `/`. Without offsets, any table
 offsets_agree :
     (alphabet_of plain_base64 ≡ base64_alphabet)
     × (sums_from base64_alphabet 61 (57 ∷ 43 ∷ 47 ∷ []) ≡ true)

@@ -1,7 +1,7 @@
 use Rattle.std.proofs.Common.{◌*◌, ◌/◌, ◌≤◌, length, refl, arith}
 use Rattle.std.proofs.Math.Nat.{mul-le-mul_right}
 use Rattle.data_encoding_kernel.proofs.decoding.ShorterRunLemmas.{run-shorter}
-use Rattle.data_encoding_kernel.proofs.decoding.SymbolRunLemmas.{few-groups, fewer-groups, run-cut}
+use Rattle.data_encoding_kernel.proofs.decoding.SymbolRunLemmas.{groups-at_most, groups-monotone, run-cut}
 use Rattle.data_encoding_meaning.proofs.lists.PartLemmas.{IsWhole-group, groups-within}
 use Rattle.data_encoding_kernel.proofs.decode.decode_eight_groups.Goals as goal
 
@@ -26,7 +26,7 @@ returns-else-at-len-clause-run g c = λ values held base reads.
     let whole = IsWhole-group g.G.GroupSize.WIDTH g.G.GroupSize.BYTES g.G.GroupSize.SYMBOLS
     g.G.GroupSize.is_group in
     let most : read / symbols ≤ turns * 8 =
-    few-groups read (turns * 8) whole.some_symbols c.decode_turns-at.ensures.within in
+    groups-at_most read (turns * 8) whole.some_symbols c.decode_turns-at.ensures.within in
     let room : read / symbols * bytes ≤ length output =
     omega (
       arith,
@@ -35,7 +35,7 @@ returns-else-at-len-clause-run g c = λ values held base reads.
       c.decode_turns-at.auto.output,
     ) in
     let few : len / symbols ≤ read / symbols =
-    fewer-groups len read refl whole.some_symbols c.if-at-len.false in
+    groups-monotone len read refl whole.some_symbols c.if-at-len.false in
     run-cut base reads.holds.is_width g.G.GroupSize.WIDTH bytes symbols g.G.GroupSize.is_group
     reads.width_is c.args.input.now c.args.output.now output (len / symbols) len
     (omega (arith, groups-within len symbols))

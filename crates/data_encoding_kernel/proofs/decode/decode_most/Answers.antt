@@ -1,7 +1,7 @@
 use Rattle.std.proofs.Common.{◌≡◌, length, length-take-le, refl, take, sym, ap, ◌∙◌, arith}
 use Rattle.std.proofs.lemmas.List.{get_or-take}
 use Rattle.data_encoding_meaning.specs.text.Base.{group_symbols}
-use Rattle.data_encoding_kernel.proofs.decoding.SymbolRunLemmas.{fewer-groups, run-ends}
+use Rattle.data_encoding_kernel.proofs.decoding.SymbolRunLemmas.{groups-monotone, longest-at_byte}
 use Rattle.data_encoding_meaning.proofs.digits.SizeLemmas.{IsGroup-same}
 use Rattle.data_encoding_meaning.proofs.lists.PartLemmas.{IsWhole-same}
 use Rattle.data_encoding_meaning.proofs.digits.WidthLemmas.{group_symbols-few}
@@ -23,7 +23,7 @@ returns-then-entry_of-ge128-clause-longest g c = λ ended base reads.
     g.G.GroupSize.is_group in
     let byte = get_or-take c.args.len c.args.input.now at 0
     (omega (arith, c.decode_simd-at.ensures.within, c.if-at-len.false)) in
-    run-ends base reads.holds.is_width g.G.GroupSize.WIDTH g.G.GroupSize.BYTES
+    longest-at_byte base reads.holds.is_width g.G.GroupSize.WIDTH g.G.GroupSize.BYTES
     c.SYMBOLS.result group reads.width_is c.args.values.now
     (take c.args.len c.args.input.now) at whole.some_symbols reads.holds
     (rw byte ((c.type_inv.input at).fits))
@@ -51,7 +51,7 @@ returns-then-entry_of-ge128-clause-run g c = rw c.SYMBOLS.ensures c.decode_simd-
 pub returns-then-entry_of-ge128-clause-within : goal.returns-then-entry_of-ge128-clause-within
 returns-then-entry_of-ge128-clause-within g c =
     let whole = IsWhole-same refl c.SYMBOLS.ensures g.G.GroupSize.is_group in
-    fewer-groups c.decode_simd-at.result c.args.len c.SYMBOLS.ensures
+    groups-monotone c.decode_simd-at.result c.args.len c.SYMBOLS.ensures
     (omega (arith, whole.some_symbols, c.SYMBOLS.ensures)) c.decode_simd-at.ensures.within
 
 pub returns-clause-run : goal.returns-clause-run
@@ -60,5 +60,5 @@ returns-clause-run g c = rw c.SYMBOLS.ensures c.decode_simd-at.ensures.run
 pub returns-clause-within : goal.returns-clause-within
 returns-clause-within g c =
     let whole = IsWhole-same refl c.SYMBOLS.ensures g.G.GroupSize.is_group in
-    fewer-groups c.decode_simd-at.result c.args.len c.SYMBOLS.ensures
+    groups-monotone c.decode_simd-at.result c.args.len c.SYMBOLS.ensures
     (omega (arith, whole.some_symbols, c.SYMBOLS.ensures)) c.decode_simd-at.ensures.within

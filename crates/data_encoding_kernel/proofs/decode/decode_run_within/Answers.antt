@@ -2,7 +2,7 @@ use Rattle.std.proofs.Common.{◌≡◌, ℕ, List, ◌+◌, ◌*◌, ◌/◌, �
 use Rattle.data_encoding_meaning.proofs.decoding.GroupJudgementLemmas.{part_bytes}
 use Rattle.std.proofs.Math.Nat.{mul-le-mul_right}
 use Rattle.data_encoding_meaning.proofs.digits.SizeLemmas.{IsGroup-same}
-use Rattle.data_encoding_kernel.proofs.decoding.SymbolRunLemmas.{group-next, run-all, run-kept, run-longest}
+use Rattle.data_encoding_kernel.proofs.decoding.SymbolRunLemmas.{group-next, longest-all, run-kept, longest-at_group}
 use Rattle.data_encoding_meaning.proofs.lists.PartLemmas.{IsWhole-same, group-before, group-room, groups-within, length-part}
 use Rattle.data_encoding_kernel.proofs.decode.decode_run_within.Goals as goal
 
@@ -90,7 +90,7 @@ pub returns-then-not-decode_symbols-clause-longest :
 returns-then-not-decode_symbols-clause-longest g c = λ base reads.
     let group = IsGroup-same refl c.BYTES-bytes.ensures c.SYMBOLS-symbols.ensures
     g.G.GroupSize.is_group in
-    run-longest base reads.holds.is_width g.G.GroupSize.WIDTH c.BYTES-bytes.result
+    longest-at_group base reads.holds.is_width g.G.GroupSize.WIDTH c.BYTES-bytes.result
     c.SYMBOLS-symbols.result group reads.width_is
     c.args.values.now (take c.args.len c.args.input.now) c.loop-index.index _ refl reads.holds
     (part_bytes c.args.input.now (λ j. (c.type_inv.input j).fits) c.args.len)
@@ -151,7 +151,7 @@ pub returns-clause-longest : goal.returns-clause-longest
 returns-clause-longest g c = λ base reads.
     let group = IsGroup-same refl c.BYTES-bytes.ensures c.SYMBOLS-symbols.ensures
     g.G.GroupSize.is_group in
-    run-all base reads.holds.is_width g.G.GroupSize.WIDTH c.BYTES-bytes.result
+    longest-all base reads.holds.is_width g.G.GroupSize.WIDTH c.BYTES-bytes.result
     c.SYMBOLS-symbols.result group reads.width_is (take c.args.len c.args.input.now) c.args.len
     (length-take-le c.args.len c.args.input.now c.requires.few)
 

@@ -1,19 +1,19 @@
 use Rattle.std.proofs.Common.{◌≡◌, ℕ, List, ◌+◌, ◌-◌, ◌*◌, ◌/◌, ◌<◌, ◌≤◌, length, length-take-le, refl, take, drop, sym, ap, ◌∙◌, subst, arith}
 use Rattle.data_encoding_kernel.specs.Runs.{IsRun}
-use Rattle.data_encoding_kernel.proofs.decoding.SymbolRunLemmas.{fewer-groups, groups-room, room-left, run-after, within-left}
+use Rattle.data_encoding_kernel.proofs.decoding.SymbolRunLemmas.{groups-monotone, groups-room, room-left, run-after, within-left}
 use Rattle.std.proofs.Math.Nat.{le-mul_of_pos_right, mod-lt, mul-div_cancel, mul-le-mul_right}
 use Rattle.std.proofs.lemmas.Nat.{div-add-mod'}
 use Rattle.data_encoding_meaning.proofs.digits.SizeLemmas.{IsGroup-same, IsSmall-group}
 use Rattle.data_encoding_meaning.proofs.lists.PartLemmas.{IsWhole-group, groups-within}
 use Rattle.data_encoding_kernel.proofs.decode.decode_simd.Goals as goal
 
--- as many groups as a part has symbols for are within the part
+-- the groups before a position are within the part
 groups-within-part : {s symbols : ℕ} (at len : ℕ) (input : List ℕ) → symbols ≡ s → 0 < s
     → at ≤ len → len ≤ length input → at / symbols ≤ length (take len input) / s
 groups-within-part at len input same some few within =
-    rw (length-take-le len input within) (fewer-groups at len same some few)
+    rw (length-take-le len input within) (groups-monotone at len same some few)
 
--- and what is left of the output has room for what is left of the part
+-- and the rest of the output has room for the rest of the part
 part-left : {b s bytes symbols m : ℕ} (at len : ℕ) (input output : List ℕ) → bytes ≡ b
     → symbols ≡ s → 0 < s → at ≤ len → len ≤ length input → len / s * b ≤ m → length output ≡ m
     → length (take (length (take len input) - at / symbols * symbols)
@@ -31,7 +31,7 @@ slice_bounds-decode_sixteen_symbols-count-2 g c =
     let whole = IsWhole-group g.G.GroupSize.WIDTH g.G.GroupSize.BYTES g.G.GroupSize.SYMBOLS
     g.G.GroupSize.is_group in
     let at = c.decode_eight_groups-at.result in
-    let within = fewer-groups at c.args.len c.SYMBOLS-symbols.ensures whole.some_symbols
+    let within = groups-monotone at c.args.len c.SYMBOLS-symbols.ensures whole.some_symbols
     c.decode_eight_groups-at.ensures.within in
     groups-room _ (at / c.SYMBOLS-symbols.result) _ c.BYTES-bytes.ensures within
     (omega (arith, c.requires.room, c.decode_eight_groups-at.auto.output))
@@ -57,7 +57,7 @@ returns-clause-run g c = λ base reads.
     let part = take c.args.len c.args.input.now in
     let at = c.decode_eight_groups-at.result in
     let first = at / c.SYMBOLS-symbols.result in
-    let within = fewer-groups at c.args.len c.SYMBOLS-symbols.ensures whole.some_symbols
+    let within = groups-monotone at c.args.len c.SYMBOLS-symbols.ensures whole.some_symbols
     c.decode_eight_groups-at.ensures.within in
     let output = c.decode_eight_groups-at.new.output in
     let left = part-left at c.args.len c.args.input.now output c.BYTES-bytes.ensures
@@ -112,7 +112,7 @@ overflow_mul-written g c =
     let whole = IsWhole-group g.G.GroupSize.WIDTH g.G.GroupSize.BYTES g.G.GroupSize.SYMBOLS
     g.G.GroupSize.is_group in
     let at = c.decode_eight_groups-at.result in
-    let within = fewer-groups at c.args.len c.SYMBOLS-symbols.ensures whole.some_symbols
+    let within = groups-monotone at c.args.len c.SYMBOLS-symbols.ensures whole.some_symbols
     c.decode_eight_groups-at.ensures.within in
     let room = groups-room _ (at / c.SYMBOLS-symbols.result) (length c.args.output.now)
     c.BYTES-bytes.ensures within c.requires.room in

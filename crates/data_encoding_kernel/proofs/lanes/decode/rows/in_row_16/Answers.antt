@@ -2,7 +2,7 @@ use Rattle.std.proofs.Common.{bit_and, replicate, w8, ap, sym, ◌∙◌}
 use Rattle.std.proofs.lemmas.List.{append-nil}
 use Rattle.std.proofs.lemmas.Simd.{swz_l}
 use Rattle.std.specs.Simd.Lanes.{zip2}
-use Rattle.data_encoding_kernel.proofs.digits.GatherRowLemmas.{looked-up, places-ok}
+use Rattle.data_encoding_kernel.proofs.digits.GatherRowLemmas.{row-looked_up, places-ok}
 use Rattle.data_encoding_kernel.proofs.lanes.decode.rows.in_row_16.Goals as goal
 
 pub swizzle : goal.swizzle
@@ -12,4 +12,4 @@ pub returns : goal.returns
 returns c = λ values start is_row.
     ap (λ l. swz_l w8 16 l 0 (zip2 bit_and c.args.bytes (replicate 16 15)))
     (sym (append-nil c.args.row))
-    ∙ looked-up 1 values c.args.row c.args.bytes start c.fits-row.0 c.fits-bytes.0 is_row
+    ∙ row-looked_up 1 values c.args.row c.args.bytes start c.fits-row.0 c.fits-bytes.0 is_row

@@ -2,7 +2,7 @@ use Rattle.std.proofs.Common.{map, ap, sym, ◌∙◌, arith, refl}
 use Rattle.std.specs.Prelude.{flat_map}
 use Rattle.data_encoding_kernel.specs.Lanes.{digits_of, group_words, spread_word}
 use Rattle.data_encoding_kernel.proofs.digits.GroupWordLemmas.{words-below}
-use Rattle.data_encoding_kernel.proofs.digits.JoinLemmas.{held}
+use Rattle.data_encoding_kernel.proofs.digits.JoinLemmas.{digits-of_joined}
 use Rattle.data_encoding_kernel.proofs.lanes.encode.digits.five_bit_digits.Goals as goal
 use Rattle.data_encoding_kernel.proofs.lanes.encode.digits.five_bit_digits.Goals.{in-MostSignificantFirst, in-LeastSignificantFirst}
 
@@ -14,7 +14,7 @@ pub returns : goal.returns
 returns c =
     let order = c.args.order in
     let input = c.args.input.now in
-    held order 5 8 5 input (λ ws. ws) (λ a b c d e f g h. refl)
+    digits-of_joined order 5 8 5 input (λ ws. ws) (λ a b c d e f g h. refl)
     (elim c.match-order.branch [
       | in-MostSignificantFirst w ↦
           w.result-is ∙ w.five_bit_digits_of_eight.ensures

@@ -4,7 +4,7 @@ use Rattle.std.specs.Simd.Lanes.{pick_l}
 use Rattle.data_encoding_meaning.specs.declared.encoding.BitOrder.{BitOrder}
 use Rattle.data_encoding_kernel.specs.Lanes.{digits_of, group_word, group_words, spread_word}
 use Rattle.data_encoding_kernel.proofs.digits.GroupWordLemmas.{word-below}
-use Rattle.data_encoding_kernel.proofs.digits.JoinLemmas.{held-first}
+use Rattle.data_encoding_kernel.proofs.digits.JoinLemmas.{first_digits-of_joined}
 use Rattle.data_encoding_kernel.proofs.lanes.encode.digits.octal_digits_of_four.Goals as goal
 
 -- the words, repeated to eight
@@ -34,7 +34,7 @@ returns c =
     let input = c.args.input.now in
     let word = group_word order 3 input in
     let words = group_words order 3 4 input in
-    held-first order 3 8 4 3 input (eight words)
+    first_digits-of_joined order 3 8 4 3 input (eight words)
     (first order (word 0) (word 1) (word 2) (word 3))
     (c.join_eights.ensures 3 (eight words) (omega arith)
     (c.spread_three_bits.ensures

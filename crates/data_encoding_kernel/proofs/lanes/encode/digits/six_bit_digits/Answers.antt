@@ -3,7 +3,7 @@ use Rattle.std.specs.Prelude.{flat_map}
 use Rattle.std.specs.Simd.Lanes.{pick_l}
 use Rattle.data_encoding_kernel.specs.Lanes.{digits_of, group_words, spread_word}
 use Rattle.data_encoding_kernel.proofs.digits.GroupWordLemmas.{words-below}
-use Rattle.data_encoding_kernel.proofs.digits.JoinLemmas.{from_first, held}
+use Rattle.data_encoding_kernel.proofs.digits.JoinLemmas.{from_first, digits-of_joined}
 use Rattle.data_encoding_kernel.proofs.lanes.encode.digits.six_bit_digits.Goals as goal
 use Rattle.data_encoding_kernel.proofs.lanes.encode.digits.six_bit_digits.Goals.{in-MostSignificantFirst, in-LeastSignificantFirst}
 
@@ -16,7 +16,7 @@ returns c =
     let order = c.args.order in
     let input = c.args.input.now in
     let words = group_words order 3 8 input in
-    held order 6 4 3 input (λ ws. ws ++ ws) (λ a b c d e f g h. refl)
+    digits-of_joined order 6 4 3 input (λ ws. ws ++ ws) (λ a b c d e f g h. refl)
     (elim c.match-order.branch [
       | in-MostSignificantFirst w ↦
           w.result-is
