@@ -1,4 +1,4 @@
--- Runs: consecutive whole groups in which each byte is a symbol.
+-- Runs: consecutive whole groups of symbols only.
 use Rattle.std.specs.Prelude.{◌≡◌, ℕ, ◌+◌, ◌*◌, ◌/◌, ◌<◌, ◌≤◌, true, false, List, length, take, slice_index}
 use Rattle.data_encoding_meaning.specs.declared.encoding.BitOrder.{BitOrder}
 use Rattle.data_encoding_meaning.specs.text.Base.{Base, meaning, is_symbol, group_bytes, group_symbols}

@@ -3,11 +3,13 @@
 ghost use Rattle.std.specs.Prelude.{◌≡◌, ℕ, ◌*◌, ◌/◌, ◌<◌, ◌≤◌, List, length, take, IsTrue};
 ghost use Rattle.data_encoding_kernel.specs.Runs.{IsLongestBy, IsRunBy};
 
+mod turn;
+
+use crate::decode::turn::{DecodeEight, DecodeSixteen, DecodeTurn};
 use crate::group_size::GroupSize;
-use crate::lanes::look_up::LookUp;
+use crate::lanes::decode::look_up::LookUp;
 use crate::order::ConstantOrder;
 use crate::platform::has_lanes;
-use crate::turn::{DecodeTurn, EightGroups, SixteenSymbols};
 use crate::words::{decode_symbols, entry_of};
 use data_encoding_meaning::encoding::BitOrder;
 
@@ -57,7 +59,7 @@ pub fn decode_run_within<L: LookUp, O: ConstantOrder, G: GroupSize>(
     let bytes = G::BYTES;
     let part = &input[..len];
     let count = len / symbols;
-    let (first, is_longest) = decode_by_several::<L, O, G>(values, look_up, input, len, output);
+    let (first, is_longest) = decode_most::<L, O, G>(values, look_up, input, len, output);
     if is_longest {
         return first;
     }
@@ -76,10 +78,12 @@ pub fn decode_run_within<L: LookUp, O: ConstantOrder, G: GroupSize>(
     count
 }
 
-// By eight groups in lanes if the input has as many, or else in shorter turns. Also returns whether
-// the next group is known to have a byte that is no symbol.
+/// Decodes all but the last groups of a run, and returns their number.
+///
+/// Takes iterations of eight groups if `input` has enough bytes, and shorter ones otherwise. Also
+/// returns `true` if the run is known to end there.
 #[inline(always)]
-fn decode_by_several<L: LookUp, O: ConstantOrder, G: GroupSize>(
+fn decode_most<L: LookUp, O: ConstantOrder, G: GroupSize>(
     values: &[u8; 256],
     look_up: &L,
     input: &[u8],
@@ -101,11 +105,11 @@ fn decode_by_several<L: LookUp, O: ConstantOrder, G: GroupSize>(
     }
     let eight = 8 * G::SYMBOLS;
     if input.len() < eight {
-        let first = decode_by_few::<L, O, G>(values, look_up, &input[..len], output);
+        let first = decode_sixteen_symbols::<L, O, G>(values, look_up, &input[..len], output);
         return (first, false);
     }
     let count = count_turns::<G>(input.len(), len, output.len());
-    let at = decode_by_lanes::<L, O, G>(values, look_up, count, input, len, output);
+    let at = decode_simd::<L, O, G>(values, look_up, count, input, len, output);
     let first = at / G::SYMBOLS;
     if at == len {
         return (first, true);
@@ -116,10 +120,11 @@ fn decode_by_several<L: LookUp, O: ConstantOrder, G: GroupSize>(
     (first, false)
 }
 
-// Decodes 16 symbols per iteration. Skips the attempt if the 16th byte is padding or another byte
-// that is not a symbol.
+/// Decodes 16 symbols per iteration, and returns the number of groups.
+///
+/// Decodes nothing if the 16th byte is padding or another byte that is not a symbol.
 #[inline(always)]
-fn decode_by_few<L: LookUp, O: ConstantOrder, G: GroupSize>(
+fn decode_sixteen_symbols<L: LookUp, O: ConstantOrder, G: GroupSize>(
     values: &[u8; 256],
     look_up: &L,
     input: &[u8],
@@ -133,19 +138,20 @@ fn decode_by_few<L: LookUp, O: ConstantOrder, G: GroupSize>(
     if input.len() < 16 || entry_of(values, input[15]) >= 128 {
         return 0;
     }
-    decode_whole_turns::<SixteenSymbols<L>, G>(
-        &SixteenSymbols { look_up: *look_up },
+    decode_whole_turns::<DecodeSixteen<L>, G>(
+        &DecodeSixteen { look_up: *look_up },
         O::ORDER,
         input,
         output,
     )
 }
 
-// By as many turns of eight groups, and then by those of sixteen symbols. Returns how many bytes
-// were read; the whole groups among them are decoded.
+/// Decodes with SIMD: `count` iterations of eight groups, and then 16 symbols per iteration.
+///
+/// Returns the number of bytes read. The whole groups among them are decoded.
 // Not inlined, so that shorter texts do not pay for the stack that lanes take.
 #[inline(never)]
-fn decode_by_lanes<L: LookUp, O: ConstantOrder, G: GroupSize>(
+fn decode_simd<L: LookUp, O: ConstantOrder, G: GroupSize>(
     values: &[u8; 256],
     look_up: &L,
     count: usize,
@@ -164,11 +170,12 @@ fn decode_by_lanes<L: LookUp, O: ConstantOrder, G: GroupSize>(
 {
     let symbols = G::SYMBOLS;
     let bytes = G::BYTES;
-    let at = decode_by_eights::<L, O, G>(look_up, count, input, len, output);
+    let at = decode_eight_groups::<L, O, G>(look_up, count, input, len, output);
     let first = at / symbols;
     let read = first * symbols;
     let left = len - read;
-    // Eight groups are left only if they were refused. Fewer than sixteen symbols make no turn.
+    // Eight groups are left only if one of them has a byte that is not a symbol. Fewer than sixteen
+    // symbols are too few for an iteration.
     if left >= 8 * symbols || left < 16 {
         return at;
     }
@@ -177,14 +184,21 @@ fn decode_by_lanes<L: LookUp, O: ConstantOrder, G: GroupSize>(
     }
     let part = &input[..len];
     let written = first * bytes;
-    let further = decode_by_few::<L, O, G>(values, look_up, &part[read..], &mut output[written..]);
-    (first + further) * symbols
+    let more = decode_sixteen_symbols::<L, O, G>(
+        values,
+        look_up,
+        &part[read..],
+        &mut output[written..],
+    );
+    (first + more) * symbols
 }
 
-// By as many turns of eight groups, up to `len` or to the first byte that is not a symbol. Returns
-// how many bytes were read; the whole groups among them are decoded.
+/// Decodes eight groups per iteration, up to `len` or to the first byte that is not a symbol.
+///
+/// Takes at most `count` iterations. Returns the number of bytes read. The whole groups among them
+/// are decoded.
 #[inline(always)]
-fn decode_by_eights<L: LookUp, O: ConstantOrder, G: GroupSize>(
+fn decode_eight_groups<L: LookUp, O: ConstantOrder, G: GroupSize>(
     look_up: &L,
     count: usize,
     input: &[u8],
@@ -199,13 +213,15 @@ fn decode_by_eights<L: LookUp, O: ConstantOrder, G: GroupSize>(
         output.new }
     ensures within { result ≤ len }
 {
-    let lanes = EightGroups { look_up: *look_up };
-    let at = decode_turns::<EightGroups<L>, G>(&lanes, O::ORDER, count, input, output);
+    let lanes = DecodeEight { look_up: *look_up };
+    let at = decode_turns::<DecodeEight<L>, G>(&lanes, O::ORDER, count, input, output);
     if at < len { at } else { len }
 }
 
-// How many turns of eight groups start before `len`, if the input and the output have them whole.
-// Only the last can pass `len`. The output has room for the groups before.
+/// Returns the number of iterations of eight groups that start before `len`, and that the input and
+/// the output have room for.
+///
+/// Only the last of them can pass `len`.
 #[inline(always)]
 fn count_turns<G: GroupSize>(input_len: usize, len: usize, output_len: usize) -> usize
     requires few { len ≤ input_len }
@@ -231,10 +247,10 @@ fn count_turns<G: GroupSize>(input_len: usize, len: usize, output_len: usize) ->
 ///
 /// Also stops where the input or the output is too short for an iteration. The whole groups among
 /// the bytes read are decoded. The output after their bytes is unspecified.
-// Inlined, so that the look-up stays in registers from line to line: a call for each takes 1.3
-// times the instructions.
+// Inlined, so that the look-up stays in registers from line to line. A call for each line costs
+// 30 % more instructions.
 #[inline(always)]
-pub fn decode_by_turns<L: LookUp, O: ConstantOrder, G: GroupSize>(
+pub fn decode_iterations<L: LookUp, O: ConstantOrder, G: GroupSize>(
     look_up: &L,
     input: &[u8],
     len: usize,
@@ -248,10 +264,10 @@ pub fn decode_by_turns<L: LookUp, O: ConstantOrder, G: GroupSize>(
     ensures within { result ≤ len }
 {
     let count = count_turns::<G>(input.len(), len, output.len());
-    decode_by_eights::<L, O, G>(look_up, count, input, len, output)
+    decode_eight_groups::<L, O, G>(look_up, count, input, len, output)
 }
 
-// Decodes as many turns as the input has, and returns the number of groups that are decoded.
+/// Decodes the whole iterations of `input`, and returns the number of groups.
 #[inline(always)]
 fn decode_whole_turns<T: DecodeTurn<G>, G: GroupSize>(
     turn: &T,
@@ -269,8 +285,9 @@ fn decode_whole_turns<T: DecodeTurn<G>, G: GroupSize>(
     decode_turns::<T, G>(turn, order, count, input, output) / G::SYMBOLS
 }
 
-// Decodes one turn after another, up to the first with a byte that is refused. Returns how many
-// bytes were read; the whole groups among them are decoded.
+/// Decodes `count` iterations, up to the first byte that is not a symbol.
+///
+/// Returns the number of bytes read. The whole groups among them are decoded.
 #[inline(always)]
 fn decode_turns<T: DecodeTurn<G>, G: GroupSize>(
     turn: &T,

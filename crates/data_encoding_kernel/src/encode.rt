@@ -5,8 +5,8 @@ ghost use Rattle.data_encoding_kernel.specs.OffsetAlphabet.{has_sums};
 ghost use Rattle.data_encoding_kernel.specs.Tables.{IsTextBy};
 
 use crate::group_size::GroupSize;
+use crate::lanes::encode::offset_alphabet::OffsetAlphabet;
 use crate::lanes::encode::{SymbolLookUp, SymbolRows, encode_eight, encode_few};
-use crate::lanes::offset_alphabet::OffsetAlphabet;
 use crate::order::{ConstantOrder, LeastSignificantFirst, MostSignificantFirst};
 use crate::platform::has_lanes;
 use crate::symbol_table::SymbolTable;
@@ -37,7 +37,9 @@ pub fn encode_plain<G: GroupSize>(
     }
 }
 
-// The order is a constant from here on, so that each digit is at a known bit of its word.
+/// Writes the symbols of `input`, with the bit order as a constant.
+///
+/// Each digit is then at a known bit of its word.
 #[inline(always)]
 fn encode_by_order<O: ConstantOrder, G: GroupSize>(
     table: &SymbolTable,
@@ -51,23 +53,23 @@ fn encode_by_order<O: ConstantOrder, G: GroupSize>(
 {
     let symbols = &table.entries;
     if !has_lanes() {
-        return encode_turns::<OneGroup, O, G>(&OneGroup, symbols, input, output);
+        return encode_turns::<EncodeOne, O, G>(&EncodeOne, symbols, input, output);
     }
-    // The rest of longer data is encoded by this call too.
+    // The rest of longer data is encoded by the same function.
     if input.len() < 10 * G::BYTES - 2 {
         return encode_short::<O, G>(symbols, input, output);
     }
     if G::WIDTH == 6 {
         if let Some(look_up) = table.offsets() {
-            let turn = EightGroups { look_up };
-            return encode_turns::<EightGroups<OffsetAlphabet>, O, G>(&turn, symbols, input, output);
+            let turn = EncodeEight { look_up };
+            return encode_turns::<EncodeEight<OffsetAlphabet>, O, G>(&turn, symbols, input, output);
         }
     }
-    encode_turns::<EightGroups<SymbolRows>, O, G>(&BY_ROWS, symbols, input, output);
+    encode_turns::<EncodeEight<SymbolRows>, O, G>(&BY_ROWS, symbols, input, output);
 }
 
-// What is less than eight groups load. Not inlined, so that the loop over eight groups, which takes
-// most of the time, is small.
+/// Encodes fewer bytes than an iteration of eight groups loads.
+// Not inlined, so that the loop over eight groups is small. It takes most of the time.
 #[inline(never)]
 fn encode_short<O: ConstantOrder, G: GroupSize>(
     symbols: &[u8; 256],
@@ -78,15 +80,16 @@ fn encode_short<O: ConstantOrder, G: GroupSize>(
     requires exact { length output.old ≡ (8 * length input.now + (G.WIDTH - 1)) / G.WIDTH }
     ensures { IsTextBy symbols.now G.WIDTH O.ORDER input.now output.new }
 {
-    // One by one, groups of several bytes take longer.
+    // Single groups of several bytes take longer.
     if G::BYTES > 1 && input.len() >= 16 {
-        encode_turns::<FewGroups, O, G>(&FewGroups, symbols, input, output);
+        encode_turns::<EncodeFew, O, G>(&EncodeFew, symbols, input, output);
     } else {
-        encode_turns::<OneGroup, O, G>(&OneGroup, symbols, input, output);
+        encode_turns::<EncodeOne, O, G>(&EncodeOne, symbols, input, output);
     }
 }
 
-// Encodes turn by turn, while the input has as many bytes as a turn loads, and then the rest.
+/// Encodes one iteration after another, while the input has the bytes that it loads, and then the
+/// rest.
 #[inline(always)]
 fn encode_turns<T: EncodeTurn<G>, O: ConstantOrder, G: GroupSize>(
     turn: &T,
@@ -123,20 +126,22 @@ fn encode_turns<T: EncodeTurn<G>, O: ConstantOrder, G: GroupSize>(
     );
 }
 
-/// A way to encode a fixed number of whole groups in each turn of a loop, and then the rest.
+/// A way to encode a fixed number of whole groups per iteration, and then the rest.
 trait EncodeTurn<G: GroupSize> {
     ghost GROUPS: { ℕ };
 
     ghost AHEAD: { ℕ };
 
-    // Whether a turn encodes by a table of symbols.
+    // States that an iteration encodes by a table of symbols.
     ghost holds: { List ℕ → Self → Type 0 };
 
+    /// The number of groups.
     const GROUPS: usize;
 
-    // How many bytes a turn also loads after its groups.
+    /// The number of bytes that an iteration loads after its groups.
     const AHEAD: usize;
 
+    /// Encodes the groups of one iteration.
     fn encode<O: ConstantOrder>(&self, symbols: &[u8; 256], input: &[u8], output: &mut [u8])
         requires held { holds symbols.now self.now }
         requires loaded { length input.now ≡ GROUPS * G.BYTES + AHEAD }
@@ -144,7 +149,7 @@ trait EncodeTurn<G: GroupSize> {
         ensures { IsTextBy symbols.now G.WIDTH O.ORDER (take (GROUPS * G.BYTES) input.now)
             output.new };
 
-    // Encodes the rest after the last turn: fewer bytes than a turn loads.
+    /// Encodes the rest after the last iteration: fewer bytes than an iteration loads.
     fn encode_rest<O: ConstantOrder>(symbols: &[u8; 256], input: &[u8], output: &mut [u8])
         requires few { length input.now < GROUPS * G.BYTES + AHEAD }
         requires limit { length input.now ≤ ENCODE_LIMIT }
@@ -152,17 +157,19 @@ trait EncodeTurn<G: GroupSize> {
         ensures { IsTextBy symbols.now G.WIDTH O.ORDER input.now output.new };
 }
 
-/// Eight groups in lanes.
+/// Encodes eight groups with SIMD.
 #[derive(Clone, Copy, Drop)]
-struct EightGroups<S> {
+struct EncodeEight<S> {
+    /// The look-up of symbols.
     look_up: S,
 }
 
-const BY_ROWS: EightGroups<SymbolRows> = EightGroups {
+/// Encodes eight groups, with the look-up in rows.
+const BY_ROWS: EncodeEight<SymbolRows> = EncodeEight {
     look_up: SymbolRows,
 };
 
-impl<S: SymbolLookUp, G: GroupSize> EncodeTurn<G> for EightGroups<S> {
+impl<S: SymbolLookUp, G: GroupSize> EncodeTurn<G> for EncodeEight<S> {
     ghost GROUPS = { 8 };
 
     ghost AHEAD = { 2 * (G.BYTES - 1) };
@@ -184,10 +191,10 @@ impl<S: SymbolLookUp, G: GroupSize> EncodeTurn<G> for EightGroups<S> {
     }
 }
 
-/// Four groups of three bytes, or two of five, in lanes. Sixteen bytes are loaded.
-struct FewGroups;
+/// Encodes four groups of three bytes, or two groups of five, with SIMD. Loads sixteen bytes.
+struct EncodeFew;
 
-impl<G: GroupSize> EncodeTurn<G> for FewGroups {
+impl<G: GroupSize> EncodeTurn<G> for EncodeFew {
     ghost GROUPS = { 12 / G.BYTES };
 
     ghost AHEAD = { 16 - 12 / G.BYTES * G.BYTES };
@@ -205,14 +212,14 @@ impl<G: GroupSize> EncodeTurn<G> for FewGroups {
 
     #[inline(always)]
     fn encode_rest<O: ConstantOrder>(symbols: &[u8; 256], input: &[u8], output: &mut [u8]) {
-        encode_turns::<OneGroup, O, G>(&OneGroup, symbols, input, output);
+        encode_turns::<EncodeOne, O, G>(&EncodeOne, symbols, input, output);
     }
 }
 
-/// One group as a word.
-struct OneGroup;
+/// Encodes one group as a word.
+struct EncodeOne;
 
-impl<G: GroupSize> EncodeTurn<G> for OneGroup {
+impl<G: GroupSize> EncodeTurn<G> for EncodeOne {
     ghost GROUPS = { 1 };
 
     ghost AHEAD = { 0 };

@@ -11,8 +11,8 @@ ghost use Rattle.data_encoding_kernel.specs.Tables.{HoldsValues};
 mod moves;
 
 use crate::ignore::moves::moves;
-use crate::lanes::affine::bits;
-use crate::lanes::rows::in_row_16;
+use crate::lanes::decode::affine::bits;
+use crate::lanes::decode::rows::in_row_16;
 use std::simd::prelude::*;
 
 /// The set of ignored bytes.
@@ -22,7 +22,7 @@ pub struct IgnoredBytes {
     pub rows: u8x16,
 }
 
-// The entry of bytes that are ignored.
+/// The entry of an ignored byte.
 const IGNORED: u8 = 129;
 
 impl IgnoredBytes {
@@ -52,7 +52,7 @@ impl IgnoredBytes {
     }
 }
 
-// The bits of one row more, before those of the rows after it.
+/// Returns `rows` moved up by a bit, with the ignored bytes of one more row as the lowest bit.
 #[inline(always)]
 fn with_row(entries: u8x16, rows: u8x16) -> u8x16
     ensures { (entry : ℕ → ℕ) → (flags : ℕ → List Bool) → ((k : ℕ) → mask_l (flags k) < 128)
@@ -64,7 +64,7 @@ fn with_row(entries: u8x16, rows: u8x16) -> u8x16
     (rows + rows) + are_ignored.select(u8x16::splat(1), u8x16::splat(0))
 }
 
-// The mask of the lanes whose byte is not ignored.
+/// Returns the mask of the lanes with a byte that is not ignored.
 #[inline(always)]
 fn kept_mask(ignored: &IgnoredBytes, bytes: u8x16) -> u64
     ensures { result ≡ mask_l (map (λ byte. ignored_bit ignored.now byte == 0) bytes) }
@@ -74,7 +74,8 @@ fn kept_mask(ignored: &IgnoredBytes, bytes: u8x16) -> u64
     (rows & row_bits).simd_eq(u8x16::splat(0)).to_bitmask()
 }
 
-// Packs the lanes selected by `mask` and returns their number. Always stores eight bytes.
+/// Packs the lanes that `mask` selects of the first eight, and returns their number. Always stores
+/// eight bytes.
 #[inline(always)]
 fn pack_eight(mask: u64, bytes: u8x16, room: &mut [u8]) -> usize
     requires mask { mask < 256 }
@@ -91,7 +92,8 @@ fn pack_eight(mask: u64, bytes: u8x16, room: &mut [u8]) -> usize
     mask.count_ones() as usize
 }
 
-// The same of sixteen lanes. If all are selected, they are stored as they are.
+/// Packs the lanes that `mask` selects of sixteen, and returns their number. Always stores sixteen
+/// bytes.
 #[inline(always)]
 fn pack_sixteen(mask: u64, bytes: u8x16, room: &mut [u8]) -> usize
     requires mask { mask < 2 ^ 16 }
@@ -109,8 +111,9 @@ fn pack_sixteen(mask: u64, bytes: u8x16, room: &mut [u8]) -> usize
     count + pack_eight(mask >> 8, others, &mut room[count..count + 8])
 }
 
-// Packs those of sixteen bytes that are not ignored, from this lane on, after the first `start`
-// bytes of the room. Returns how many bytes of the room are packed then.
+/// Packs the bytes that are not ignored, from lane `first` on, to `room` from index `start` on.
+///
+/// Returns the number of packed bytes in `room`.
 #[inline(always)]
 fn pack_more(
     ignored: &IgnoredBytes,
@@ -130,7 +133,7 @@ fn pack_more(
     start + pack_sixteen(mask, bytes, &mut room[start..start + 16])
 }
 
-// The last sixteen bytes of a part. If it has fewer, they come last.
+/// Returns the last sixteen bytes of `part`. If it has fewer, they are in the last lanes.
 #[inline(always)]
 fn last_sixteen(part: &[u8]) -> u8x16
     ensures { (rest : ℕ) → rest ≤ 16 → rest ≤ length part.now
@@ -145,8 +148,9 @@ fn last_sixteen(part: &[u8]) -> u8x16
     u8x16::from_array(lanes)
 }
 
-/// Packs the bytes of `part` that are not ignored, in order, to the start of `room`, while it has
-/// space for sixteen more. Returns how many bytes were read, and how many are packed.
+/// Packs the bytes of `part` that are not ignored, in order, to the start of `room`.
+///
+/// Stops where `room` has no space for sixteen more. Returns the numbers of bytes read and packed.
 #[inline]
 pub fn pack(ignored: &IgnoredBytes, part: &[u8], room: &mut [u8]) -> (usize, usize)
     ensures within { result.0 ≤ length part.now }

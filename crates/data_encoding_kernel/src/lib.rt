@@ -13,6 +13,5 @@ pub mod lanes;
 pub mod order;
 pub mod platform;
 pub mod symbol_table;
-pub mod turn;
 pub mod value_table;
 pub mod words;

@@ -3,8 +3,8 @@
 //! The build for WebAssembly replaces this file, and no other.
 
 /// Returns `true` if groups are encoded and decoded with SIMD, and `false` if in words.
-// No clause says which it is: so each function that asks is proved for both answers, and none is
-// proved again where this file is another.
+// Has no contract, so that callers are proved for either result, and are not proved again on
+// another platform.
 #[inline(always)]
 pub fn has_lanes() -> bool {
     true

@@ -24,7 +24,7 @@ pub fn weight_at(order: BitOrder, size: usize, count: usize, index: usize) -> us
     }
 }
 
-// The eight bits of the word from `weight` on.
+/// Returns the eight bits of `word` from bit `weight` on.
 fn byte_at(word: u64, weight: usize) -> u8
     requires { weight < 64 }
     ensures { result ≡ word / 2 ^ weight % 2 ^ 8 }
@@ -32,7 +32,7 @@ fn byte_at(word: u64, weight: usize) -> u8
     ((word >> weight) & 0xff) as u8
 }
 
-// The bytes as a word, with zeros for missing ones.
+/// Returns the bytes of a group as a word. Missing bytes are zeros.
 fn word_of_bytes<G: GroupSize>(order: BitOrder, input: &[u8]) -> u64
     requires few { length input.now ≤ G.BYTES }
     ensures { result ≡ word_of order 8 G.BYTES input.now }
@@ -48,8 +48,9 @@ fn word_of_bytes<G: GroupSize>(order: BitOrder, input: &[u8]) -> u64
     word
 }
 
-// Writes the symbols of the first digits of a word. The table has a symbol for each byte, so a byte
-// is an index into it, and no mask of the width is needed.
+/// Writes the symbols of the first digits of a word.
+///
+/// The table has a symbol for each byte. So a byte of the word is an index without a mask.
 fn symbols_of_word<G: GroupSize>(symbols: &[u8; 256], order: BitOrder, word: u64, output: &mut [u8])
     requires few { length output.old ≤ G.SYMBOLS }
     ensures { output.new
@@ -90,8 +91,10 @@ pub fn entry_of(values: &[u8; 256], byte: u8) -> u8
     values[byte as usize]
 }
 
-// The values of the symbols as a word, with zeros for missing ones, and all entries combined by OR.
-// An entry that is not a value has its highest bit set, and the word is then meaningless.
+/// Returns the values of the symbols of a group as a word, and all entries combined by OR.
+///
+/// Missing symbols are zeros. If an entry is not a value, the second result is 128 or more, and the
+/// word is unspecified.
 fn word_of_symbols<G: GroupSize>(values: &[u8; 256], order: BitOrder, input: &[u8]) -> (u64, u8)
     requires few { length input.now ≤ G.SYMBOLS }
     ensures word { ((k : ℕ) → k < length input.now
@@ -115,7 +118,7 @@ fn word_of_symbols<G: GroupSize>(values: &[u8; 256], order: BitOrder, input: &[u
     (word, entries)
 }
 
-// Writes the first bytes of a word.
+/// Writes the first bytes of a word.
 fn bytes_of_word<G: GroupSize>(order: BitOrder, word: u64, output: &mut [u8])
     requires few { length output.old ≤ G.BYTES }
     ensures { output.new ≡ map (digit order 8 G.BYTES word) (range_with_len 0 (length output.old)) }

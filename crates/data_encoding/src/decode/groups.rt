@@ -6,9 +6,9 @@ ghost use Rattle.data_encoding.specs.Progress.{IsCodedIn, ReadsBy};
 ghost use Rattle.data_encoding_meaning.specs.text.Base.{Base};
 
 use crate::encoding::{EncodingRef, PADDING};
-use data_encoding_kernel::decode::{decode_by_turns, decode_run_within};
+use data_encoding_kernel::decode::{decode_iterations, decode_run_within};
 use data_encoding_kernel::group_size::GroupSize;
-use data_encoding_kernel::lanes::look_up::LookUp;
+use data_encoding_kernel::lanes::decode::look_up::LookUp;
 use data_encoding_kernel::order::ConstantOrder;
 use data_encoding_kernel::words::entry_of;
 
@@ -41,7 +41,7 @@ impl<L: LookUp> Entries<'_, L> {
         ensures { (base : Base) → ReadsBy L.holds base self.now G.WIDTH O.ORDER
             → HasReadGroups base (take len part.now) result output.new }
     {
-        let count = decode_by_turns::<L, O, G>(self.look_up, part, len, output) / G::SYMBOLS;
+        let count = decode_iterations::<L, O, G>(self.look_up, part, len, output) / G::SYMBOLS;
         Groups {
             read: count * G::SYMBOLS,
             written: count * G::BYTES,

@@ -13,7 +13,7 @@ use crate::decode::next_group::{ignored_front, starts_whole};
 use crate::encoding::{EncodingRef, IGNORED};
 use crate::error::DecodeKind;
 use data_encoding_kernel::group_size::GroupSize;
-use data_encoding_kernel::lanes::look_up::LookUp;
+use data_encoding_kernel::lanes::decode::look_up::LookUp;
 use data_encoding_kernel::order::ConstantOrder;
 use data_encoding_kernel::platform::has_lanes;
 use data_encoding_kernel::words::entry_of;

@@ -13,9 +13,9 @@ use crate::encoding::{BitOrder, EncodingRef};
 use data_encoding_kernel::call_by_width;
 use data_encoding_kernel::decode::decode_run;
 use data_encoding_kernel::group_size::GroupSize;
-use data_encoding_kernel::lanes::affine::Affine;
-use data_encoding_kernel::lanes::look_up::LookUp;
-use data_encoding_kernel::lanes::rows::Rows;
+use data_encoding_kernel::lanes::decode::affine::Affine;
+use data_encoding_kernel::lanes::decode::look_up::LookUp;
+use data_encoding_kernel::lanes::decode::rows::Rows;
 use data_encoding_kernel::order::{ConstantOrder, LeastSignificantFirst, MostSignificantFirst};
 
 impl EncodingRef<'_> {

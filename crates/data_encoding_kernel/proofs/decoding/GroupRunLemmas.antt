@@ -9,7 +9,7 @@ use Rattle.std.specs.List.{AllByRecursion, range_with_len}
 use Rattle.std.specs.Simd.{first_chunks}
 use Rattle.data_encoding_meaning.specs.declared.encoding.Character.{Character}
 use Rattle.data_encoding_meaning.specs.declared.encoding.BitOrder.{BitOrder}
-use Rattle.data_encoding_meaning.specs.text.Base.{Base, IsWidth, group_bytes, group_symbols, is_symbol, meaning, IsGroup}
+use Rattle.data_encoding_meaning.specs.text.Base.{Base, group_bytes, group_symbols, is_symbol, meaning, IsGroup}
 use Rattle.data_encoding_meaning.specs.text.Bits.{runs}
 use Rattle.data_encoding_kernel.specs.Runs.{IsRun}
 use Rattle.data_encoding_kernel.specs.Values.{AreEntries, AreValues}
@@ -19,13 +19,25 @@ use Rattle.data_encoding_kernel.specs.Words.{digit, word_of}
 use Rattle.data_encoding_kernel.proofs.digits.GatherStoreLemmas.{bytes_of_words}
 use Rattle.data_encoding_kernel.proofs.digits.FrontWordLemmas.{groups-front}
 use Rattle.data_encoding_kernel.proofs.digits.KernelLemmas.{symbol_bytes-word}
-use Rattle.data_encoding_kernel.proofs.decoding.SymbolRunLemmas.{few-groups, run-front}
+use Rattle.data_encoding_kernel.proofs.decoding.SymbolRunLemmas.{groups-at_most, run-front}
 use Rattle.data_encoding_meaning.proofs.digits.WidthLemmas.{by_width}
 use Rattle.data_encoding_meaning.proofs.decoding.GroupJudgementLemmas.{part_bytes}
 use Rattle.data_encoding_meaning.proofs.lists.PartLemmas.{IsWhole, IsWhole-group, groups-within}
 use Rattle.data_encoding_meaning.proofs.lists.RunLemmas.{runs-first, runs-nil}
 
--- the bytes of the words of groups are those of the groups
+-- the bytes of the first words
+bytes-front : (show : ℕ → List ℕ) (size count : ℕ) (made : List ℕ)
+    → ((one : ℕ) → length (show one) ≡ size)
+    → take (count * size) (flat_map show made) ≡ flat_map show (take count made)
+bytes-front show size zero made each = ap (λ n. take n (flat_map show made)) (zero-mul size)
+bytes-front show size (suc count) [] each = take_all (suc count * size) [] (omega arith)
+bytes-front show size (suc count) (one ∷ made) each =
+    let more : suc count * size ≡ length (show one) + count * size =
+    omega (arith, each one) in
+    rw more (take-append-add (show one) (flat_map show made) (count * size)
+    ∙ ap (λ l. show one ++ l) (bytes-front show size count made each))
+
+-- the bytes of the words of groups are the bytes of the groups
 module _ (base : Base) (values : List ℕ) (width bytes symbols : ℕ) (order : BitOrder)
     (group : IsGroup width bytes symbols) (reads : Reads base values width order) where
   abbrev word_bytes : ℕ → List ℕ
@@ -99,34 +111,72 @@ module _ (base : Base) (values : List ℕ) (width bytes symbols : ℕ) (order : 
             (is ∙ words-run n input long fits low);
       }
 
--- what is found for groups: the words of those before the first byte that is no symbol
-module _ (total : ℕ) {width number : ℕ} (is : IsWidth width) (some : 0 < number)
-    (values : List ℕ) (input entries : List ℕ) (found : ℕ) (long : length input ≡ total * number)
-    (lanes : length entries ≡ total * number) (few : found ≤ total * number)
-    (below : (j : ℕ) → j < found → slice_index entries j < 128)
-    (are : AreEntries values (take (total * number) input) entries) where
+  -- groups of symbols before the first byte that is not a symbol are a run
+  pub found-run : (total : ℕ) (input old new words : List ℕ) (found : ℕ)
+      → length input ≡ total * symbols → length new ≡ total * bytes
+      → ((j : ℕ) → slice_index input j < 256) → found ≤ total * symbols
+      → ((j : ℕ) → j < found → slice_index values (slice_index input j) < 128)
+      → take (found / symbols) words ≡ map (word_of order width symbols)
+      (first_chunks symbols (found / symbols) (map (slice_index values) input))
+      → new ≡ bytes_of_words order bytes words → IsRun base input (found / symbols) old new
+  found-run total input old new words found long exact fits few low words_are stored =
+      let count = found / symbols in
+      let read = count * symbols in
+      let within : read ≤ found = groups-within found symbols in
+      let most = groups-at_most found total whole.some_symbols few in
+      let room : count * bytes ≤ length new =
+      omega (arith, exact, mul-le-mul_right bytes most) in
+      let part_len : length (take read input) ≡ read =
+      length-take-le read input (omega (arith, within, few, long)) in
+      let chunks : first_chunks symbols count (map (slice_index values) input)
+      ≡ first_chunks symbols count (map (slice_index values) (take read input)) =
+      sym (groups-front symbols count (map (slice_index values) input))
+      ∙ ap (first_chunks symbols count) (rw take-map refl) in
+      run-front base reads.holds.is_width width bytes symbols group reads.width_is input old new
+      count read (count * bytes) (omega arith)
+      (groups-run count (take read input) old (take (count * bytes) new) part_len
+      (length-take-le (count * bytes) new room) (part_bytes input fits read)
+      (λ j h. rw (get_or-take read input j 0 (omega (arith, h, part_len)))
+      (low j (omega (arith, h, part_len, within))))
+      (ap (take (count * bytes)) stored
+      ∙ bytes-front word_bytes bytes count words
+      (λ word. length-map-range_with_len (digit order 8 bytes word) 0 bytes)
+      ∙ ap (flat_map word_bytes) (words_are ∙ ap (map (word_of order width symbols)) chunks)))
+
+-- the entries found for groups. The first `found` of them are below 128
+record AreFound (total number : ℕ) (values input entries : List ℕ) (found : ℕ) : Type 0 where
+  long : length input ≡ total * number
+  lanes : length entries ≡ total * number
+  few : found ≤ total * number
+  below : (j : ℕ) → j < found → slice_index entries j < 128
+  are : AreEntries values (take (total * number) input) entries
+
+-- the words of the groups before the first byte that is not a symbol
+module _ {total number found : ℕ} {values input entries : List ℕ} (some : 0 < number)
+    (so_far : AreFound total number values input entries found) where
   abbrev groups : ℕ
   groups = found / number
 
-  whole-groups : groups * number ≤ found
-  whole-groups = groups-within found number
+  groups-within_found : groups * number ≤ found
+  groups-within_found = groups-within found number
 
   entry-found : (j : ℕ) → j < found
       → slice_index entries j ≡ slice_index values (slice_index input j)
   entry-found j h =
-      are j (omega (
+      so_far.are j (omega (
         arith,
         h,
-        few,
-        long,
-        length-take-le (total * number) input (omega (arith, long)),
+        so_far.few,
+        so_far.long,
+        length-take-le (total * number) input (omega (arith, so_far.long)),
       ))
-      (below j h)
-      ∙ ap (slice_index values) (get_or-take (total * number) input j 0 (omega (arith, h, few)))
+      (so_far.below j h)
+      ∙ ap (slice_index values)
+      (get_or-take (total * number) input j 0 (omega (arith, h, so_far.few)))
 
-  pub found-symbols : (j : ℕ) → j < found → slice_index values (slice_index input j) < 128
+  found-symbols : (j : ℕ) → j < found → slice_index values (slice_index input j) < 128
   found-symbols j h =
-      rw (← entry-found j h) (below j h)
+      rw (← entry-found j h) (so_far.below j h)
 
   -- the entries of whole groups
   entries-found : take (groups * number) entries
@@ -134,52 +184,59 @@ module _ (total : ℕ) {width number : ℕ} (is : IsWidth width) (some : 0 < num
   entries-found =
       let size = groups * number in
       let first_len : length (take size entries) ≡ size =
-      length-take-le size entries (omega (arith, lanes, few, whole-groups)) in
+      length-take-le size entries (omega (arith, so_far.lanes, so_far.few, groups-within_found)) in
       let last_len : length (take size (map (slice_index values) input)) ≡ size =
       length-take-le size (map (slice_index values) input)
-      (omega (arith, length-map input (slice_index values), long, few, whole-groups)) in
+      (omega (
+        arith,
+        length-map input (slice_index values),
+        so_far.long,
+        so_far.few,
+        groups-within_found,
+      )) in
       ext_get_or 0 (take size entries) (take size (map (slice_index values) input))
       (first_len ∙ sym last_len)
       (λ k h.
       let inside : k < size = omega (arith, h, first_len) in
-      let early : k < found = omega (arith, inside, whole-groups) in
+      let early : k < found = omega (arith, inside, groups-within_found) in
       get_or-take size entries k 0 inside
       ∙ entry-found k early
-      ∙ sym (get_or-map (slice_index values) input k 0 0 (omega (arith, early, few, long)))
+      ∙ sym (get_or-map (slice_index values) input k 0 0
+      (omega (arith, early, so_far.few, so_far.long)))
       ∙ sym (get_or-take size (map (slice_index values) input) k 0 inside))
 
-  entries-small : AreValues values width → ((j : ℕ) → slice_index input j < 256)
+  entries-small : (width : ℕ) → AreValues values width → ((j : ℕ) → slice_index input j < 256)
       → AllByRecursion (λ entry. entry < 2 ^ width) (take (groups * number) entries)
-  entries-small own fits =
+  entries-small width own fits =
       let size = groups * number in
       let first_len : length (take size entries) ≡ size =
-      length-take-le size entries (omega (arith, lanes, few, whole-groups)) in
+      length-take-le size entries (omega (arith, so_far.lanes, so_far.few, groups-within_found)) in
       recursion_from_All (λ entry. entry < 2 ^ width) (take size entries)
       (All-from_get_or (λ entry. entry < 2 ^ width) (take size entries) 0
       (λ k h.
       let inside : k < size = omega (arith, h, first_len) in
-      let early : k < found = omega (arith, inside, whole-groups) in
+      let early : k < found = omega (arith, inside, groups-within_found) in
       rw (get_or-take size entries k 0 inside, entry-found k early)
       (own (slice_index input k) (fits k) (found-symbols k early))))
 
-  pub found-words : AreValues values width → ((j : ℕ) → slice_index input j < 256)
-      → (order : BitOrder) (made : List ℕ)
+  found-words : (width : ℕ) → AreValues values width
+      → ((j : ℕ) → slice_index input j < 256) → (order : BitOrder) (made : List ℕ)
       → ((n : ℕ) → n ≤ total
       → AllByRecursion (λ entry. entry < 2 ^ width) (take (n * number) entries)
       → take n made ≡ map (word_of order width number) (first_chunks number n entries))
       → take groups made ≡ map (word_of order width number)
       (first_chunks number groups (map (slice_index values) input))
-  found-words own fits order made are_made =
-      let most = few-groups found total some few in
-      are_made groups most (entries-small own fits)
+  found-words width own fits order made are_made =
+      let most = groups-at_most found total some so_far.few in
+      are_made groups most (entries-small width own fits)
       ∙ ap (map (word_of order width number))
       (sym (groups-front number groups entries)
       ∙ ap (first_chunks number groups) entries-found
       ∙ groups-front number groups (map (slice_index values) input))
 
 -- the same for a look-up, with the sizes under other names
-pub words-found : (total : ℕ) {width number read count : ℕ} → IsWidth width → 0 < number
-    → read ≡ width → number ≡ count → (holds : List ℕ → Type 0) (order : BitOrder)
+pub words-found : (total : ℕ) {width number read count : ℕ} → 0 < number → read ≡ width
+    → number ≡ count → (holds : List ℕ → Type 0) (order : BitOrder)
     (input entries made : List ℕ) (found : ℕ) → length input ≡ total * number
     → ((j : ℕ) → slice_index input j < 256) → length entries ≡ total * count → found ≤ total * count
     → ((j : ℕ) → j < found → slice_index entries j < 128)
@@ -194,67 +251,23 @@ pub words-found : (total : ℕ) {width number read count : ℕ} → IsWidth widt
       symbols : (values : List ℕ) → holds values → (j : ℕ) → j < found
           → slice_index values (slice_index input j) < 128;
     }
-words-found total {width} {number} is some same many holds order input entries made found long
-    fits =
+words-found total {width} {number} some same many holds order input entries made found long fits =
     rw (same, ← many) (λ lanes few below look are.
+    let so_far : (values : List ℕ) → holds values
+    → AreFound total number values input entries found =
+    λ values held. record {
+      long = long;
+      lanes = lanes;
+      few = few;
+      below = below;
+      are = look values held;
+    } in
     record {
       few = few;
-      words = λ values held own.
-          found-words total is some values input entries found long lanes few below
-          (look values held) own fits order made are;
-      symbols = λ values held.
-          found-symbols total is some values input entries found long lanes few below
-          (look values held);
+      words = λ values held own. found-words some (so_far values held) width own fits order made
+          are;
+      symbols = λ values held. found-symbols some (so_far values held);
     })
-
--- the bytes of the first words
-bytes-front : (show : ℕ → List ℕ) (size count : ℕ) (made : List ℕ)
-    → ((one : ℕ) → length (show one) ≡ size)
-    → take (count * size) (flat_map show made) ≡ flat_map show (take count made)
-bytes-front show size zero made each = ap (λ n. take n (flat_map show made)) (zero-mul size)
-bytes-front show size (suc count) [] each = take_all (suc count * size) [] (omega arith)
-bytes-front show size (suc count) (one ∷ made) each =
-    let more : suc count * size ≡ length (show one) + count * size =
-    omega (arith, each one) in
-    rw more (take-append-add (show one) (flat_map show made) (count * size)
-    ∙ ap (λ l. show one ++ l) (bytes-front show size count made each))
-
--- groups of symbols before the first byte that is none are a run
-pub found-run : (total : ℕ) (base : Base) (values : List ℕ) (width bytes symbols : ℕ)
-    (order : BitOrder) → IsGroup width bytes symbols → Reads base values width order
-    → (input old new words : List ℕ) (found : ℕ) → length input ≡ total * symbols
-    → length new ≡ total * bytes → ((j : ℕ) → slice_index input j < 256) → found ≤ total * symbols
-    → ((j : ℕ) → j < found → slice_index values (slice_index input j) < 128)
-    → take (found / symbols) words ≡ map (word_of order width symbols)
-    (first_chunks symbols (found / symbols) (map (slice_index values) input))
-    → new ≡ bytes_of_words order bytes words → IsRun base input (found / symbols) old new
-found-run total base values width bytes symbols order group reads input old new words found long
-    exact fits few low words_are stored =
-    let whole = IsWhole-group width bytes symbols group in
-    let count = found / symbols in
-    let read = count * symbols in
-    let shown = word_bytes base values width bytes symbols order group reads in
-    let within : read ≤ found = groups-within found symbols in
-    let most = few-groups found total whole.some_symbols few in
-    let room : count * bytes ≤ length new =
-    omega (arith, exact, mul-le-mul_right bytes most) in
-    let part_len : length (take read input) ≡ read =
-    length-take-le read input (omega (arith, within, few, long)) in
-    let chunks : first_chunks symbols count (map (slice_index values) input)
-    ≡ first_chunks symbols count (map (slice_index values) (take read input)) =
-    sym (groups-front symbols count (map (slice_index values) input))
-    ∙ ap (first_chunks symbols count) (rw take-map refl) in
-    run-front base reads.holds.is_width width bytes symbols group reads.width_is input old new
-    count read (count * bytes) (omega arith)
-    (groups-run base values width bytes symbols order group reads count (take read input) old
-    (take (count * bytes) new) part_len (length-take-le (count * bytes) new room)
-    (part_bytes input fits read)
-    (λ j h. rw (get_or-take read input j 0 (omega (arith, h, part_len)))
-    (low j (omega (arith, h, part_len, within))))
-    (ap (take (count * bytes)) stored
-    ∙ bytes-front shown bytes count words
-    (λ word. length-map-range_with_len (digit order 8 bytes word) 0 bytes)
-    ∙ ap (flat_map shown) (words_are ∙ ap (map (word_of order width symbols)) chunks)))
 
 -- whole groups of sixteen symbols, at least one
 module _ {width bytes symbols : ℕ} (group : IsGroup width bytes symbols) where

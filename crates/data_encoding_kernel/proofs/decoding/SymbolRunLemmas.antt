@@ -94,7 +94,7 @@ module _ (base : Base) (width : IsWidth base.width) (w bytes symbols : ℕ)
   same_symbols : group_symbols base.width ≡ symbols
   same_symbols = ap group_symbols is ∙ sym group.has_symbols
 
-  -- what is written after a run leaves it
+  -- bytes written after a run leave it unchanged
   pub run-kept : (part old output piece : List ℕ) (i k : ℕ) → i * bytes ≤ length output
       → IsRun base part i old output → IsRun base part i old (put_mid (i * bytes) k output piece)
   run-kept part old output piece i k =
@@ -131,7 +131,7 @@ module _ (base : Base) (width : IsWidth base.width) (w bytes symbols : ℕ)
             ∙ bytes-more base width part i m whole);
       }))
 
-  -- a run at the start of what follows a run, up to a position
+  -- a run at the start of the rest after a run, up to a position
   pub run-after : (part old output before piece : List ℕ) (i m k stop : ℕ)
       → stop ≤ length part → i * bytes ≤ length output → m * bytes ≤ length piece
       → IsRun base part i old output → IsRun base (between (i * symbols) stop part) m before piece
@@ -233,13 +233,13 @@ module _ (base : Base) (width : IsWidth base.width) (w bytes symbols : ℕ)
       (len ∙ sym same_bytes) is_bytes)
 
   -- a group that is not symbols only ends the longest run
-  pub run-longest : (values part : List ℕ) (i stop : ℕ) → stop ≡ i * symbols + symbols
+  pub longest-at_group : (values part : List ℕ) (i stop : ℕ) → stop ≡ i * symbols + symbols
       → HoldsValues base values → ((j : ℕ) → slice_index part j < 256)
       → (((j : ℕ) → j < length (between (i * symbols) stop part)
       → slice_index values (slice_index (between (i * symbols) stop part) j) < 128)
       → false ≡ true)
       → IsLongest base part i
-  run-longest values part i stop stop_is holds bytes_fit stopped = λ before all.
+  longest-at_group values part i stop stop_is holds bytes_fit stopped = λ before all.
       stopped
       (λ j h.
       let few = length-take (stop - i * symbols) (drop (i * symbols) part) in
@@ -251,11 +251,11 @@ module _ (base : Base) (width : IsWidth base.width) (w bytes symbols : ℕ)
       (omega (arith, inside, stop_is)) in
       rw (here, get_or-drop (i * symbols) part j 0) (grind (arith, is, other)))
 
-  -- a byte that is no symbol ends it too
-  pub run-ends : (values part : List ℕ) (at : ℕ) → 0 < symbols → HoldsValues base values
+  -- a byte that is not a symbol ends it too
+  pub longest-at_byte : (values part : List ℕ) (at : ℕ) → 0 < symbols → HoldsValues base values
       → slice_index part at < 256 → 128 ≤ slice_index values (slice_index part at)
       → IsLongest base part (at / symbols)
-  run-ends values part at some holds fits entry = λ before all.
+  longest-at_byte values part at some holds fits entry = λ before all.
       let size = group_symbols base.width in
       let place : at / symbols * size + at % symbols ≡ at =
       omega (arith, div-add-mod' at symbols, ap (λ n. at / symbols * n) same_symbols) in
@@ -265,31 +265,32 @@ module _ (base : Base) (width : IsWidth base.width) (w bytes symbols : ℕ)
       ∙ all (at % symbols) inside
 
   -- so does the last whole group
-  pub run-all : (part : List ℕ) (len : ℕ) → length part ≡ len → IsLongest base part (len / symbols)
-  run-all part len long = λ before all.
+  pub longest-all : (part : List ℕ) (len : ℕ) → length part ≡ len
+      → IsLongest base part (len / symbols)
+  longest-all part len long = λ before all.
       let same : length part / group_symbols base.width ≡ len / symbols =
       (λ i. long i / same_symbols i) in
       absurd (omega (arith, before, same))
 
 -- whole groups, by how many symbols they have
-pub no-groups : (size : ℕ) → 0 / size ≡ 0
-no-groups size = zero-div size
+pub zero-groups : (size : ℕ) → 0 / size ≡ 0
+zero-groups size = zero-div size
 
-pub whole-groups : {s : ℕ} (count size : ℕ) → size ≡ s → 0 < s → count * size / s ≡ count
-whole-groups {s} count size same pos =
+pub groups-of_product : {s : ℕ} (count size : ℕ) → size ≡ s → 0 < s → count * size / s ≡ count
+groups-of_product {s} count size same pos =
     ap (λ n. count * n / s) same ∙ ap (λ n. n / s) (omega arith) ∙ div-mul-add count s 0 pos
 
 -- groups after others
-pub more-groups : {s : ℕ} (first found size : ℕ) → size ≡ s → 0 < s
+pub groups-after : {s : ℕ} (first found size : ℕ) → size ≡ s → 0 < s
     → (first * size + found) / s ≡ first + found / s
-more-groups {s} first found size same pos =
+groups-after {s} first found size same pos =
     ap (λ n. (first * n + found) / s) same
     ∙ ap (λ n. n / s) (omega (arith, mul_comm first s))
     ∙ add-mul-div_left found first pos ∙ omega arith
 
 -- and no more than a turn has
-pub few-groups : {s : ℕ} (found number : ℕ) → 0 < s → found ≤ number * s → found / s ≤ number
-few-groups {s} found number pos h =
+pub groups-at_most : {s : ℕ} (found number : ℕ) → 0 < s → found ≤ number * s → found / s ≤ number
+groups-at_most {s} found number pos h =
     omega (
       arith,
       (div-lt_iff_lt-mul {k = s} {x = found} {y = number + 1} pos).1
@@ -297,18 +298,18 @@ few-groups {s} found number pos h =
     )
 
 -- nor than a longer part has
-pub fewer-groups : {s symbols : ℕ} (at len : ℕ) → symbols ≡ s → 0 < s → at ≤ len
+pub groups-monotone : {s symbols : ℕ} (at len : ℕ) → symbols ≡ s → 0 < s → at ≤ len
     → at / symbols ≤ len / s
-fewer-groups {s} at len same =
+groups-monotone {s} at len same =
     rw same (λ some h. (le-div_iff_mul-le some).1 (omega (arith, groups-within at s, h)))
 
 -- all of a turn
-pub all-groups : {number s groups size : ℕ} (found : ℕ) → groups ≡ number → size ≡ s → 0 < s
+pub groups-complete : {number s groups size : ℕ} (found : ℕ) → groups ≡ number → size ≡ s → 0 < s
     → found ≤ number * s → groups * size ≤ found → found / s ≡ groups
-all-groups {number} {s} found same_groups same_size pos =
+groups-complete {number} {s} found same_groups same_size pos =
     rw (same_groups, same_size) (λ most least.
     let all : found ≡ number * s = omega (arith, most, least) in
-    ap (λ n. n / s) all ∙ whole-groups number s refl pos)
+    ap (λ n. n / s) all ∙ groups-of_product number s refl pos)
 
 -- turns of whole groups have room if all groups have
 pub turns-room : {number s groups size : ℕ} (n m b : ℕ) → groups ≡ number → size ≡ s
@@ -323,7 +324,7 @@ turns-few {number} {s} n same_groups same_size =
     rw (same_groups, same_size)
     (omega (arith, groups-within n s, mul-le-mul_right s (groups-within (n / s) number)))
 
--- a turn is within what all turns take
+-- a turn is within the symbols of all turns
 pub turn-fits : {number s groups size : ℕ} (n count i : ℕ) → groups ≡ number → size ≡ s
     → count * number * s ≤ n → i < count → i * groups * size + groups * size ≤ n
 turn-fits {number} {s} n count i same_groups same_size =
@@ -334,9 +335,9 @@ turn-fits {number} {s} n count i same_groups same_size =
     omega (arith, room, all))
 
 -- how many groups are left after the first ones
-count-left : (n size first : ℕ) → 0 < size → first ≤ n / size
+groups-left : (n size first : ℕ) → 0 < size → first ≤ n / size
     → (n - first * size) / size ≡ n / size - first
-count-left n size first pos h =
+groups-left n size first pos h =
     let rest = n / size - first in
     let sum : n / size ≡ rest + first = omega (arith, h) in
     let left : n - first * size ≡ rest * size + n % size =
@@ -344,13 +345,13 @@ count-left n size first pos h =
     ap (λ m. m / size) left ∙ div-mul-add rest size (n % size) (mod-lt n pos)
 
 -- and that these are within all
-pub within-left : {s symbols : ℕ} (part : List ℕ) (first further : ℕ) → symbols ≡ s → 0 < s
+pub within-left : {s symbols : ℕ} (part : List ℕ) (first more : ℕ) → symbols ≡ s → 0 < s
     → first ≤ length part / s
-    → further ≤ length (take (length part - first * symbols) (drop (first * symbols) part)) / s
-    → first + further ≤ length part / s
-within-left {s} part first further same =
+    → more ≤ length (take (length part - first * symbols) (drop (first * symbols) part)) / s
+    → first + more ≤ length part / s
+within-left {s} part first more same =
     rw same (λ pos h k.
-    let left = rw (length-rest (first * s) part, count-left (length part) s first pos h) at k in
+    let left = rw (length-rest (first * s) part, groups-left (length part) s first pos h) at k in
     omega (arith, h, left))
 
 -- the room of groups
@@ -359,7 +360,7 @@ pub groups-room : {b bytes : ℕ} (n first m : ℕ) → bytes ≡ b → first �
 groups-room {b} n first m same =
     rw same (λ h room. omega (arith, mul-le-mul_right b h, room))
 
--- what is left has room, if all groups have
+-- the remaining groups have room, if all groups have
 pub room-left : {b s bytes symbols : ℕ} (part output : List ℕ) (first : ℕ) → bytes ≡ b
     → symbols ≡ s → 0 < s → first ≤ length part / s → length part / s * b ≤ length output
     → length (take (length part - first * symbols) (drop (first * symbols) part)) / s * b
@@ -372,5 +373,5 @@ room-left {b} {s} part output first same_bytes same_symbols =
     rw (
       length-rest (first * s) part,
       length-rest (first * b) output,
-      count-left (length part) s first pos h,
+      groups-left (length part) s first pos h,
     ) (omega (arith, all, room)))

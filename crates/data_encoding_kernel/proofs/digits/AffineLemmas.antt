@@ -8,11 +8,11 @@ use Rattle.std.proofs.lemmas.List.FromFn.{get_or-map-range_with_len, length-map-
 use Rattle.std.proofs.lemmas.Simd.{length-chunk, zip2_of_maps, zip2_splat, splat_is_map, tops_compared, map-map}
 use Rattle.std.specs.List.{AllByRecursion, range_with_len}
 use Rattle.std.specs.Simd.Lanes.{chunk, zip2, sel_l, top}
-use Rattle.data_encoding_kernel.specs.declared.lanes.affine.Affine.{Affine}
+use Rattle.data_encoding_kernel.specs.declared.lanes.decode.affine.Affine.{Affine}
 use Rattle.data_encoding_kernel.specs.Affine.{HoldsAffine, affine_entry, affine_value, bits_of_rows, moved_byte, symbol_bit}
 use Rattle.data_encoding_kernel.specs.Values.{IsRow, in_row}
-use Rattle.data_encoding_kernel.proofs.digits.GatherRowLemmas.{at_most, chosen-high, row-of}
-use Rattle.data_encoding_kernel.proofs.digits.LaneLemmas.{selected}
+use Rattle.data_encoding_kernel.proofs.digits.GatherRowLemmas.{at_most, chosen-high, row-loaded}
+use Rattle.data_encoding_kernel.proofs.digits.LaneLemmas.{select-mapped}
 use Rattle.data_encoding_kernel.proofs.digits.WordLemmas.{map-range-same}
 use Rattle.data_encoding_meaning.proofs.lists.EachLemmas.{all-at}
 
@@ -30,7 +30,8 @@ pub chosen-equal : (f g h k : ℕ → ℕ) (bytes us vs : List ℕ) {xs ys : Lis
 chosen-equal f g h k bytes us vs {xs} {ys} at_f at_g at_h at_k =
     let tests : map (top 7) (zip2 equal xs ys) ≡ map (λ byte. eqb (f byte) (g byte)) bytes =
     tops_compared w8 eqb xs ys ∙ zip2_of_maps eqb f g bytes at_f at_g in
-    (λ i. sel_l (tests i) (at_h i) (at_k i)) ∙ selected (λ byte. eqb (f byte) (g byte)) h k bytes
+    (λ i. sel_l (tests i) (at_h i) (at_k i))
+    ∙ select-mapped (λ byte. eqb (f byte) (g byte)) h k bytes
 
 abbrev pub at_row : List ℕ → ℕ → ℕ
 at_row row byte = in_row row 0 (byte / 16)
@@ -42,20 +43,20 @@ own-row row k h = ap (λ j. get_or row j 0) (omega arith)
 abbrev pub down : ℕ → ℕ → ℕ
 down a b = a / 2 ^ b
 
-pub at-rows : (row : List ℕ) (count : ℕ) (bytes entries : List ℕ) → length bytes ≡ count
+pub entries-at_rows : (row : List ℕ) (count : ℕ) (bytes entries : List ℕ) → length bytes ≡ count
     → entries ≡ map (in_row row 0) (zip2 down bytes (replicate count 4))
     → entries ≡ map (at_row row) bytes
-at-rows row count bytes entries long e =
+entries-at_rows row count bytes entries long e =
     e ∙ ap (map (in_row row 0)) (zip2_splat down bytes count 4 long)
     ∙ map-map (in_row row 0) (λ byte. down byte 4) bytes
 
--- what is looked up in a row, by positions
+-- the entries of a row, by positions
 abbrev LooksUp : List ℕ → List ℕ → List ℕ → Type 0
 LooksUp row places found =
     (values : List ℕ) (start : ℕ) → IsRow values start row
     → found ≡ map (in_row values start) places
 
--- what is looked up for the entries of bytes
+-- the four look-ups for the entries of bytes
 pub rows-found : (affine : Affine) (count : ℕ) (bytes bits : List ℕ)
     {symbols found deltas shared : List ℕ}
     → bits ≡ bits_of_rows → length bytes ≡ count → LooksUp affine.symbols bytes symbols
@@ -67,9 +68,10 @@ pub rows-found : (affine : Affine) (count : ℕ) (bytes bits : List ℕ)
 rows-found affine count bytes bits {symbols} {found} {deltas} {shared} is long first second third
     fourth = (
       first affine.symbols 0 (own-row affine.symbols),
-      at-rows bits_of_rows count bytes found long
+      entries-at_rows bits_of_rows count bytes found long
           (second bits_of_rows 0 (subst (IsRow bits_of_rows 0) (sym is) (own-row bits_of_rows))),
-      at-rows affine.deltas count bytes deltas long (third affine.deltas 0 (own-row affine.deltas)),
+      entries-at_rows affine.deltas count bytes deltas long
+          (third affine.deltas 0 (own-row affine.deltas)),
       fourth affine.shared 0 (own-row affine.shared),
     )
 
@@ -102,7 +104,7 @@ no-bit row high low =
     ∙ sym (get_or-drop 8 bits_of_rows (row - 8) 0)
     ∙ get_or-replicate 8 (row - 8) 0 0 (omega (arith, high, low))
 
--- and a byte there is no symbol
+-- and a byte there is not a symbol
 high-entry : (affine : Affine) (byte : ℕ) → 128 ≤ byte → byte < 256
     → affine_entry affine byte ≡ 255
 high-entry affine byte high fits =
@@ -129,19 +131,19 @@ pub row-bytes : (row : ℕ) → row < 8
 row-bytes row few =
     map-range-same (λ k. (k + 16 * row) % 256) (λ k. 16 * row + k) 16 (λ k h. omega (arith, few, h))
 
-pub counted-at : (f : ℕ → ℕ) (count k : ℕ) → k < count
+pub function-at : (f : ℕ → ℕ) (count k : ℕ) → k < count
     → get_or (map f (range_with_len 0 count)) k 0 ≡ f k
-counted-at f count k h = get_or-map-range_with_len f 0 count k k 0 h (omega arith)
+function-at f count k h = get_or-map-range_with_len f 0 count k k 0 h (omega arith)
 
 -- lanes that are counted from 0
-pub listed : (f : ℕ → ℕ) (count : ℕ) (lanes : List ℕ) → length lanes ≡ count
+pub lanes-from_function : (f : ℕ → ℕ) (count : ℕ) (lanes : List ℕ) → length lanes ≡ count
     → ((k : ℕ) → k < count → get_or lanes k 0 ≡ f k) → lanes ≡ map f (range_with_len 0 count)
-listed f count lanes long each =
+lanes-from_function f count lanes long each =
     ext_get_or 0 lanes (map f (range_with_len 0 count))
     (long ∙ sym (length-map-range_with_len f 0 count))
     (λ k h.
     let inside : k < count = omega (arith, h, long) in
-    each k inside ∙ sym (counted-at f count k inside))
+    each k inside ∙ sym (function-at f count k inside))
 
 -- a lane that passes
 same-entry : (entry own : ℕ) → entry < 128 → cond (eqb entry own) 0 (plus entry 128) < 128
@@ -157,13 +159,14 @@ pub row-entries : (row : ℕ) (values : List ℕ) → length values ≡ 256 → 
 row-entries row values long few =
     let size : 16 * row + 16 - 16 * row ≡ 16 = omega arith in
     ap (λ n. take 16 (take n (drop (16 * row) values))) size
-    ∙ listed (λ k. slice_index values (16 * row + k)) 16 (chunk 0 16 (chunk (16 * row) 16 values))
+    ∙ lanes-from_function (λ k. slice_index values (16 * row + k)) 16
+    (chunk 0 16 (chunk (16 * row) 16 values))
     (length-chunk 0 16 (chunk (16 * row) 16 values)
     (omega (arith, length-chunk (16 * row) 16 values (omega (arith, long, few)))))
-    (row-of (16 * row) values)
+    (row-loaded (16 * row) values)
 
--- a row in which no entry below 128 differs from that of the table
-pub agreed : (affine : Affine) (values bytes found : List ℕ) (row : ℕ) → length values ≡ 256
+-- a row with no entry below 128 that differs from the entry of the table
+pub row-agrees : (affine : Affine) (values bytes found : List ℕ) (row : ℕ) → length values ≡ 256
     → row < 8 → bytes ≡ map (λ k. 16 * row + k) (range_with_len 0 16)
     → found ≡ map (affine_entry affine) bytes
     → AllByRecursion (λ lane. lane < 128)
@@ -171,7 +174,7 @@ pub agreed : (affine : Affine) (values bytes found : List ℕ) (row : ℕ) → l
     (zip2 plus found (replicate 16 128)))
     → (k : ℕ) → k < 16 → affine_entry affine (16 * row + k) < 128
     → affine_entry affine (16 * row + k) ≡ slice_index values (16 * row + k)
-agreed affine values bytes found row long few are_bytes are_found passes k h small =
+row-agrees affine values bytes found row long few are_bytes are_found passes k h small =
     let places = range_with_len 0 16 in
     let entry = λ (j : ℕ). affine_entry affine (16 * row + j) in
     let own = λ (j : ℕ). slice_index values (16 * row + j) in
@@ -188,19 +191,19 @@ agreed affine values bytes found row long few are_bytes are_found passes k h sma
     let inside : k < length (map lane places) =
     omega (arith, h, length-map-range_with_len lane 0 16) in
     same-entry (entry k) (own k) small
-    (subst (λ n. n < 128) (counted-at lane 16 k h)
+    (subst (λ n. n < 128) (function-at lane 16 k h)
     (all-at (λ n. n < 128) (map lane places)
     (subst (AllByRecursion (λ n. n < 128)) lanes_are passes) k inside))
 
 -- and one row more
-pub row-more : (affine : Affine) (values : List ℕ) (row : ℕ)
+pub rows-extended : (affine : Affine) (values : List ℕ) (row : ℕ)
     → ((byte : ℕ) → byte < 16 * row → affine_entry affine byte < 128
     → affine_entry affine byte ≡ slice_index values byte)
     → ((k : ℕ) → k < 16 → affine_entry affine (16 * row + k) < 128
     → affine_entry affine (16 * row + k) ≡ slice_index values (16 * row + k))
     → (byte : ℕ) → byte < 16 * (row + 1) → affine_entry affine byte < 128
     → affine_entry affine byte ≡ slice_index values byte
-row-more affine values row below here byte h =
+rows-extended affine values row below here byte h =
     ⊎_elim (λ (low : byte < 16 * row). below byte low)
     (λ (from : 16 * row ≤ byte).
     let same : 16 * row + (byte - 16 * row) ≡ byte = omega arith in

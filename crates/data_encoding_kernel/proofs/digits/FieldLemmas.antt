@@ -1,4 +1,4 @@
--- Fields of a number: what masks and ors do to each.
+-- Fields of a number, masked and combined by OR.
 use Rattle.std.proofs.Common.{◌≡◌, ℕ, ◌+◌, ◌-◌, ◌*◌, ◌^◌, ◌<◌, List, [], ◌∷◌, length, map, replicate, bit_and, bit_or, min, max, refl, sym, ap, ◌∙◌, inl, inr, arith}
 use Rattle.std.proofs.Math.Nat.{zero-mul}
 use Rattle.std.proofs.lemmas.Bool.{cases_lt}
@@ -8,10 +8,10 @@ use Rattle.std.specs.Int.{bit_at}
 use Rattle.std.specs.List.{AllByRecursion}
 use Rattle.std.specs.Simd.Lanes.{number_l}
 
-turned : (k a b : ℕ) → a + 2 ^ k * b ≡ b * 2 ^ k + a
-turned k a b = omega arith
+sum-turned : (k a b : ℕ) → a + 2 ^ k * b ≡ b * 2 ^ k + a
+sum-turned k a b = omega arith
 
--- what is computed bit by bit is computed separately for the lower and the upper bits of a number
+-- an operation on bits acts on the lower and the upper bits of a number separately
 module _ (op bit : ℕ → ℕ → ℕ) (k : ℕ)
     (bits : (a b i : ℕ) → bit_at (op a b) i ≡ bit (bit_at a i) (bit_at b i))
     (fits : (a b : ℕ) → a < 2 ^ k → b < 2 ^ k → op a b < 2 ^ k) where
@@ -31,8 +31,8 @@ module _ (op bit : ℕ → ℕ → ℕ) (k : ℕ)
   field : (a b m n : ℕ) → a < 2 ^ k → m < 2 ^ k
       → op (a + 2 ^ k * b) (m + 2 ^ k * n) ≡ op a m + 2 ^ k * op b n
   field a b m n p q =
-      (λ j. op (turned k a b j) (turned k m n j)) ∙ parts a b m n p q
-      ∙ sym (turned k (op a m) (op b n))
+      (λ j. op (sum-turned k a b j) (sum-turned k m n j)) ∙ parts a b m n p q
+      ∙ sym (sum-turned k (op a m) (op b n))
 
 and_field : (k a b m n : ℕ) → a < 2 ^ k → m < 2 ^ k
     → bit_and (a + 2 ^ k * b) (m + 2 ^ k * n) ≡ bit_and a m + 2 ^ k * bit_and b n

@@ -1,9 +1,9 @@
--- The words of the first groups of values, from lanes whose halves are the words of half groups.
--- What the other lanes hold is of no account.
-use Rattle.std.proofs.Common.{◌≡◌, ℕ, zero, suc, ◌+◌, ◌*◌, ◌/◌, ◌%◌, ◌^◌, ◌<◌, ◌≤◌, List, [], ◌∷◌, length, map, take, drop, refl, sym, ap, ◌∙◌, arith, length-take-le}
-use Rattle.std.proofs.lemmas.List.{drop-take, take-map, take-take}
+-- The words of the first groups of values, from lanes with the words of half groups as halves.
+-- The other lanes may hold anything.
+use Rattle.std.proofs.Common.{◌≡◌, ℕ, zero, suc, ◌+◌, ◌*◌, ◌/◌, ◌%◌, ◌^◌, ◌<◌, ◌≤◌, List, [], ◌∷◌, length, map, take, drop, refl, sym, ap, ◌∙◌, subst, arith, length-take-le}
+use Rattle.std.proofs.lemmas.List.{drop-take, length-map, take-map, take-take}
 use Rattle.std.proofs.lemmas.Nat.{mul-pow, pow-add}
-use Rattle.std.proofs.Math.Nat.{add-mul-mod_self_left, add-mul-div_left, mul-le-mul_left, mul-zero, mul-one, one-le-pow, pow-zero, pow-succ'}
+use Rattle.std.proofs.Math.Nat.{add-mul-mod_self_left, add-mul-div_left, mul_comm, mul-le-mul_left, mul-zero, mul-one, one-le-pow, pow-zero, pow-succ'}
 use Rattle.std.specs.List.{AllByRecursion}
 use Rattle.std.specs.Simd.{first_chunks}
 use Rattle.std.specs.Simd.Lanes.{number_l, digits_l}
@@ -32,7 +32,7 @@ digits-front q (suc k) zero x few = absurd (omega (arith, few))
 digits-front q (suc k) (suc n) x few =
     ap (λ l. x % q ∷ l) (digits-front q k n (x / q) (omega (arith, few)))
 
--- are those of its lowest part
+-- the first digits of a number are the digits of its lowest part
 digits-low : (q k low high : ℕ) → 0 < q
     → digits_l q k (low + q ^ k * high) ≡ digits_l q k low
 digits-low q zero low high pos = refl
@@ -45,7 +45,7 @@ digits-low q (suc k) low high pos =
     ∷ (ap (digits_l q k) (add-mul-div_left low rest {y = q} pos)
     ∙ digits-low q k (low / q) high pos) i)
 
--- the number of the first lanes, and that of the others
+-- the number of lanes, from the first ones and the others
 number-parts : (p m : ℕ) (xs : List ℕ) → m ≤ length xs
     → number_l p xs ≡ number_l p (take m xs) + p ^ m * number_l p (drop m xs)
 number-parts p zero xs few = omega (arith, ap (λ n. n * number_l p xs) (pow-zero p))
@@ -65,7 +65,7 @@ lanes-front p q m k n xs pos few within same =
     ∙ ap (digits_l q k) (number-parts p m xs within ∙ ap (λ s. low + s * high) (sym same))
     ∙ digits-low q k low high pos
 
--- the first groups of a list are those of its front
+-- the first groups of a list are the groups of its front
 pub groups-front : (size count : ℕ) (xs : List ℕ)
     → first_chunks size count (take (count * size) xs) ≡ first_chunks size count xs
 groups-front size zero xs = refl
@@ -123,3 +123,56 @@ module _ (order : BitOrder) (size : ℕ) where
       ∙ relaned-words order size half count (omega (arith, part_is, narrow)) (h * h) n (n + n)
       (bytes * n) values (long ∙ omega arith) halves)
       ∙ words-step order size half count part part_is narrow n values long
+
+  -- the first words of four values, from lanes of two
+  pub fours-front : size ≤ 8 → (n k : ℕ) (values pairs : List ℕ) → n ≤ k
+      → n * 4 ≤ length values → AllByRecursion (λ value. value < 2 ^ size) (take (n * 4) values)
+      → pairs ≡ map (joined order 8 size) (digits_l 65536 (2 * k) (number_l 256 values))
+      → take n (map (joined order 16 (2 * size)) (digits_l 4294967296 k
+      (number_l 256 (digits_l 256 (4 * k) (number_l 65536 pairs)))))
+      ≡ map (word_of order size 4) (first_chunks 4 n values)
+  fours-front narrow n k values pairs few within small is =
+      let front = take (n * 4) values in
+      let twice : n * 4 ≡ (n + n) + (n + n) = omega arith in
+      let long : length front ≡ n * 4 = length-take-le (n * 4) values within in
+      let shown = digits_l 65536 (2 * k) (number_l 256 values) in
+      let lanes : length pairs ≡ 2 * k =
+      ap length is ∙ length-map shown (joined order 8 size)
+      ∙ length-digits 65536 (2 * k) (number_l 256 values) in
+      let first = ap (take (n + n)) is
+      ∙ pairs-front narrow (n + n) (2 * k) values (omega (arith, few)) (omega (arith, within))
+      (subst (λ len. AllByRecursion (λ value. value < 2 ^ size) (take len values)) twice small)
+      ∙ ap (λ len. map (word_of order size 2) (first_chunks 2 (n + n) (take len values)))
+      (sym twice) in
+      next-front 16 2 (2 * size) 4 (mul_comm 2 size) (omega (arith, narrow)) refl n k (4 * k) pairs
+      front few (omega (arith, few)) (omega (arith, few, lanes)) (long ∙ omega arith) first
+      ∙ ap (map (word_of order size 4)) (groups-front 4 n values)
+
+  -- the first words of eight values, from lanes of two and of four
+  pub eights-front : size ≤ 8 → (n k : ℕ) (values pairs fours : List ℕ) → n ≤ k
+      → n * 8 ≤ length values → AllByRecursion (λ value. value < 2 ^ size) (take (n * 8) values)
+      → pairs ≡ map (joined order 8 size) (digits_l 65536 (2 * (2 * k)) (number_l 256 values))
+      → fours ≡ map (joined order 16 (2 * size)) (digits_l 4294967296 (2 * k)
+      (number_l 256 (digits_l 256 (4 * (2 * k)) (number_l 65536 pairs))))
+      → take n (map (joined order 32 (4 * size)) (digits_l 18446744073709551616 k
+      (number_l 256 (digits_l 256 (8 * k) (number_l 4294967296 fours)))))
+      ≡ map (word_of order size 8) (first_chunks 8 n values)
+  eights-front narrow n k values pairs fours few within small pairs_are is =
+      let front = take (n * 8) values in
+      let twice : n * 8 ≡ (n + n) * 4 = omega arith in
+      let long : length front ≡ n * 8 = length-take-le (n * 8) values within in
+      let shown = number_l 256 (digits_l 256 (4 * (2 * k)) (number_l 65536 pairs)) in
+      let lanes : length fours ≡ 2 * k =
+      ap length is
+      ∙ length-map (digits_l 4294967296 (2 * k) shown) (joined order 16 (2 * size))
+      ∙ length-digits 4294967296 (2 * k) shown in
+      let first = ap (take (n + n)) is
+      ∙ fours-front narrow (n + n) (2 * k) values pairs (omega (arith, few))
+      (omega (arith, within))
+      (subst (λ len. AllByRecursion (λ value. value < 2 ^ size) (take len values)) twice small)
+      pairs_are
+      ∙ ap (map (word_of order size 4)) (sym (groups-front 4 (n + n) values)
+      ∙ ap (λ len. first_chunks 4 (n + n) (take len values)) (sym twice)) in
+      next-front 32 4 (4 * size) 8 (mul_comm 4 size) (omega (arith, narrow)) refl n k (8 * k) fours
+      front few (omega (arith, few)) (omega (arith, few, lanes)) (long ∙ omega arith) first
+      ∙ ap (map (word_of order size 8)) (groups-front 8 n values)

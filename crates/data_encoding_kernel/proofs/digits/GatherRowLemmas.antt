@@ -14,7 +14,7 @@ use Rattle.std.specs.Simd.Lanes.{Each1, zip2, sel_l, mask_l, pick_l, top}
 use Rattle.std.specs.List.{prefix_len}
 use lib.Count.{count_trailing_zeros}
 use Rattle.data_encoding_kernel.specs.Values.{AreEntries, IsRow, chosen_by, in_row}
-use Rattle.data_encoding_kernel.proofs.digits.LaneLemmas.{selected}
+use Rattle.data_encoding_kernel.proofs.digits.LaneLemmas.{select-mapped}
 use Rattle.data_encoding_meaning.proofs.lists.RepeatLemmas.{get_or-repeats}
 
 abbrev pub repeats : ℕ → List ℕ → List ℕ
@@ -90,9 +90,9 @@ all-below limit count lanes long few h =
     none-above limit count lanes long few (eqb-true _ 0 (true-twice _ h))
 
 -- sixteen entries, as they are loaded
-pub row-of : (start : ℕ) (values : List ℕ)
+pub row-loaded : (start : ℕ) (values : List ℕ)
     → IsRow values start (take 16 (take 16 (drop start values)))
-row-of start values k h =
+row-loaded start values k h =
     get_or-take 16 (take 16 (drop start values)) k 0 h ∙ get_or-take 16 (drop start values) k 0 h
     ∙ get_or-drop start values k 0
 
@@ -129,11 +129,12 @@ repeated-row (suc times) row long =
     ∙ (λ i. (pick_l-range_with_len 0 (row ++ row) 0 16 (omega (arith, length-append row row, long))
     ∙ take_at row row 16 long) i ++ repeated-row times row long i)
 
--- what a repeated table of sixteen entries has for bytes
-pub in_lanes : (times : ℕ) (entry : ℕ → ℕ) (table bytes : List ℕ) → length bytes ≡ times * 16
+-- the entries of bytes in a repeated table of sixteen entries
+pub repeated-looked_up : (times : ℕ) (entry : ℕ → ℕ) (table bytes : List ℕ)
+    → length bytes ≡ times * 16
     → ((place : ℕ) → place < times * 16 → get_or table place 0 ≡ entry (place % 16))
     → swz_l w8 16 table 0 (places (times * 16) bytes) ≡ map (λ byte. entry (byte % 16)) bytes
-in_lanes times entry table bytes long has =
+repeated-looked_up times entry table bytes long has =
     let count = times * 16 in
     let js = places count bytes in
     let shown = λ (byte : ℕ). entry (byte % 16) in
@@ -153,18 +154,18 @@ in_lanes times entry table bytes long has =
     ∙ has place (omega (arith, here, within, long)) ∙ ap entry (omega (arith, here))
     ∙ sym (get_or-map shown bytes i 0 0 within))
 
--- what a row has for bytes
-pub looked-up : (times : ℕ) (values row bytes : List ℕ) (start : ℕ) → length row ≡ 16
+-- the entries of bytes in a row
+pub row-looked_up : (times : ℕ) (values row bytes : List ℕ) (start : ℕ) → length row ≡ 16
     → length bytes ≡ times * 16 → IsRow values start row
     → swz_l w8 16 (repeats times row) 0 (places (times * 16) bytes)
     ≡ map (in_row values start) bytes
-looked-up times values row bytes start sixteen long is_row =
-    in_lanes times (λ k. slice_index values (start + k)) (repeats times row) bytes long
+row-looked_up times values row bytes start sixteen long is_row =
+    repeated-looked_up times (λ k. slice_index values (start + k)) (repeats times row) bytes long
     (λ place h.
     get_or-repeats times row place (subst (λ n. place < times * n) (sym sixteen) h)
     ∙ ap (λ n. get_or row (place % n) 0) sixteen ∙ is_row (place % 16) (omega arith))
 
--- the lanes in which a bit is set
+-- the lanes with a bit that is set
 abbrev pub up : ℕ → ℕ → ℕ
 up a b = a * 2 ^ b % 2 ^ 8
 
@@ -181,7 +182,7 @@ chosen-high count shown f g bytes lanes long lanes_are =
     ∙ ap (map (leb 128)) lanes_are
     ∙ map-map (leb 128) shown bytes in
     ap (λ l. sel_l l (map f bytes) (map g bytes)) tests
-    ∙ selected (λ byte. leb 128 (shown byte)) f g bytes
+    ∙ select-mapped (λ byte. leb 128 (shown byte)) f g bytes
 
 pub chosen-lanes : (shift count : ℕ) (f g : ℕ → ℕ) (bytes : List ℕ) → length bytes ≡ count
     → sel_l (map (top 7) (zip2 at_most (replicate count 128)
@@ -191,7 +192,7 @@ chosen-lanes shift count f g bytes long =
     chosen-high count (λ byte. up byte shift) f g bytes (zip2 up bytes (replicate count shift)) long
     (zip2_splat up bytes count shift long)
 
--- what is chosen from all rows
+-- the choice from all rows
 abbrev pub of_rows : List ℕ → ℕ → ℕ
 of_rows values =
     chosen_by 1
@@ -200,10 +201,11 @@ of_rows values =
     (chosen_by 2 (chosen_by 3 (in_row values 48) (in_row values 32))
     (chosen_by 3 (in_row values 16) (in_row values 0)))
 
--- what both sides give, each if the bit is as it needs
-by-bit : (byte is shift x y : ℕ) → (128 ≤ up byte shift → x ≡ is) → (up byte shift < 128 → y ≡ is)
+-- a choice by a bit, if both sides are right where they are chosen
+chosen-by_bit : (byte is shift x y : ℕ) → (128 ≤ up byte shift → x ≡ is)
+    → (up byte shift < 128 → y ≡ is)
     → cond (leb 128 (up byte shift)) x y ≡ is
-by-bit byte is shift x y set clear = go (leb 128 (up byte shift)) refl
+chosen-by_bit byte is shift x y set clear = go (leb 128 (up byte shift)) refl
   where
     go : (b : Bool) → leb 128 (up byte shift) ≡ b → cond b x y ≡ is
     go true e = set (leb-true 128 (up byte shift) e)
@@ -212,7 +214,7 @@ by-bit byte is shift x y set clear = go (leb 128 (up byte shift)) refl
 of_rows-is : (values : List ℕ) (byte : ℕ) → byte < 128
     → of_rows values byte ≡ slice_index values byte
 of_rows-is values byte h =
-    let by = by-bit byte (slice_index values byte) in
+    let by = chosen-by_bit byte (slice_index values byte) in
     by 1 _ _
     (λ a. by 2 _ _ (λ b. by 3 _ _ (λ c. at 112 (omega arith)) (λ c. at 96 (omega arith)))
     (λ b. by 3 _ _ (λ c. at 80 (omega arith)) (λ c. at 64 (omega arith))))

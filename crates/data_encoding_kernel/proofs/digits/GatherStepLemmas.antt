@@ -15,7 +15,7 @@ all-each : {X : Type 0} (P : X → Type 0) (xs : List X) → Each1 P xs → AllB
 all-each P [] h = tt
 all-each P (x ∷ xs) h = (h.0, all-each P xs h.1)
 
--- lanes of this many bits, twice those of a half
+-- lanes of twice the bits of a half
 module _ (half : ℕ) where
   abbrev pub added : ℕ → ℕ → ℕ
   added a b = (a + b) % 2 ^ (half + half)

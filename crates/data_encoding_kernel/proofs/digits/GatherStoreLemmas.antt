@@ -1,5 +1,5 @@
 -- The bytes of words in lanes.
-use Rattle.std.proofs.Common.{◌≡◌, ℕ, ◌+◌, ◌-◌, ◌*◌, ◌/◌, ◌%◌, ◌^◌, ◌<◌, ◌≤◌, List, [], ◌∷◌, ◌++◌, length, length-append, length-take-le, take, drop, map, refl, sym, ap, ◌∙◌, arith}
+use Rattle.std.proofs.Common.{◌≡◌, ℕ, ◌+◌, ◌-◌, ◌*◌, ◌/◌, ◌%◌, ◌^◌, ◌<◌, ◌≤◌, List, [], ◌∷◌, ◌++◌, length, length-append, length-take-le, take, drop, map, refl, sym, ap, ◌∙◌, subst, arith}
 use Rattle.std.proofs.lemmas.List.{append-nil, length-drop, length-map, map-id, nil_from_length, take_at}
 use Rattle.std.proofs.Math.Nat.{mod-lt}
 use Rattle.std.proofs.lemmas.Simd.{put_chunk_is, put_chunk_whole}
@@ -16,7 +16,7 @@ use Rattle.data_encoding_kernel.proofs.digits.LaneLemmas.{by_eight, by_four, by_
 use Rattle.data_encoding_kernel.proofs.digits.GatherWordLemmas.{number-of-digits}
 
 -- narrower lanes hold them
-pub narrow-enough : (w : Width) (few : ℕ) → few ≤ 2 ^ bits w → (words : List ℕ)
+narrow-enough : (w : Width) (few : ℕ) → few ≤ 2 ^ bits w → (words : List ℕ)
     → AllByRecursion (λ word. word < few) words → Each1 (Fits w) words
 narrow-enough w few h [] all = tt
 narrow-enough w few h (word ∷ words) all =
@@ -59,7 +59,7 @@ abbrev pub bytes_of_words : BitOrder → ℕ → List ℕ → List ℕ
 bytes_of_words order count words =
     flat_map (λ word. map (digit order 8 count word) (range_with_len 0 count)) words
 
--- the positions of the bytes of this many words in lanes
+-- the positions of the bytes of `count` words in lanes
 abbrev places : BitOrder → ℕ → ℕ → ℕ → List ℕ
 places MostSignificantFirst size lane count =
     map (λ k. k / size * lane + (size - 1 - k % size)) (range_with_len 0 (count * size))
@@ -190,12 +190,19 @@ stored-ones order words output exact h =
     ∙ one-bytes order words h
 
 -- the lowest bits of words
-pub low-below : (few : ℕ) → 0 < few → (words : List ℕ)
+low-below : (few : ℕ) → 0 < few → (words : List ℕ)
     → AllByRecursion (λ word. word < few) (map (λ word. word % few) words)
 low-below few some [] = tt
 low-below few some (word ∷ words) = (mod-lt word some, low-below few some words)
 
--- have their lowest bytes
+-- fit narrower lanes
+pub low-fits : (w : Width) (few : ℕ) → 0 < few → few ≤ 2 ^ bits w → (words : List ℕ)
+    {low : List ℕ} → low ≡ map (λ word. word % few) words → Each1 (Fits w) low
+low-fits w few some most words {low} is =
+    narrow-enough w few most low
+    (subst (AllByRecursion (λ word. word < few)) (sym is) (low-below few some words))
+
+-- and have their lowest bytes
 low-bytes : (order : BitOrder) (count few : ℕ)
     → ((word : ℕ) → map (digit order 8 count (word % few)) (range_with_len 0 count)
     ≡ map (digit order 8 count word) (range_with_len 0 count))
@@ -231,15 +238,30 @@ three-low order word = by_order order where
   by_order MostSignificantFirst = λ i. third i ∷ second i ∷ first i ∷ []
   by_order LeastSignificantFirst = λ i. first i ∷ second i ∷ third i ∷ []
 
-pub low-threes : (order : BitOrder) (words : List ℕ)
+low-threes : (order : BitOrder) (words : List ℕ)
     → bytes_of_words order 3 (map (λ word. word % 2 ^ 32) words) ≡ bytes_of_words order 3 words
 low-threes order words = low-bytes order 3 (2 ^ 32) (three-low order) words
 
-pub stored-low : (order : BitOrder) (words output : List ℕ) → length output ≡ length words
-    → put_chunk 0 output (map (λ x. x) (map (λ word. word % 256) words))
-    ≡ bytes_of_words order 1 words
-stored-low order words output exact =
-    let low = map (λ word. word % 256) words in
-    stored-ones order low output (exact ∙ sym (length-map words (λ word. word % 256)))
+-- three lowest bytes, picked from the lowest 32 bits
+pub threes-of-low : (order : BitOrder) {count : ℕ} {picks : List ℕ → List ℕ}
+    → ((low : List ℕ) → length low ≡ count → AllByRecursion (λ word. word < 2 ^ 32) low
+    → picks low ≡ bytes_of_words order 3 low)
+    → (words low : List ℕ) → length words ≡ count → low ≡ map (λ word. word % 2 ^ 32) words
+    → picks low ≡ bytes_of_words order 3 words
+threes-of-low order {count} {picks} picked_are words low long is =
+    ap picks is
+    ∙ picked_are (map (λ word. word % 2 ^ 32) words)
+    (length-map words (λ word. word % 2 ^ 32) ∙ long) (low-below (2 ^ 32) (omega arith) words)
+    ∙ low-threes order words
+
+-- one lowest byte, stored as it is
+pub stored-low : (order : BitOrder) (words low output : List ℕ) {bytes : ℕ} → bytes ≡ 1
+    → low ≡ map (λ word. word % 256) words → length output ≡ length words
+    → put_chunk 0 output (map (λ x. x) low) ≡ bytes_of_words order bytes words
+stored-low order words low output {bytes} one is exact =
+    let lowest = map (λ word. word % 256) words in
+    ap (λ (l : List ℕ). put_chunk 0 output (map (λ x. x) l)) is
+    ∙ stored-ones order lowest output (exact ∙ sym (length-map words (λ word. word % 256)))
     (low-below 256 (omega arith) words)
     ∙ low-bytes order 1 256 (one-low order) words
+    ∙ ap (λ n. bytes_of_words order n words) (sym one)

@@ -1,4 +1,4 @@
--- The words of groups of values, from lanes whose halves are the words of half groups.
+-- The words of groups of values, from lanes with the words of half groups as halves.
 use Rattle.std.proofs.Common.{◌≡◌, ℕ, zero, suc, ◌+◌, ◌-◌, ◌*◌, ◌/◌, ◌%◌, ◌^◌, ◌<◌, ◌≤◌, List, [], ◌∷◌, ◌++◌, length, map, take, drop, replicate, reverse, refl, sym, ap, ◌∙◌, subst, arith, length-append, length-take-le}
 use Rattle.std.proofs.lemmas.List.{append-nil, drop-drop, length-drop, length-reverse, reverse-append}
 use Rattle.std.proofs.lemmas.List.Concat.{flat_map-append}
@@ -66,7 +66,7 @@ pairs-of p (suc n) (a ∷ b ∷ xs) h e =
     ap (λ m. m / (p * p)) whole ∙ div-mul-add rest (p * p) pair below in
     λ i. low i ∷ (ap (digits_l (p * p) n) high ∙ pairs-of p n xs h.1.1 (omega (arith, e))) i
 
--- two halves of this many bits
+-- two halves of n bits
 weight-low : (n : ℕ) → 2 ^ (n * 0) ≡ 1
 weight-low n = ap (λ m. 2 ^ m) (mul-zero n)
 
@@ -213,7 +213,7 @@ module _ (order : BitOrder) (size : ℕ) where
         ∷ (rest ∙ ap (λ l. map (word both) (first_chunks both n l)) (drop-drop count count values))
         i
 
-    -- a step by halves: from the words of this many values to those of twice as many
+    -- a step by halves: from the words of `count` values to the words of twice as many
     pub words-step : (n : ℕ) (values : List ℕ) → length values ≡ (count + count) * n
         → map (joined order half part) (digits_l (2 ^ half * 2 ^ half) n
         (number_l (2 ^ half) (map (word count) (first_chunks count (n + n) values))))

@@ -78,7 +78,7 @@ module _ (input : List ℕ) (small : (k : ℕ) → get_or input k 0 < 256) where
           → map (λ k. get_or xs k 0) (range_with_len 0 n) ≡ take n xs
       get-all n xs h = pick_l-range_with_len 0 xs 0 n (omega (arith, h))
 
--- lanes of this many bytes are the words that their bytes make
+-- lanes of k bytes are the words of their bytes
 words-of-bytes : (order : BitOrder) (size k count q : ℕ) (input : List ℕ) → q ≡ 256 ^ k
     → 2 ^ (8 * size) ≤ q → (lane : ℕ → List ℕ) → ((group : ℕ) → length (lane group) ≡ k)
     → ((group : ℕ) → group < count → number_l 256 (lane group) ≡ group_word order size input group)
@@ -96,7 +96,7 @@ words-of-bytes order size k count q input e wide lane long is =
     ∙ ap (λ n. digits_l q n (number_l q words)) (sym len)
     ∙ digits-of-number q words below
 
--- the bytes of the lane of a group, the lowest first, if this many bytes are loaded
+-- the bytes of the lane of a group, the lowest first, from the bytes `loaded`
 abbrev lane : BitOrder → ℕ → ℕ → List ℕ → ℕ → List ℕ
 lane order size more loaded group =
     lowest_first order (pick_l 0 loaded (range_with_len (size * group) size)) ++ replicate more 0

@@ -24,7 +24,7 @@ square n =
     pow-succ' (2 ^ n) 0 ∙ ap (λ m. 2 ^ n * m) (pow-zero (2 ^ n)) ∙ omega arith in
     pow-add 2 n n ∙ ap (λ m. 2 ^ n * m) (sym one) ∙ sym (pow-succ' (2 ^ n) 1)
 
--- fields that are split by a mask for each half, the higher of which moves up
+-- fields that are split by a mask for each half. The higher half moves up
 abbrev halved : ℕ → ℕ → ℕ → ℕ → ℕ → ℕ
 halved half up bits count =
     halved_lane bits (number_l (2 ^ (half + up + (half + up))) (replicate count (2 ^ half - 1)))

@@ -18,7 +18,7 @@ abbrev from_last : ℕ → List ℕ
 from_last count =
     map (λ k. count * (k / count) % (8 * count) + (count - 1 - k % count)) (range_with_len 0 64)
 
--- what is picked from the digits of eight words
+-- a selection from the digits of eight words
 abbrev Picks : ℕ → ℕ → List ℕ → BitOrder → (List ℕ → List ℕ) → List ℕ → Type 0
 Picks width count ks order times words =
     pick_l 0 (flat_map (digits_of LeastSignificantFirst width count) words
@@ -109,13 +109,13 @@ module _ (order : BitOrder) (width count : ℕ) where
   abbrev joined : List ℕ → List ℕ
   joined words = flat_map (digits_of order width count) words
 
-  pub held : (size : ℕ) (input : List ℕ) (times : List ℕ → List ℕ) {lanes : List ℕ}
+  pub digits-of_joined : (size : ℕ) (input : List ℕ) (times : List ℕ → List ℕ) {lanes : List ℕ}
       → ((a b c d e f g h : ℕ)
       → (let ws = a ∷ b ∷ c ∷ d ∷ e ∷ f ∷ g ∷ h ∷ [] in
       take (8 * count) (joined (times ws)) ≡ joined ws))
       → lanes ≡ joined (times (group_words order size 8 input))
       → HasDigits order input lanes width size count
-  held size input times front is =
+  digits-of_joined size input times front is =
       let words = group_words order size 8 input in record {
         digits =
             ap (take (8 * count)) is
@@ -127,13 +127,13 @@ module _ (order : BitOrder) (width count : ℕ) where
       }
 
   -- and lanes that hold fewer groups first
-  pub held-first : (few size : ℕ) (input words : List ℕ) {lanes : List ℕ}
+  pub first_digits-of_joined : (few size : ℕ) (input words : List ℕ) {lanes : List ℕ}
       → take (few * count) (joined words) ≡ joined (group_words order size few input)
       → lanes ≡ joined words → record {
         digits : take (few * count) lanes ≡ joined (group_words order size few input);
         below : AllByRecursion (λ digit. digit < 2 ^ width) lanes;
       }
-  held-first few size input words front is = record {
+  first_digits-of_joined few size input words front is = record {
     digits = ap (take (few * count)) is ∙ front;
     below =
         rw is (all_pieces (λ digit. digit < 2 ^ width) (digits_of order width count) words

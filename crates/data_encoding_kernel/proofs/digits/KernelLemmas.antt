@@ -102,7 +102,7 @@ bytes_by order width values =
     (runs 8 (take (length (flat_map (bits_of order width) values) / 8 * 8)
     (flat_map (bits_of order width) values)))
 
--- the first bytes of a word of values are those of their bits
+-- the first bytes of a word of values are the bytes of their bits
 bytes_by-word : (order : BitOrder) (width bytes count n : ℕ) (values : List ℕ)
     → width * count ≡ 8 * bytes → length values ≤ count → n ≡ width * length values / 8
     → map (digit order 8 bytes (word_of order width count values)) (range_with_len 0 n)

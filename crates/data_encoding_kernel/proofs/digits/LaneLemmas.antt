@@ -1,4 +1,4 @@
--- Lanes: digits that make a wider lane, and what is computed lane by lane.
+-- Lanes: the digits that make a wider lane, and computation lane by lane.
 use Rattle.std.proofs.Common.{◌≡◌, ℕ, zero, suc, ◌+◌, ◌*◌, ◌/◌, ◌%◌, ◌^◌, ◌<◌, ◌≤◌, Bool, cond, List, [], ◌∷◌, ◌++◌, length, map, replicate, bit_and, bit_or, refl, sym, ap, ◌∙◌, arith}
 use Rattle.std.proofs.Math.Nat.{pow-zero, pow-succ', mod-lt}
 use Rattle.std.proofs.lemmas.Nat.{div-mul-add, mod-mul-add, pow_pos}
@@ -66,7 +66,7 @@ bytes-of-lanes k q n e f ws many long small =
     (λ i. digits_l 256 (all i) (number-of-wide 256 k q e f ws long i))
     ∙ digits-of-number 256 (flat_map f ws) (all_pieces (λ x. x < 256) f ws small)
 
--- what holds for each value of a function
+-- a property of each value of a function
 pub all_mapped : {X Y : Type 0} (P : Y → Type 0) (f : X → Y) (xs : List X) → ((x : X) → P (f x))
     → AllByRecursion P (map f xs)
 all_mapped P f [] h = tt
@@ -78,11 +78,12 @@ digits_of-below order width count bound word h =
     all_mapped (λ x. x < bound) (digit order width count word) (range_with_len 0 count)
     (λ k. omega (arith, h, mod-lt (word / 2 ^ weight order width count k) (pow_pos width)))
 
--- what is selected lane by lane
-pub selected : {V X : Type 0} (test : V → Bool) (f g : V → X) (vs : List V)
+-- a selection lane by lane
+pub select-mapped : {V X : Type 0} (test : V → Bool) (f g : V → X) (vs : List V)
     → sel_l (map test vs) (map f vs) (map g vs) ≡ map (λ v. cond (test v) (f v) (g v)) vs
-selected test f g [] = refl
-selected test f g (v ∷ vs) = ap (λ l. cond (test v) (f v) (g v) ∷ l) (selected test f g vs)
+select-mapped test f g [] = refl
+select-mapped test f g (v ∷ vs) =
+    ap (λ l. cond (test v) (f v) (g v) ∷ l) (select-mapped test f g vs)
 
 -- functions that agree if P holds
 pub map-same : {V X : Type 0} (P : V → Type 0) (f g : V → X) → ((v : V) → P v → f v ≡ g v)
@@ -91,11 +92,11 @@ map-same P f g same [] h = refl
 map-same P f g same (v ∷ vs) h = λ i. same v h.0 i ∷ map-same P f g same vs h.1 i
 
 -- lanes that are mapped once more
-pub mapped-on : (f g : ℕ → ℕ) (words : List ℕ) {xs ys : List ℕ} → xs ≡ map f words → ys ≡ map g xs
-    → ys ≡ map (λ word. g (f word)) words
-mapped-on f g words is more = more ∙ ap (map g) is ∙ map-map g f words
+pub mapped-twice : (f g : ℕ → ℕ) (words : List ℕ) {xs ys : List ℕ} → xs ≡ map f words
+    → ys ≡ map g xs → ys ≡ map (λ word. g (f word)) words
+mapped-twice f g words is more = more ∙ ap (map g) is ∙ map-map g f words
 
--- what holds for any two lanes
+-- a property of any two lanes
 pub by_two : (P : List ℕ → Type 0) → ((a b : ℕ) → P (a ∷ b ∷ [])) → (ws : List ℕ) → length ws ≡ 2
     → P ws
 by_two P is [] e = absurd (omega (arith, e))
@@ -103,14 +104,14 @@ by_two P is (a ∷ []) e = absurd (omega (arith, e))
 by_two P is (a ∷ b ∷ []) e = is a b
 by_two P is (a ∷ b ∷ x ∷ xs) e = absurd (omega (arith, e))
 
--- what holds for any four lanes
+-- a property of any four lanes
 pub by_four : (P : List ℕ → Type 0) → ((a b c d : ℕ) → P (a ∷ b ∷ c ∷ d ∷ []))
     → (ws : List ℕ) → length ws ≡ 4 → P ws
 by_four P is [] e = absurd (omega (arith, e))
 by_four P is (a ∷ []) e = absurd (omega (arith, e))
 by_four P is (a ∷ b ∷ ws) e = by_two (λ l. P (a ∷ b ∷ l)) (is a b) ws (omega (arith, e))
 
--- what holds for any eight lanes
+-- a property of any eight lanes
 pub by_eight : (P : List ℕ → Type 0)
     → ((a b c d e f g h : ℕ) → P (a ∷ b ∷ c ∷ d ∷ e ∷ f ∷ g ∷ h ∷ [])) → (ws : List ℕ)
     → length ws ≡ 8 → P ws

@@ -7,11 +7,11 @@ use Rattle.std.proofs.lemmas.Simd.{swz_l, SwzOk, SwzOk-from_below, length-swz_l,
 use Rattle.std.specs.Cmp.{first_so, second_so}
 use Rattle.std.specs.List.{AllByRecursion, range_with_len}
 use Rattle.std.specs.Simd.Lanes.{Each1, chunk, zip2, sel_l, pick_l, top}
-use Rattle.data_encoding_kernel.specs.declared.lanes.offset_alphabet.OffsetAlphabet.{OffsetAlphabet}
+use Rattle.data_encoding_kernel.specs.declared.lanes.encode.offset_alphabet.OffsetAlphabet.{OffsetAlphabet}
 use Rattle.data_encoding_kernel.specs.OffsetAlphabet.{HoldsOffsetAlphabet, offset_symbol, first_of, sums_from}
-use Rattle.data_encoding_kernel.proofs.digits.AffineLemmas.{chosen-equal, counted-at, equal, listed}
+use Rattle.data_encoding_kernel.proofs.digits.AffineLemmas.{chosen-equal, function-at, equal, lanes-from_function}
 use Rattle.data_encoding_kernel.proofs.digits.GatherRowLemmas.{repeated-row, repeats}
-use Rattle.data_encoding_kernel.proofs.digits.LaneLemmas.{selected}
+use Rattle.data_encoding_kernel.proofs.digits.LaneLemmas.{select-mapped}
 use Rattle.data_encoding_meaning.proofs.lists.EachLemmas.{all-at}
 use Rattle.data_encoding_meaning.proofs.lists.RepeatLemmas.{get_or-repeats}
 
@@ -60,12 +60,12 @@ pub places-within : (places : List ℕ) → length places ≡ 64
 places-within places long below =
     SwzOk-from_below w8 16 4 64 0 places refl (omega (arith, long)) (each-below 16 places below)
 
--- what a row has at places
-pub looked-at : (row places : List ℕ) → length row ≡ 16 → length places ≡ 64
+-- the entries of a row at the given places
+pub row-at_places : (row places : List ℕ) → length row ≡ 16 → length places ≡ 64
     → AllByRecursion (λ place. place < 16) places
     → swz_l w8 16 (pick_l 0 (row ++ row) (repeats 4 (range_with_len 0 16))) 0 places
     ≡ map (slice_index row) places
-looked-at row places sixteen long below =
+row-at_places row places sixteen long below =
     ap (λ l. swz_l w8 16 l 0 places) (repeated-row 4 row sixteen)
     ∙ ext_get_or 0 (swz_l w8 16 (repeats 4 row) 0 places) (map (slice_index row) places)
     (length-swz_l w8 16 (repeats 4 row) 0 places ∙ sym (length-map places (slice_index row)))
@@ -82,7 +82,7 @@ looked-at row places sixteen long below =
     ∙ ap (λ n. get_or row n 0) place
     ∙ sym (get_or-map (slice_index row) places i 0 0 within))
 
--- what is added to the values below a bound
+-- the additional offsets of the values below a bound
 pub firsts-are : (alphabet : OffsetAlphabet) (values : List ℕ) → length values ≡ 64
     → sel_l (map (top 7) (zip2 is_less values (replicate 64 alphabet.bound)))
     (replicate 64 alphabet.first) (replicate 64 0)
@@ -94,7 +94,7 @@ firsts-are alphabet values long =
     ∙ zip2_splat ltb values 64 alphabet.bound long in
     (λ i. sel_l (tests i) (splat_is_map values 64 alphabet.first long i)
     (splat_is_map values 64 0 long i))
-    ∙ selected below (λ _. alphabet.first) (λ _. 0) values
+    ∙ select-mapped below (λ _. alphabet.first) (λ _. 0) values
 
 -- and the sums
 pub sums-are : (alphabet : OffsetAlphabet) (values : List ℕ) {places numbers firsts : List ℕ}
@@ -124,8 +124,8 @@ range-below limit start zero h = tt
 range-below limit start (suc count) h =
     (omega (arith, h), range-below limit (start + 1) count (omega (arith, h)))
 
-pub each-few : AllByRecursion (λ value. value < 64) (range_with_len 0 64)
-each-few = range-below 64 0 64 (omega arith)
+pub range-below_64 : AllByRecursion (λ value. value < 64) (range_with_len 0 64)
+range-below_64 = range-below 64 0 64 (omega arith)
 
 same-lane : (one other : ℕ) → cond (eqb one other) 0 1 < 1 → one ≡ other
 same-lane one other passes = grind (arith, nat_tests)
@@ -137,13 +137,14 @@ nat_eq-true : (one other : ℕ) → (one == other) ≡ true → one ≡ other
 nat_eq-true one other same = grind (arith, nat_tests)
 
 -- each sum is the symbol if no lane differs
-pub agreed-all : (alphabet : OffsetAlphabet) (symbols values found : List ℕ) → length symbols ≡ 256
-    → values ≡ range_with_len 0 64 → found ≡ map (offset_symbol alphabet) values
+pub holds-if_equal : (alphabet : OffsetAlphabet) (symbols values found : List ℕ)
+    → length symbols ≡ 256 → values ≡ range_with_len 0 64
+    → found ≡ map (offset_symbol alphabet) values
     → AllByRecursion (λ lane. lane < 1)
     (sel_l (map (top 7) (zip2 equal found (chunk 0 64 (take 64 symbols))))
     (replicate 64 0) (replicate 64 1))
     → HoldsOffsetAlphabet symbols alphabet
-agreed-all alphabet symbols values found long are_values are_found passes = record {
+holds-if_equal alphabet symbols values found long are_values are_found passes = record {
   agrees = λ value h.
       let places = range_with_len 0 64 in
       let own = slice_index symbols in
@@ -151,7 +152,7 @@ agreed-all alphabet symbols values found long are_values are_found passes = reco
       let found_are : found ≡ map (offset_symbol alphabet) places =
       are_found ∙ ap (map (offset_symbol alphabet)) are_values in
       let own_are : chunk 0 64 (take 64 symbols) ≡ map own places =
-      listed own 64 (chunk 0 64 (take 64 symbols))
+      lanes-from_function own 64 (chunk 0 64 (take 64 symbols))
       (length-chunk 0 64 (take 64 symbols)
       (omega (arith, length-take-le 64 symbols (omega (arith, long)))))
       (λ k k_h. get_or-take 64 (take 64 symbols) k 0 k_h ∙ get_or-take 64 symbols k 0 k_h) in
@@ -162,7 +163,7 @@ agreed-all alphabet symbols values found long are_values are_found passes = reco
       let inside : value < length (map lane places) =
       omega (arith, h, length-map-range_with_len lane 0 64) in
       same-lane (offset_symbol alphabet value) (own value)
-      (subst (λ n. n < 1) (counted-at lane 64 value h)
+      (subst (λ n. n < 1) (function-at lane 64 value h)
       (all-at (λ n. n < 1) (map lane places)
       (subst (AllByRecursion (λ n. n < 1)) lanes_are passes) value inside));
 }
@@ -178,8 +179,8 @@ module _ (alphabet : OffsetAlphabet) where
       (first_so (offset_symbol alphabet value == symbol) (sums_from alphabet (value + 1) symbols)
       h))
   sums-at value (symbol ∷ symbols) h (suc k) few =
-      let further : value + suc k ≡ value + 1 + k = omega arith in
-      rw further (sums-at (value + 1) symbols
+      let next : value + suc k ≡ value + 1 + k = omega arith in
+      rw next (sums-at (value + 1) symbols
       (second_so (offset_symbol alphabet value == symbol)
       (sums_from alphabet (value + 1) symbols) h)
       k (omega (arith, few)))
@@ -196,11 +197,11 @@ module _ (alphabet : OffsetAlphabet) where
       let others : sums_from alphabet (value + 1) symbols ≡ true =
       summed-from (value + 1) symbols
       (λ k few.
-      let further : value + suc k ≡ value + 1 + k = omega arith in
-      rw further at (each (suc k) (omega (arith, few)))) in
+      let next : value + suc k ≡ value + 1 + k = omega arith in
+      rw next at (each (suc k) (omega (arith, few)))) in
       rw (first, others) refl
 
-  -- the test shows that the form is that of the table, and the other way round
+  -- the test passes exactly if the form is right for the table
   pub sums-hold : (symbols : List ℕ) → 64 ≤ length symbols
       → sums_from alphabet 0 (take 64 symbols) ≡ true → HoldsOffsetAlphabet symbols alphabet
   sums-hold symbols long h = record {

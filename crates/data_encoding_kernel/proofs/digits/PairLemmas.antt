@@ -110,7 +110,7 @@ five-fits word index =
     (below index, (below (index + 1), tt))
 
 -- six bits a digit, from a word of three bytes
-module _ (word a b c : ℕ) (small_a : a < 256) (small_b : b < 256) (small_c : c < 256)
+module _ (word : ℕ) {a b c : ℕ} (small_a : a < 256) (small_b : b < 256) (small_c : c < 256)
     (is : number_l 256 (c ∷ b ∷ a ∷ []) ≡ word) where
   pub six-first : split_lane 64512 65 32784 16128 (number_l 256 (b ∷ a ∷ []))
       ≡ number_l 256 (six word 0)
@@ -138,7 +138,7 @@ module _ (word a b c : ℕ) (small_a : a < 256) (small_b : b < 256) (small_c : c
       low = omega arith
 
 -- five bits a digit, from a word of five bytes
-module _ (word a b c d e : ℕ) (small_a : a < 256) (small_b : b < 256) (small_c : c < 256)
+module _ (word : ℕ) {a b c d e : ℕ} (small_a : a < 256) (small_b : b < 256) (small_c : c < 256)
     (small_d : d < 256) (small_e : e < 256)
     (is : number_l 256 (e ∷ d ∷ c ∷ b ∷ a ∷ []) ≡ word) where
   pub five-first : split_lane 63488 33 32772 7936 (number_l 256 (b ∷ a ∷ []))
@@ -236,7 +236,7 @@ module _ (input : List ℕ) (long : 16 ≤ length input)
       let b = byte-below (3 * k + 1) (omega (arith, h)) in
       let c = byte-below (3 * k + 1 + 1) (omega (arith, h)) in
       let is = lane-word MostSignificantFirst 3 0 input long small k h in
-      (six-first word _ _ _ a b c is, six-second word _ _ _ a b c is)
+      (six-first word a b c is, six-second word a b c is)
 
   abbrev pub five_of : ℕ → ℕ → List ℕ
   five_of group index = five (group_word MostSignificantFirst 5 input group) index
@@ -262,8 +262,8 @@ module _ (input : List ℕ) (long : 16 ≤ length input)
       let d = byte-below (5 * k + 1 + 1 + 1) (omega (arith, h)) in
       let e = byte-below (5 * k + 1 + 1 + 1 + 1) (omega (arith, h)) in
       let is = lane-word MostSignificantFirst 5 0 input long small k h in (
-        five-first word _ _ _ _ _ a b c d e is,
-        five-second word _ _ _ _ _ a b c d e is,
-        five-third word _ _ _ _ _ a b c d e is,
-        five-fourth word _ _ _ _ _ a b c d e is,
+        five-first word a b c d e is,
+        five-second word a b c d e is,
+        five-third word a b c d e is,
+        five-fourth word a b c d e is,
       )

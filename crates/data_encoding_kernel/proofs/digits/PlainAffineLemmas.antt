@@ -4,7 +4,7 @@ use Rattle.std.proofs.lemmas.Bool.Decides.{nat_tests}
 use Rattle.std.proofs.lemmas.List.{get_or-replicate, get_or-take}
 use Rattle.std.specs.Cmp.{first_so, second_so}
 use Rattle.std.specs.Int.Bits.{and_zero_l}
-use Rattle.data_encoding_kernel.specs.declared.lanes.affine.Affine.{Affine}
+use Rattle.data_encoding_kernel.specs.declared.lanes.decode.affine.Affine.{Affine}
 use Rattle.data_encoding_kernel.specs.Affine.{HoldsAffine, affine_entry, affine_value, agrees_from, bits_of_rows, symbol_bit}
 use Rattle.data_encoding_kernel.specs.Values.{in_row}
 
@@ -29,11 +29,11 @@ module _ (affine : Affine) where
       (first_so (passes (affine_entry affine byte) entry) (agrees_from affine (byte + 1) entries) h)
       (rw here at small))
   entries-agree byte (entry ∷ entries) h (suc k) few small =
-      let further : byte + suc k ≡ byte + 1 + k = omega arith in
-      rw further (entries-agree (byte + 1) entries
+      let next : byte + suc k ≡ byte + 1 + k = omega arith in
+      rw next (entries-agree (byte + 1) entries
       (second_so (passes (affine_entry affine byte) entry)
       (agrees_from affine (byte + 1) entries) h)
-      k (omega (arith, few)) (rw further at small))
+      k (omega (arith, few)) (rw next at small))
 
   agreed-from : (byte : ℕ) (entries : List ℕ)
       → ((k : ℕ) → k < length entries → affine_entry affine (byte + k) < 128
@@ -47,11 +47,11 @@ module _ (affine : Affine) where
       let others : agrees_from affine (byte + 1) entries ≡ true =
       agreed-from (byte + 1) entries
       (λ k few.
-      let further : byte + suc k ≡ byte + 1 + k = omega arith in
-      rw further at (each (suc k) (omega (arith, few)))) in
+      let next : byte + suc k ≡ byte + 1 + k = omega arith in
+      rw next at (each (suc k) (omega (arith, few)))) in
       rw (first, others) refl
 
-  -- the test shows that the form is that of the table, and the other way round
+  -- the test passes exactly if the form is right for the table
   pub agrees-holds : (values : List ℕ) → 128 ≤ length values
       → agrees_from affine 0 (take 128 values) ≡ true → HoldsAffine values affine
   agrees-holds values long h = record {

@@ -8,8 +8,8 @@ use Rattle.std.proofs.lemmas.Simd.{swz_l, zip2_splat, tops_compared, map-map, pi
 use Rattle.std.proofs.Math.Nat.{mod-eq_of_lt}
 use Rattle.std.specs.List.{AllByRecursion, range_with_len}
 use Rattle.std.specs.Simd.Lanes.{zip2, sel_l, top, pick_l, chunk}
-use Rattle.data_encoding_kernel.proofs.digits.GatherRowLemmas.{in_lanes, places}
-use Rattle.data_encoding_kernel.proofs.digits.LaneLemmas.{selected, map-same}
+use Rattle.data_encoding_kernel.proofs.digits.GatherRowLemmas.{repeated-looked_up, places}
+use Rattle.data_encoding_kernel.proofs.digits.LaneLemmas.{select-mapped, map-same}
 use Rattle.data_encoding_kernel.proofs.digits.WordLemmas.{map-range-same}
 use Rattle.data_encoding_meaning.proofs.lists.EachLemmas.{map-twice}
 
@@ -32,7 +32,7 @@ pub in_rows : (entry : ℕ → ℕ) (rows values : List ℕ) → length values �
     → rows ≡ map (λ lane. entry (lane % 16)) (range_with_len 0 64)
     → swz_l w8 16 rows 0 (places 64 values) ≡ map (λ value. entry (value % 16)) values
 in_rows entry rows values long is =
-    in_lanes 4 entry rows values long
+    repeated-looked_up 4 entry rows values long
     (λ place h. ap (λ l. get_or l place 0) is
     ∙ get_or-map-range_with_len (λ k. entry (k % 16)) 0 64 place place 0 h (omega arith))
 
@@ -75,7 +75,7 @@ module _ (bit : ℕ) (entry low high : ℕ → ℕ)
       → lows ≡ map low values → sel_l (lanes_with bit values) highs lows ≡ map entry values
   from_halves values highs lows long is_high is_low =
       (λ i. sel_l (lanes_with-are bit values long i) (is_high i) (is_low i))
-      ∙ selected (has bit) high low values
+      ∙ select-mapped (has bit) high low values
       ∙ same values
     where
       same : (vs : List ℕ)

@@ -117,10 +117,10 @@ word_of-nil LeastSignificantFirst size count = word-least size count []
 word_of-nil MostSignificantFirst size count =
     word-most size count [] ∙ mul-zero (2 ^ (size * count - size * 0))
 
-more_least : (size count : ℕ) (digits : List ℕ) (d : ℕ) → d < 2 ^ size
+word-more_least : (size count : ℕ) (digits : List ℕ) (d : ℕ) → d < 2 ^ size
     → word_of LeastSignificantFirst size count (digits ++ d ∷ [])
     ≡ word_of LeastSignificantFirst size count digits + d * 2 ^ (size * length digits)
-more_least size count digits d h =
+word-more_least size count digits d h =
     let bits = flat_map (low_bits size) digits in
     let len : length bits ≡ size * length digits =
     length-pieces size (low_bits size) digits (length-low_bits size) in
@@ -131,16 +131,16 @@ more_least size count digits d h =
     ∙ ap (λ n. number_of_low_bits bits + n) (mul_comm (2 ^ (size * length digits)) d)
     ∙ ap (λ n. n + d * 2 ^ (size * length digits)) (sym (word-least size count digits))
 
-above : (size i r : ℕ) → size * (i + 1 + r) - size * (i + 1) ≡ size * r
-above size i r = omega arith
+bits-above : (size i r : ℕ) → size * (i + 1 + r) - size * (i + 1) ≡ size * r
+bits-above size i r = omega arith
 
-above_all : (size i r : ℕ) → size * (i + 1 + r) - size * i ≡ size * r + size
-above_all size i r = omega arith
+bits-from : (size i r : ℕ) → size * (i + 1 + r) - size * i ≡ size * r + size
+bits-from size i r = omega arith
 
-more_most : (size i r : ℕ) (digits : List ℕ) (d : ℕ) → length digits ≡ i → d < 2 ^ size
+word-more_most : (size i r : ℕ) (digits : List ℕ) (d : ℕ) → length digits ≡ i → d < 2 ^ size
     → word_of MostSignificantFirst size (i + 1 + r) (digits ++ d ∷ [])
     ≡ word_of MostSignificantFirst size (i + 1 + r) digits + d * 2 ^ (size * r)
-more_most size i r digits d is h =
+word-more_most size i r digits d is h =
     let bits = flat_map (bits_of MostSignificantFirst size) digits in
     let n = number_of_low_bits (reverse bits) in
     let count = i + 1 + r in
@@ -156,9 +156,9 @@ more_most size i r digits d is h =
     ∙ ap (λ l. 2 ^ (size * count - size * length (digits ++ d ∷ [])) * number_of_low_bits
     (reverse l)) (flat-more (bits_of MostSignificantFirst size) digits d)
     ∙ (λ j. 2 ^ (size * count - size * len j) * turned j)
-    ∙ ap (λ e. 2 ^ e * (d + 2 ^ size * n)) (above size i r) in
+    ∙ ap (λ e. 2 ^ e * (d + 2 ^ size * n)) (bits-above size i r) in
     let before = word-most size count digits ∙ (λ j. 2 ^ (size * count - size * is j) * n)
-    ∙ ap (λ e. 2 ^ e * n) (above_all size i r) ∙ ap (λ m. m * n) (pow-add 2 (size * r) size) in
+    ∙ ap (λ e. 2 ^ e * n) (bits-from size i r) ∙ ap (λ m. m * n) (pow-add 2 (size * r) size) in
     omega (arith, after, before)
 
 -- a digit more adds that digit times its weight
@@ -167,12 +167,12 @@ pub word_of-more : (order : BitOrder) (size count index : ℕ) (digits : List �
     → word_of order size count (digits ++ d ∷ [])
     ≡ word_of order size count digits + d * 2 ^ weight order size count index
 word_of-more LeastSignificantFirst size count index digits d is h k =
-    more_least size count digits d k
+    word-more_least size count digits d k
     ∙ ap (λ n. word_of LeastSignificantFirst size count digits + d * 2 ^ (size * n)) is
 word_of-more MostSignificantFirst size count index digits d is h k =
     let r = count - 1 - index in
     let whole : index + 1 + r ≡ count = omega arith in
-    rw whole at (more_most size index r digits d is k)
+    rw whole at (word-more_most size index r digits d is k)
 
 -- the number of bits below those that are between a prefix and a rest
 abbrev bits_below : BitOrder → List ℕ → List ℕ → ℕ

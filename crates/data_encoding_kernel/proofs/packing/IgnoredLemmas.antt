@@ -18,7 +18,7 @@ use Rattle.std.proofs.lemmas.Nat.{and_le_r, pow_pos}
 use Rattle.std.proofs.lemmas.Nat.Bits.{and_pow}
 use Rattle.data_encoding_meaning.specs.declared.encoding.Character.TheVariants.{Invalid}
 use Rattle.data_encoding_kernel.specs.Values.{IsRow, in_row}
-use Rattle.data_encoding_kernel.proofs.digits.AffineLemmas.{at-rows, at_row, chosen-equal, counted-at, down, equal, no-bit, own-row, plus}
+use Rattle.data_encoding_kernel.proofs.digits.AffineLemmas.{entries-at_rows, at_row, chosen-equal, function-at, down, equal, no-bit, own-row, plus}
 use Rattle.data_encoding_kernel.proofs.digits.WordLemmas.{map-range-same}
 
 pub mask-kept : (ignored : IgnoredBytes) (bytes bits : List ℕ) {found row_bits : List ℕ}
@@ -34,7 +34,7 @@ mask-kept ignored bytes bits {found} {row_bits} is long first second =
     let found_are : found ≡ map (in_row ignored.rows 0) bytes =
     first ignored.rows 0 (own-row ignored.rows) in
     let bits_are : row_bits ≡ map (at_row bits_of_rows) bytes =
-    at-rows bits_of_rows 16 bytes row_bits long
+    entries-at_rows bits_of_rows 16 bytes row_bits long
     (second bits_of_rows 0 (subst (IsRow bits_of_rows 0) (sym is) (own-row bits_of_rows))) in
     let hits : zip2 bit_and found row_bits ≡ map (ignored_bit ignored) bytes =
     zip2_of_maps bit_and (in_row ignored.rows 0) (at_row bits_of_rows) bytes found_are bits_are in
@@ -71,9 +71,9 @@ abbrev pub row_flags : List ℕ → ℕ → ℕ → ℕ → List Bool
 row_flags values start count k =
     map (λ row. eqb (slice_index values (16 * row + k)) 129) (range_with_len start count)
 
-pub few-flags : (values : List ℕ) (start count k : ℕ) → count < 8
+pub flags-below : (values : List ℕ) (start count k : ℕ) → count < 8
     → mask_l (row_flags values start count k) < 128
-few-flags values start count k few =
+flags-below values start count k few =
     let flag = λ (row : ℕ). eqb (slice_index values (16 * row + k)) 129 in
     omega (
       arith,
@@ -99,14 +99,14 @@ row-before values rows count few is =
 
 row-bit : (row : ℕ) → row < 8 → get_or bits_of_rows row 0 ≡ 2 ^ row
 row-bit row few =
-    sym (counted-at (λ r. get_or bits_of_rows r 0) 8 row few) ∙ counted-at (λ r. 2 ^ r) 8 row few
+    sym (function-at (λ r. get_or bits_of_rows r 0) 8 row few) ∙ function-at (λ r. 2 ^ r) 8 row few
 
 bit-set : (flag : Bool) (row : ℕ) → not (cond flag 1 0 * 2 ^ row == 0) ≡ flag
 bit-set true row = grind (arith, nat_tests, pow_pos row)
 bit-set false row =
     let none : 0 * 2 ^ row ≡ 0 = omega arith in ap (λ n. not (n == 0)) none
 
--- each byte below 128 has its bit if its entry says that it is ignored
+-- each byte below 128 has its bit exactly if its entry is 129
 bit-is : (values : List ℕ) (ignored : IgnoredBytes)
     → ignored.rows ≡ map (λ k. mask_l (row_flags values 0 8 k)) (range_with_len 0 16)
     → (byte : ℕ) → byte < 128
@@ -117,7 +117,7 @@ bit-is values ignored is byte few =
     let flags = row_flags values 0 8 k in
     let low : in_row ignored.rows 0 byte ≡ mask_l flags =
     ap (λ n. get_or ignored.rows n 0) (omega arith) ∙ ap (λ l. get_or l k 0) is
-    ∙ counted-at (λ j. mask_l (row_flags values 0 8 j)) 16 k (omega arith) in
+    ∙ function-at (λ j. mask_l (row_flags values 0 8 j)) 16 k (omega arith) in
     let bit : in_row bits_of_rows 0 row ≡ 2 ^ row =
     ap (λ n. get_or bits_of_rows n 0) (omega (arith, few)) ∙ row-bit row (omega (arith, few)) in
     let flag : get_or flags row false ≡ eqb (slice_index values byte) 129 =
@@ -130,10 +130,10 @@ bit-is values ignored is byte few =
     ap (λ n. not (n == 0)) here ∙ bit-set (eqb (slice_index values byte) 129) row
 
 -- no byte of 128 or more is ignored
-high-is : (base : Base) (ignored : IgnoredBytes) → length base.meanings ≤ 128 → (byte : ℕ)
+high-not_ignored : (base : Base) (ignored : IgnoredBytes) → length base.meanings ≤ 128 → (byte : ℕ)
     → 128 ≤ byte → byte < 256
     → is_ignored (meaning base byte) ≡ not (ignored_bit ignored byte == 0)
-high-is base ignored few byte high fits =
+high-not_ignored base ignored few byte high fits =
     let bit : in_row bits_of_rows 0 (byte / 16) ≡ 0 =
     ap (λ k. get_or bits_of_rows k 0) (omega arith)
     ∙ no-bit (byte / 16 % 16) (omega (arith, high, fits)) (omega arith) in
@@ -152,6 +152,6 @@ pub holds-ignored : (base : Base) (values : List ℕ) (ignored : IgnoredBytes)
 holds-ignored base values ignored holds few is = record {
   at_byte = λ byte fits. ⊎_elim
       (λ low. holds.ignoreds byte fits ∙ sym (bit-is values ignored is byte low))
-      (λ high. high-is base ignored few byte high fits)
+      (λ high. high-not_ignored base ignored few byte high fits)
       (cases_lt byte 128);
 }

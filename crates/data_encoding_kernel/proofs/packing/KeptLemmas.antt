@@ -2,7 +2,7 @@
 use Rattle.std.proofs.Common.{◌≡◌, ℕ, zero, suc, ◌+◌, ◌-◌, ◌*◌, ◌/◌, ◌%◌, ◌^◌, ◌<◌, ◌≤◌, Bool, true, false, not, cond, List, [], ◌∷◌, ◌++◌, length, map, take, drop, replicate, refl, sym, ap, ◌∙◌, subst, arith, length-append, length-take-le}
 use Rattle.std.proofs.Math.Nat.{div-one, div-div-eq-div-mul, div-mul-le_self, mod-eq_of_lt, pow-succ'}
 use Rattle.std.proofs.Math.Seq.{take-add, take-append-add}
-use Rattle.std.proofs.lemmas.List.{drop-map, length-drop, length-map, length-replicate, take-append-drop, take-append-le, take-take, take_all}
+use Rattle.std.proofs.lemmas.List.{drop-map, length-drop, length-map, length-replicate, take-append-drop, take-append-le, take-take}
 use Rattle.std.proofs.lemmas.List.Elements.{filter-append}
 use Rattle.std.proofs.lemmas.List.Filters.{length-filter_both}
 use Rattle.std.proofs.lemmas.Simd.{mask_l-lt}
@@ -83,15 +83,15 @@ twice-not : (flag : Bool) → flag ≡ not (not flag)
 twice-not true = refl
 twice-not false = refl
 
-same-kept : (base : Base) (ignored : IgnoredBytes) → HoldsIgnored base ignored → (bytes : List ℕ)
+filter-kept : (base : Base) (ignored : IgnoredBytes) → HoldsIgnored base ignored → (bytes : List ℕ)
     → Each1 (λ byte. byte < 256) bytes
     → filter (λ byte. ignored_bit ignored byte == 0) bytes ≡ filter (keeps base) bytes
-same-kept base ignored held [] fits = refl
-same-kept base ignored held (byte ∷ bytes) fits =
+filter-kept base ignored held [] fits = refl
+filter-kept base ignored held (byte ∷ bytes) fits =
     let here : (ignored_bit ignored byte == 0) ≡ keeps base byte =
     twice-not (ignored_bit ignored byte == 0) ∙ ap not (sym (held.at_byte byte fits.0)) in
-    λ i. cond (here i) (byte ∷ same-kept base ignored held bytes fits.1 i)
-    (same-kept base ignored held bytes fits.1 i)
+    λ i. cond (here i) (byte ∷ filter-kept base ignored held bytes fits.1 i)
+    (filter-kept base ignored held bytes fits.1 i)
 
 -- how many are kept
 pub count-kept : (base : Base) (ignored : IgnoredBytes) → HoldsIgnored base ignored
@@ -102,7 +102,7 @@ count-kept base ignored held part fits count is =
     let flag = λ (byte : ℕ). ignored_bit ignored byte == 0 in
     is
     ∙ picked-count (map flag part) part (length-map part flag)
-    ∙ ap length (picked-passes flag part ∙ same-kept base ignored held part fits
+    ∙ ap length (picked-passes flag part ∙ filter-kept base ignored held part fits
     ∙ sym (bytes-kept_in base 0 part))
     ∙ length-map (kept base part) _
 
@@ -112,7 +112,7 @@ each-dropped zero bytes fits = fits
 each-dropped (suc first) [] fits = tt
 each-dropped (suc first) (byte ∷ bytes) fits = each-dropped first bytes fits.1
 
--- what is packed of sixteen bytes, from one on
+-- the packed bytes of sixteen, from one on
 module _ (ignored : IgnoredBytes) (bytes : List ℕ) (first : ℕ) (sixteen : length bytes ≡ 16)
     (few : first ≤ 16) where
   abbrev kept_flag : ℕ → Bool
@@ -145,9 +145,9 @@ module _ (ignored : IgnoredBytes) (bytes : List ℕ) (first : ℕ) (sixteen : le
       ∙ ap (λ l. picked l (drop first bytes)) (drop-map kept_flag first bytes)
       ∙ picked-passes kept_flag (drop first bytes)
 
-  pub count-few : (count : ℕ) (room : List ℕ) → IsPacked flags_from bytes count room
+  pub count-at_most : (count : ℕ) (room : List ℕ) → IsPacked flags_from bytes count room
       → count ≤ 16 - first
-  count-few count room packed =
+  count-at_most count room packed =
       omega (
         arith,
         packed.number,
@@ -158,7 +158,7 @@ module _ (ignored : IgnoredBytes) (bytes : List ℕ) (first : ℕ) (sixteen : le
         sixteen,
       )
 
-  -- and stands after what was packed before
+  -- and is stored after the bytes that were packed before
   pub packed-more : (base : Base) → HoldsIgnored base ignored → Each1 (λ byte. byte < 256) bytes
       → (start count : ℕ) (room new : List ℕ) → start + 16 ≤ length room → length new ≡ 16
       → count ≤ 16 → IsPacked flags_from bytes count new
@@ -172,15 +172,15 @@ module _ (ignored : IgnoredBytes) (bytes : List ℕ) (first : ℕ) (sixteen : le
       ∙ take-append-add front (new ++ rest) count
       ∙ ap (λ l. front ++ l)
       (take-append-le count new rest (omega (arith, small, exact)) ∙ packed.are ∙ picked-from
-      ∙ same-kept base ignored held (drop first bytes) (each-dropped first bytes fits))
+      ∙ filter-kept base ignored held (drop first bytes) (each-dropped first bytes fits))
 
 -- sixteen bytes more are packed
-pub kept-more : (base : Base) (part : List ℕ) (turn : ℕ) (packed : List ℕ)
+pub kept-extended : (base : Base) (part : List ℕ) (turn : ℕ) (packed : List ℕ)
     → 16 * turn + 16 ≤ length part
     → packed ≡ filter (keeps base) (take (16 * turn) part)
     ++ filter (keeps base) (take 16 (take (16 * turn + 16 - 16 * turn) (drop (16 * turn) part)))
     → packed ≡ filter (keeps base) (take (16 * (turn + 1)) part)
-kept-more base part turn packed within is =
+kept-extended base part turn packed within is =
     let front = take (16 * turn) part in
     let next = drop (16 * turn) part in
     is
@@ -204,9 +204,3 @@ kept-last base part packed before last read rest all last_is before_is is =
     ∙ (λ i. sym before_is i
     ++ filter (keeps base) ((rest_is ∙ sym last_is) i))
     ∙ sym is
-
--- if none is left
-pub kept-all : (base : Base) (part packed : List ℕ) (read : ℕ) → length part ≤ read
-    → packed ≡ filter (keeps base) (take read part) → bytes_in (kept base part) ≡ packed
-kept-all base part packed read all is =
-    bytes-kept_in base 0 part ∙ ap (filter (keeps base)) (sym (take_all read part all)) ∙ sym is

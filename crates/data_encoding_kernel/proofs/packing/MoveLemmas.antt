@@ -46,21 +46,22 @@ at-mask f d mask h = get_or-map-range_with_len f 0 256 mask mask d h (omega arit
 below : (bound place : ℕ) → nat_lt place bound ≡ true → place < bound
 below bound place h = grind (arith, nat_tests)
 
-all-few : (bound : ℕ) (places : List ℕ) → list_all (λ place. nat_lt place bound) places ≡ true
+each-test_below : (bound : ℕ) (places : List ℕ)
+    → list_all (λ place. nat_lt place bound) places ≡ true
     → AllByRecursion (λ place. place < bound) places
-all-few bound [] h = tt
-all-few bound (place ∷ places) h =
+each-test_below bound [] h = tt
+each-test_below bound (place ∷ places) h =
     let others = list_all (λ n. nat_lt n bound) places in (
       below bound place (first_so (nat_lt place bound) others h),
-      all-few bound places (second_so (nat_lt place bound) others h),
+      each-test_below bound places (second_so (nat_lt place bound) others h),
     )
 
-pub row-few : (table : List ℕ)
+pub row-below : (table : List ℕ)
     → map (are_few table) (range_with_len 0 256) ≡ replicate 256 true
     → (mask : ℕ) → mask < 256
     → AllByRecursion (λ place. place < 8) (digits_l 256 8 (get_or table mask 0))
-row-few table few mask h =
-    all-few 8 (digits_l 256 8 (get_or table mask 0))
+row-below table few mask h =
+    each-test_below 8 (digits_l 256 8 (get_or table mask 0))
     (sym (at-mask (are_few table) false mask h) ∙ ap (λ l. get_or l mask false) few
     ∙ get_or-replicate 256 mask true false h)
 

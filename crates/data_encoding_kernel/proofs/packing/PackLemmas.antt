@@ -17,9 +17,9 @@ use Rattle.data_encoding_kernel.proofs.digits.LaneLemmas.{map-same}
 use Rattle.data_encoding_kernel.proofs.packing.PickedLemmas.{picked-append, picked-count, picked-map}
 
 -- the rest of a word after its eight bytes
-no-more : (row : ℕ) → row < 18446744073709551616
+no-ninth_byte : (row : ℕ) → row < 18446744073709551616
     → row / 256 / 256 / 256 / 256 / 256 / 256 / 256 / 256 ≡ 0
-no-more row h = omega (arith, h)
+no-ninth_byte row h = omega (arith, h)
 
 each-below : (few most : ℕ) → few ≤ most → (xs : List ℕ) → AllByRecursion (λ x. x < few) xs
     → (rest : List ℕ) → Each1 (λ x. x < most) rest → Each1 (λ x. x < most) (xs ++ rest)
@@ -35,7 +35,7 @@ places-ok row h few =
     SwzOk-from_below w8 16 1 16 0 (digits_l 256 16 row) refl (omega arith)
     (each-below 8 16 (omega arith) (digits_l 256 8 row) few
     (digits_l 256 8 (row / 256 / 256 / 256 / 256 / 256 / 256 / 256 / 256))
-    (subst (λ n. Each1 (λ x. x < 16) (digits_l 256 8 n)) (sym (no-more row h))
+    (subst (λ n. Each1 (λ x. x < 16) (digits_l 256 8 n)) (sym (no-ninth_byte row h))
     (search arith depth 12)))
 
 -- a lane that is moved

@@ -1,4 +1,4 @@
--- What flags pick of a list.
+-- The elements of a list that flags pick.
 use Rattle.std.proofs.Common.{◌≡◌, ◌+◌, ◌^◌, ℕ, zero, suc, Bool, true, false, cond, List, [], ◌∷◌, ◌++◌, length, map, drop, replicate, refl, ap, arith}
 use Rattle.std.proofs.Math.Nat.{pow-succ'}
 use Rattle.std.proofs.lemmas.Nat.{ones_le_self}
@@ -25,7 +25,7 @@ picked-append (false ∷ flags) others (x ∷ xs) ys e =
 picked-append (true ∷ flags) others (x ∷ xs) ys e =
     ap (λ l. x ∷ l) (picked-append flags others xs ys (omega (arith, e)))
 
--- what passes a test is picked by the answers
+-- the elements that pass a test are picked by its results
 pub picked-passes : (test : ℕ → Bool) (xs : List ℕ) → picked (map test xs) xs ≡ filter test xs
 picked-passes test [] = refl
 picked-passes test (x ∷ xs) = picked-first (test x) x (map test xs) xs (picked-passes test xs)

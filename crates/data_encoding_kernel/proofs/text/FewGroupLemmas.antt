@@ -3,7 +3,7 @@ use Rattle.std.proofs.Common.{◌≡◌, ℕ, ◌+◌, ◌-◌, ◌*◌, ◌/◌
 use Rattle.data_encoding_meaning.specs.text.Base.{IsGroup, IsWidth, group_bytes, group_symbols}
 use Rattle.data_encoding_meaning.proofs.digits.WidthLemmas.{by_width}
 
--- what holds of the widths three, five and six holds of each whose groups have several bytes
+-- a property of the widths three, five and six is one of all widths with several bytes per group
 by_several : (P : ℕ → Type 0) → P 3 → P 5 → P 6 → (width : ℕ) → IsWidth width
     → 1 < group_bytes width → P width
 by_several P three five six =
@@ -23,7 +23,7 @@ module _ {width bytes symbols : ℕ} (group : IsGroup width bytes symbols)
       (by_several (λ w. 12 / group_bytes w ≤ 8) (omega arith) (omega arith) (omega arith) width
       group.is_width several_bytes)
 
-  -- they with what eight groups load after them have sixteen bytes
+  -- the first groups, and the bytes that eight groups load ahead, are at least sixteen bytes
   pub few-loaded : 16 ≤ 12 / bytes * bytes + 2 * (bytes - 1)
   few-loaded =
       rw group.has_bytes

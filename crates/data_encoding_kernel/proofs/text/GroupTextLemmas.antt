@@ -60,7 +60,7 @@ module _ (base : Base) (order : BitOrder) (width bytes count : ℕ) (symbols : L
       ∙ plain_text-word base order width bytes count symbols input group (omega (arith, long))
       writes
 
-  -- the symbols of this many groups from one on
+  -- the symbols of n groups from group `start` on
   groups_text : (input : List ℕ) (n start : ℕ) → bytes * (start + n) ≤ length input
       → flat_map (λ k. map (slice_index symbols)
       (digits_of order width count (group_word order bytes input k))) (range_with_len start n)

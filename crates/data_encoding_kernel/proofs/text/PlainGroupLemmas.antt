@@ -1,5 +1,4 @@
--- A loop over whole groups: the positions at which they are read and written, and that the text so
--- far is written.
+-- A loop over whole groups: the positions of reads and writes, and the text that is written so far.
 use Rattle.std.proofs.Common.{◌≡◌, ℕ, ◌+◌, ◌-◌, ◌*◌, ◌/◌, ◌<◌, ◌≤◌, List, length, take, drop, refl, sym, ap, ◌∙◌, subst, arith, length-take-le}
 use Rattle.std.proofs.Math.Seq.{take-add}
 use Rattle.std.proofs.Math.Nat.{mul-pos, mul-mod_right, zero-mul}
@@ -39,7 +38,7 @@ module _ {width bytes symbols : ℕ} (whole : IsWhole width bytes symbols) (n si
       n i within)
 
 module _ {width bytes symbols : ℕ} (whole : IsWhole width bytes symbols) where
-  -- there is room for what the next groups give, of n bytes all but those that are only loaded
+  -- there is room for the text of the next groups, if the bytes loaded ahead are left out
   pub next_fits : (n size left ahead i : ℕ) → size ≡ (8 * n + (width - 1)) / width
       → left ≡ n - ahead → i < left / bytes → i * symbols + symbols ≤ size
   next_fits n size left ahead i e f h =
@@ -56,7 +55,7 @@ module _ {width bytes symbols : ℕ} (whole : IsWhole width bytes symbols) where
 
     module _ (shown : List ℕ) (i : ℕ)
         (so_far : take (i * symbols) output ≡ plain_text base (take (i * bytes) input)) where
-      -- groups have whole symbols, so the text of what follows them follows theirs
+      -- groups have whole symbols, so the text of the rest follows the text of the groups
       joined : (more size : ℕ) → i * bytes ≤ length input → i * symbols ≤ length output
           → shown ≡ plain_text base (take more (drop (i * bytes) input))
           → take (i * symbols + length shown) (put_mid (i * symbols) size output shown)

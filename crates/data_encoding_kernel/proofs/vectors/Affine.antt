@@ -1,8 +1,8 @@
 -- Worked rows of tables that are affine by rows.
 use Rattle.std.proofs.Common.{◌≡◌, ℕ, ◌≤◌, true, false, List, [], ◌∷◌, ◌++◌, length, get_or, replicate, refl}
 use Rattle.std.specs.List.{range_with_len}
-use Rattle.data_encoding_kernel.specs.declared.lanes.affine.Affine.{Affine}
-use Rattle.data_encoding_kernel.specs.declared.lanes.affine.PlainAffine.{PlainAffine}
+use Rattle.data_encoding_kernel.specs.declared.lanes.decode.affine.Affine.{Affine}
+use Rattle.data_encoding_kernel.specs.declared.lanes.decode.affine.PlainAffine.{PlainAffine}
 use Rattle.data_encoding_kernel.specs.Affine.{HoldsAffine, affine_entry, affine_value, agrees, agrees_from, bits_of_rows, form_of, moved_byte, symbol_bit}
 use Rattle.data_encoding_kernel.specs.Values.{in_row}
 use Rattle.data_encoding_kernel.proofs.digits.PlainAffineLemmas.{agrees-holds}
@@ -19,7 +19,7 @@ digits_and_plus = record {
   shared = 0 ∷ 0 ∷ 0 ∷ 0 ∷ 0 ∷ 0 ∷ 0 ∷ 0 ∷ 0 ∷ 0 ∷ 0 ∷ 62 ∷ 0 ∷ 0 ∷ 0 ∷ 0 ∷ [];
 }
 
--- the digit `5`, byte 53, in the row with the bit 8, is 5; `+`, byte 43, is 62; `A` is invalid
+-- the digit `5`, byte 53, in the row with the bit 8, is 5. `+`, byte 43, is 62. `A` is invalid
 affine_digits :
     (symbol_bit digits_and_plus 53 ≡ 8)
     × (get_or bits_of_rows 3 0 ≡ 8)
@@ -32,7 +32,7 @@ affine_digits :
 unfolding digits_and_plus
 affine_digits = (refl, refl, refl, refl, refl, refl, refl, refl)
 
--- the affine form of digits and `+` as plain data, and that of a table that has none
+-- the affine form of digits and `+` as plain data, and the plain data without a form
 abbrev plain_digits_and_plus : PlainAffine
 plain_digits_and_plus = record {
   symbols = digits_and_plus.symbols;
@@ -54,7 +54,7 @@ abbrev values_with_plus : ℕ → List ℕ
 values_with_plus plus =
     replicate 43 128 ++ plus ∷ replicate 4 128 ++ range_with_len 0 10 ++ replicate 70 128
 
--- from `9` on: 9, and at `:` anything, since no entry is found there; without a form, any table
+-- from `9` on: 9, and at `:` anything, since no entry is found there. Without a form, any table
 forms_agree :
     (form_of plain_digits_and_plus ≡ digits_and_plus)
     × (agrees_from digits_and_plus 57 (9 ∷ 7 ∷ []) ≡ true)

@@ -1,8 +1,8 @@
 -- Worked rows of alphabets by offsets.
 use Rattle.std.proofs.Common.{◌≡◌, ℕ, ◌≤◌, true, false, List, [], ◌∷◌, ◌++◌, length, replicate, refl}
 use Rattle.std.specs.List.{range_with_len}
-use Rattle.data_encoding_kernel.specs.declared.lanes.offset_alphabet.OffsetAlphabet.{OffsetAlphabet}
-use Rattle.data_encoding_kernel.specs.declared.lanes.offset_alphabet.PlainOffsets.{PlainOffsets}
+use Rattle.data_encoding_kernel.specs.declared.lanes.encode.offset_alphabet.OffsetAlphabet.{OffsetAlphabet}
+use Rattle.data_encoding_kernel.specs.declared.lanes.encode.offset_alphabet.PlainOffsets.{PlainOffsets}
 use Rattle.data_encoding_kernel.specs.OffsetAlphabet.{HoldsOffsetAlphabet, alphabet_of, first_of, has_sums, offset_symbol, sums_from}
 use Rattle.data_encoding_kernel.proofs.digits.OffsetAlphabetLemmas.{sums-hold}
 
@@ -28,7 +28,7 @@ symbols_by_offsets :
     × (offset_symbol base64_alphabet 63 ≡ 47)
 symbols_by_offsets = (refl, refl, refl, refl, refl, refl, refl, refl, refl, refl)
 
--- the offsets as plain data, and those of a table that has none
+-- the offsets as plain data, and the plain data without offsets
 abbrev plain_base64 : PlainOffsets
 plain_base64 = record {
   last = base64_alphabet.last;
@@ -45,7 +45,7 @@ abbrev symbols_with : ℕ → List ℕ
 symbols_with final =
     range_with_len 65 26 ++ range_with_len 97 26 ++ range_with_len 48 10 ++ 43 ∷ final ∷ []
 
--- from 61 on: `9`, `+`, `/`; without offsets, any table
+-- from 61 on: `9`, `+`, `/`. Without offsets, any table
 offsets_agree :
     (alphabet_of plain_base64 ≡ base64_alphabet)
     × (sums_from base64_alphabet 61 (57 ∷ 43 ∷ 47 ∷ []) ≡ true)

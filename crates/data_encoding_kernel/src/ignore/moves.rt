@@ -20,7 +20,7 @@ pub fn moves(mask: u64) -> u64
     MOVES[mask as usize]
 }
 
-// The bytes of row `m`, from the lowest on, begin with the numbers of the bits that are set in `m`.
+/// The indexes of the set bits of each mask, in order, one in each byte from the lowest on.
 static MOVES: [u64; 256] = [
     0,
     0,

@@ -7,8 +7,14 @@ ghost use Rattle.data_encoding_kernel.specs.Runs.{IsRunBy};
 ghost use Rattle.data_encoding_kernel.specs.Values.{AreValues, joined};
 ghost use Rattle.data_encoding_kernel.specs.Words.{digit, word_of};
 
+pub mod affine;
+pub mod look_up;
+pub mod rows;
+pub mod sixteen;
+
 use crate::group_size::GroupSize;
-use crate::lanes::look_up::LookUp;
+use crate::lanes::compare::count_below;
+use crate::lanes::decode::look_up::LookUp;
 use crate::words::weight_at;
 use data_encoding_meaning::encoding::BitOrder;
 use std::simd::prelude::*;
@@ -52,8 +58,9 @@ pub fn halves_64<const N: usize>(order: BitOrder, size: usize, lanes: Simd<u64, 
     (low << Simd::<u64, N>::splat(low_weight)) + (high << Simd::<u64, N>::splat(high_weight))
 }
 
-// The words of eight groups of two, four or eight values, by halves: of those groups at the front
-// that have values alone.
+/// Returns the words of eight groups of two entries.
+///
+/// The words are right for the groups before the first entry that is not a value.
 #[inline(always)]
 fn words_of_two(order: BitOrder, width: usize, values: u8x16) -> u64x8
     requires { width ≤ 8 }
@@ -64,6 +71,7 @@ fn words_of_two(order: BitOrder, width: usize, values: u8x16) -> u64x8
     halves_16(order, width, u16x8::from_le_bytes(values)).cast::<u64>()
 }
 
+/// Returns the words of eight groups of four entries, like [`words_of_two`].
 #[inline(always)]
 fn words_of_four(order: BitOrder, width: usize, values: u8x32) -> u64x8
     requires { width ≤ 8 }
@@ -76,6 +84,7 @@ fn words_of_four(order: BitOrder, width: usize, values: u8x32) -> u64x8
     halves_32(order, 2 * width, fours).cast::<u64>()
 }
 
+/// Returns the words of eight groups of eight entries, like [`words_of_two`].
 #[inline(always)]
 fn words_of_eight(order: BitOrder, width: usize, values: u8x64) -> u64x8
     requires { width ≤ 8 }
@@ -88,34 +97,11 @@ fn words_of_eight(order: BitOrder, width: usize, values: u8x64) -> u64x8
     halves_64(order, 4 * width, u64x8::from_le_bytes(fours.to_le_bytes()))
 }
 
-/// Returns `true` if each lane is less than `limit`.
-#[inline(always)]
-pub fn are_below<const N: usize>(limit: u8, lanes: Simd<u8, N>) -> bool
-    requires { N ≤ 64 }
-    ensures lanes { length lanes.entry ≡ N }
-    ensures below { IsTrue result → AllByRecursion (λ lane. lane < limit) lanes.entry }
-{
-    !lanes.simd_ge(Simd::<u8, N>::splat(limit)).any()
-}
-
-/// Returns the number of lanes before the first that is not less than `limit`.
-#[inline(always)]
-pub fn count_below<const N: usize>(limit: u8, lanes: Simd<u8, N>) -> usize
-    requires { N ≤ 64 }
-    ensures lanes { length lanes.entry ≡ N }
-    ensures few { result ≤ N }
-    ensures below { (k : ℕ) → k < result → slice_index lanes.entry k < limit }
-{
-    let others = lanes.simd_ge(Simd::<u8, N>::splat(limit));
-    if !others.any() {
-        return N;
-    }
-    others.to_bitmask().trailing_zeros() as usize
-}
-
-// The words of eight groups, and how many bytes come before the first whose entry is no value. The
-// words of the groups before it are those of their symbols. An entry below 128 is a value, so that
-// this test alone is enough.
+/// Returns the words of eight groups, and the number of bytes before the first one that is not a
+/// symbol.
+///
+/// The words are right for the whole groups before it. The comparison with 128 is the only test: an
+/// entry below 128 is a value.
 #[inline(always)]
 fn words_of_groups<L: LookUp, G: GroupSize>(
     look_up: &L,
@@ -165,7 +151,7 @@ pub fn low_bits<const N: usize>(count: usize, words: Simd<u64, N>) -> Simd<u64, 
     words & Simd::<u64, N>::splat((1 << count) - 1)
 }
 
-// Writes the lowest three bytes of each of eight words.
+/// Writes the lowest three bytes of each of eight words.
 #[inline(always)]
 fn store_three(order: BitOrder, words: u64x8, output: &mut [u8])
     requires exact { length output.old ≡ 24 }
@@ -193,7 +179,7 @@ fn store_three(order: BitOrder, words: u64x8, output: &mut [u8])
     }
 }
 
-// Writes the lowest five bytes of each of eight words.
+/// Writes the lowest five bytes of each of eight words.
 #[inline(always)]
 fn store_five(order: BitOrder, words: u64x8, output: &mut [u8])
     requires exact { length output.old ≡ 40 }
@@ -227,7 +213,7 @@ fn store_five(order: BitOrder, words: u64x8, output: &mut [u8])
     }
 }
 
-// Writes the lowest bytes of each of eight words, as many as a group has.
+/// Writes the lowest `G::BYTES` bytes of each of eight words.
 #[inline(always)]
 fn store<G: GroupSize>(order: BitOrder, words: u64x8, output: &mut [u8])
     requires exact { length output.old ≡ 8 * G.BYTES }

@@ -7,20 +7,27 @@ ghost use Rattle.data_encoding_kernel.specs.Lanes.{digits_of, group_words};
 ghost use Rattle.data_encoding_kernel.specs.OffsetAlphabet.{HoldsOffsetAlphabet};
 ghost use Rattle.data_encoding_kernel.specs.Tables.{IsTextBy};
 
+pub mod digits;
+pub mod groups;
+pub mod offset_alphabet;
+pub mod pairs;
+
 use crate::group_size::GroupSize;
-use crate::lanes::digits::{digits, digits_of_four, digits_of_two, octal_digits_of_four};
-use crate::lanes::offset_alphabet::{OffsetAlphabet, offset_symbols_64};
+use crate::lanes::encode::digits::{
+    digits_of_eight, digits_of_four, digits_of_two, octal_digits_of_four,
+};
+use crate::lanes::encode::offset_alphabet::{OffsetAlphabet, offset_symbols_64};
 use data_encoding_meaning::encoding::BitOrder;
 use std::simd::prelude::*;
 
-// The positions of a row of sixteen, four times.
+/// The indexes from 0 to 15, four times.
 const ROWS: [usize; 64] = [
     0, 1, 2, 3, 4, 5, 6, 7, 8, 9, 10, 11, 12, 13, 14, 15, 0, 1, 2, 3, 4, 5, 6, 7, 8, 9, 10, 11, 12,
     13, 14, 15, 0, 1, 2, 3, 4, 5, 6, 7, 8, 9, 10, 11, 12, 13, 14, 15, 0, 1, 2, 3, 4, 5, 6, 7, 8, 9,
     10, 11, 12, 13, 14, 15,
 ];
 
-// The first sixteen entries, four times.
+/// Returns the first sixteen entries, four times.
 #[inline(always)]
 fn rows(entries: &[u8]) -> u8x64
     requires { 16 ≤ length entries.now }
@@ -29,7 +36,7 @@ fn rows(entries: &[u8]) -> u8x64
     u8x16::from_slice(entries).swizzle::<64>(ROWS)
 }
 
-// The entry at the lowest four bits of each value.
+/// Returns the entry at the lowest four bits of each value.
 #[inline(always)]
 fn look_in_sixteen(entries: &[u8], values: u8x64) -> u8x64
     requires { 16 ≤ length entries.now }
@@ -38,7 +45,7 @@ fn look_in_sixteen(entries: &[u8], values: u8x64) -> u8x64
     rows(entries).swizzle_dyn_within::<16>(values & u8x64::splat(15))
 }
 
-// The entry at the lowest five bits of each value.
+/// Returns the entry at the lowest five bits of each value.
 #[inline(always)]
 fn look_in_thirty_two(entries: &[u8], values: u8x64) -> u8x64
     requires { 32 ≤ length entries.now }
@@ -50,7 +57,7 @@ fn look_in_thirty_two(entries: &[u8], values: u8x64) -> u8x64
     is_odd.select(odd, even)
 }
 
-// The entry at the lowest six bits of each value.
+/// Returns the entry at the lowest six bits of each value.
 #[inline(always)]
 fn look_in_sixty_four(entries: &[u8], values: u8x64) -> u8x64
     requires { 64 ≤ length entries.now }
@@ -62,7 +69,7 @@ fn look_in_sixty_four(entries: &[u8], values: u8x64) -> u8x64
     is_high.select(high, low)
 }
 
-// The symbols of values.
+/// Returns the symbols of `values`, from the rows of the table.
 #[inline(always)]
 fn look_up<G: GroupSize>(symbols: &[u8; 256], values: u8x64) -> u8x64
     requires below { AllByRecursion (λ value. value < 2 ^ G.WIDTH) values }
@@ -78,7 +85,7 @@ fn look_up<G: GroupSize>(symbols: &[u8; 256], values: u8x64) -> u8x64
     look_in_sixteen(symbols, values)
 }
 
-// Writes the first lanes.
+/// Writes the first `8 * G::SYMBOLS` lanes.
 #[inline(always)]
 fn store<G: GroupSize>(lanes: u8x64, output: &mut [u8])
     requires exact { length output.old ≡ 8 * G.SYMBOLS }
@@ -94,7 +101,7 @@ fn store<G: GroupSize>(lanes: u8x64, output: &mut [u8])
     }
 }
 
-// Writes the first half of the lanes.
+/// Writes the first 32 lanes.
 #[inline(always)]
 fn store_thirty_two(lanes: u8x64, output: &mut [u8])
     requires exact { length output.old ≡ 32 }
@@ -103,7 +110,7 @@ fn store_thirty_two(lanes: u8x64, output: &mut [u8])
     lanes.extract::<0, 32>().copy_to_slice(output);
 }
 
-// Writes the first sixteen lanes.
+/// Writes the first sixteen lanes.
 #[inline(always)]
 fn store_sixteen(lanes: u8x64, output: &mut [u8])
     requires exact { length output.old ≡ 16 }
@@ -114,10 +121,10 @@ fn store_sixteen(lanes: u8x64, output: &mut [u8])
 
 /// A way to look up the symbols of values.
 pub trait SymbolLookUp: Copy {
-    // Whether what is looked up is that of a table of symbols.
+    // States that the look-up is for a table of symbols.
     ghost holds: { List ℕ → Self → Type 0 };
 
-    // Returns the symbols of values.
+    /// Returns the symbols of `values`.
     fn symbols_of<G: GroupSize>(&self, symbols: &[u8; 256], values: u8x64) -> u8x64
         requires held { holds symbols.now self.now }
         requires below { AllByRecursion (λ value. value < 2 ^ G.WIDTH) values }
@@ -140,7 +147,7 @@ impl SymbolLookUp for SymbolRows {
 impl SymbolLookUp for OffsetAlphabet {
     ghost holds = { λ symbols alphabet. HoldsOffsetAlphabet symbols alphabet };
 
-    // Those of six bits as sums.
+    // Only values of six bits have offsets.
     #[inline(always)]
     fn symbols_of<G: GroupSize>(&self, symbols: &[u8; 256], values: u8x64) -> u8x64 {
         if G::WIDTH == 6 {
@@ -164,7 +171,7 @@ pub fn encode_eight<S: SymbolLookUp, G: GroupSize>(
     requires exact { length output.old ≡ 8 * G.SYMBOLS }
     ensures { IsTextBy symbols.now G.WIDTH order (take (8 * G.BYTES) input.now) output.new }
 {
-    let values = digits::<G>(order, input);
+    let values = digits_of_eight::<G>(order, input);
     store::<G>(look_up.symbols_of::<G>(symbols, values), output);
 }
 
@@ -194,7 +201,7 @@ pub fn encode_few<G: GroupSize>(
     }
 }
 
-// The digits of these groups, one after another, repeatedly.
+/// Returns the digits of these groups, one after another, repeated up to 64.
 #[inline(always)]
 fn few_digits<G: GroupSize>(order: BitOrder, input: &[u8]) -> u8x64
     requires several { 1 < G.BYTES }

@@ -2,7 +2,7 @@ use Rattle.std.proofs.Common.{◌≡◌, ℕ, List, ◌+◌, ◌*◌, ◌/◌, �
 use Rattle.data_encoding_meaning.proofs.decoding.GroupJudgementLemmas.{part_bytes}
 use Rattle.std.proofs.Math.Nat.{mul-le-mul_right}
 use Rattle.data_encoding_meaning.proofs.digits.SizeLemmas.{IsGroup-same}
-use Rattle.data_encoding_kernel.proofs.decoding.SymbolRunLemmas.{group-next, run-all, run-kept, run-longest}
+use Rattle.data_encoding_kernel.proofs.decoding.SymbolRunLemmas.{group-next, longest-all, run-kept, longest-at_group}
 use Rattle.data_encoding_meaning.proofs.lists.PartLemmas.{IsWhole-same, group-before, group-room, groups-within, length-part}
 use Rattle.data_encoding_kernel.proofs.decode.decode_run_within.Goals as goal
 
@@ -90,7 +90,7 @@ pub returns-then-not-decode_symbols-clause-longest :
 returns-then-not-decode_symbols-clause-longest g c = λ base reads.
     let group = IsGroup-same refl c.BYTES-bytes.ensures c.SYMBOLS-symbols.ensures
     g.G.GroupSize.is_group in
-    run-longest base reads.holds.is_width g.G.GroupSize.WIDTH c.BYTES-bytes.result
+    longest-at_group base reads.holds.is_width g.G.GroupSize.WIDTH c.BYTES-bytes.result
     c.SYMBOLS-symbols.result group reads.width_is
     c.args.values.now (take c.args.len c.args.input.now) c.loop-index.index _ refl reads.holds
     (part_bytes c.args.input.now (λ j. (c.type_inv.input j).fits) c.args.len)
@@ -109,7 +109,7 @@ pub loop-index-init : goal.loop-index-init
 loop-index-init g c =
     record {
       run = λ base reads.
-          c.decode_by_several-first.ensures.run base (rw c.ORDER-order.ensures at reads);
+          c.decode_most-first.ensures.run base (rw c.ORDER-order.ensures at reads);
     }
 
 pub loop-index-preserved : goal.loop-index-preserved
@@ -143,7 +143,7 @@ pub returns-then-is_longest-clause-within : goal.returns-then-is_longest-clause-
 returns-then-is_longest-clause-within g c =
     omega (
       arith,
-      mul-le-mul_right g.G.GroupSize.SYMBOLS c.decode_by_several-first.ensures.within,
+      mul-le-mul_right g.G.GroupSize.SYMBOLS c.decode_most-first.ensures.within,
       groups-within c.args.len g.G.GroupSize.SYMBOLS,
     )
 
@@ -151,14 +151,14 @@ pub returns-clause-longest : goal.returns-clause-longest
 returns-clause-longest g c = λ base reads.
     let group = IsGroup-same refl c.BYTES-bytes.ensures c.SYMBOLS-symbols.ensures
     g.G.GroupSize.is_group in
-    run-all base reads.holds.is_width g.G.GroupSize.WIDTH c.BYTES-bytes.result
+    longest-all base reads.holds.is_width g.G.GroupSize.WIDTH c.BYTES-bytes.result
     c.SYMBOLS-symbols.result group reads.width_is (take c.args.len c.args.input.now) c.args.len
     (length-take-le c.args.len c.args.input.now c.requires.few)
 
 pub returns-clause-run : goal.returns-clause-run
 returns-clause-run g c = λ base reads.
-    let within = subst (λ n. c.decode_by_several-first.result.0 ≤ c.args.len / n)
-    (sym c.SYMBOLS-symbols.ensures) c.decode_by_several-first.ensures.within in
+    let within = subst (λ n. c.decode_most-first.result.0 ≤ c.args.len / n)
+    (sym c.SYMBOLS-symbols.ensures) c.decode_most-first.ensures.within in
     let all : c.loop-index.index ≡ c.args.len / c.SYMBOLS-symbols.result =
     omega (arith, within, c.loop-index-test.false, c.loop-index.auto.index-end) in
     rw all at (c.loop-index.invariant.run base (rw c.ORDER-order.ensures reads))

@@ -1,7 +1,7 @@
 use Rattle.std.proofs.Common.{◌≡◌, ◌+◌, ◌-◌, ◌*◌, ◌/◌, ◌≤◌, length, take, drop, refl, sym, ◌∙◌, subst, arith}
 use Rattle.std.proofs.Math.Nat.{le-mul_of_pos_right, mul-le-mul_right, zero-mul}
 use Rattle.data_encoding_kernel.specs.Runs.{IsRun}
-use Rattle.data_encoding_kernel.proofs.decoding.SymbolRunLemmas.{all-groups, few-groups, more-groups, run-after, run-next, run-none, turn-fits, whole-groups}
+use Rattle.data_encoding_kernel.proofs.decoding.SymbolRunLemmas.{groups-complete, groups-at_most, groups-after, run-after, run-next, run-none, turn-fits, groups-of_product}
 use Rattle.data_encoding_meaning.proofs.digits.SizeLemmas.{IsGroup-same}
 use Rattle.data_encoding_meaning.proofs.lists.PartLemmas.{IsWhole-group, length-part, one-more}
 use Rattle.data_encoding_kernel.proofs.decode.decode_turns.Goals as goal
@@ -72,7 +72,7 @@ returns-then-found-groups-clause-run g c = λ values held base reads.
     g.G.GroupSize.is_group in
     let few : count ≤ groups =
     subst (λ n. count ≤ n) (sym c.GROUPS-groups.ensures)
-    (few-groups found g.T.DecodeTurn.GROUPS whole.some_symbols c.decode-found.ensures.few) in
+    (groups-at_most found g.T.DecodeTurn.GROUPS whole.some_symbols c.decode-found.ensures.few) in
     let within = turn-fits (length input) c.args.count c.loop-index.index
     c.GROUPS-groups.ensures c.SYMBOLS-symbols.ensures c.requires.few c.loop-index-test.true in
     let room : first * bytes + groups * bytes ≤ length output =
@@ -81,7 +81,7 @@ returns-then-found-groups-clause-run g c = λ values held base reads.
     c.loop-index-test.true) in
     let shown_len : length c.decode-found.new.output ≡ groups * bytes =
     c.decode-found.auto.output ∙ length-part (first * bytes) (groups * bytes) output room in
-    rw (more-groups first found symbols c.SYMBOLS-symbols.ensures whole.some_symbols)
+    rw (groups-after first found symbols c.SYMBOLS-symbols.ensures whole.some_symbols)
     (run-after base reads.holds.is_width g.G.GroupSize.WIDTH bytes symbols group reads.width_is
     input c.args.output.now output
     (take (first * bytes + groups * bytes - first * bytes) (drop (first * bytes) output))
@@ -114,7 +114,7 @@ loop-index-preserved g c =
     (drop (first * symbols) input) in
     let before = take (first * bytes + groups * bytes - first * bytes)
     (drop (first * bytes) output) in
-    let all = all-groups c.decode-found.result c.GROUPS-groups.ensures
+    let all = groups-complete c.decode-found.result c.GROUPS-groups.ensures
     c.SYMBOLS-symbols.ensures whole.some_symbols c.decode-found.ensures.few
     (omega (arith, c.if-found-groups.false)) in
     record {
@@ -133,7 +133,7 @@ returns-clause-run g c = λ values held base reads.
     g.G.GroupSize.is_group in
     let all : c.loop-index.index ≡ c.args.count =
     omega (arith, c.loop-index-test.false, c.loop-index.auto.index-end) in
-    rw (whole-groups (c.args.count * c.GROUPS-groups.result) c.SYMBOLS-symbols.result
+    rw (groups-of_product (c.args.count * c.GROUPS-groups.result) c.SYMBOLS-symbols.result
     c.SYMBOLS-symbols.ensures whole.some_symbols)
     (rw all at (c.loop-index.invariant.run values held base reads))
 

@@ -1,5 +1,5 @@
 use Rattle.std.proofs.Common.{length, arith}
-use Rattle.data_encoding_kernel.proofs.decoding.SymbolRunLemmas.{fewer-groups, turns-few, turns-room}
+use Rattle.data_encoding_kernel.proofs.decoding.SymbolRunLemmas.{groups-monotone, turns-few, turns-room}
 use Rattle.data_encoding_meaning.proofs.lists.PartLemmas.{IsWhole-group}
 use Rattle.data_encoding_kernel.proofs.decode.decode_whole_turns.Goals as goal
 
@@ -16,7 +16,7 @@ pub returns-clause-within : goal.returns-clause-within
 returns-clause-within g c =
     let whole = IsWhole-group g.G.GroupSize.WIDTH g.G.GroupSize.BYTES g.G.GroupSize.SYMBOLS
     g.G.GroupSize.is_group in
-    fewer-groups c.decode_turns.result (length c.args.input.now) c.SYMBOLS-2.ensures
+    groups-monotone c.decode_turns.result (length c.args.input.now) c.SYMBOLS-2.ensures
     whole.some_symbols
     (omega (
       arith,

@@ -3,7 +3,7 @@ use Rattle.std.proofs.lemmas.List.{take_all}
 use Rattle.std.specs.List.{filter}
 use Rattle.data_encoding_meaning.specs.text.Grammar.{bytes_in, kept}
 use Rattle.data_encoding_meaning.proofs.grammar.SameBytesLemmas.{bytes-kept_in}
-use Rattle.data_encoding_kernel.proofs.packing.KeptLemmas.{keeps, kept-last, kept-more}
+use Rattle.data_encoding_kernel.proofs.packing.KeptLemmas.{keeps, kept-last, kept-extended}
 use Rattle.data_encoding_kernel.proofs.ignore.pack.Goals as goal
 
 pub loop-turn-preserved : goal.loop-turn-preserved
@@ -19,7 +19,7 @@ loop-turn-preserved c =
         c.pack_more-count.auto.room,
       ),
       λ base held.
-          kept-more base part turn _ (omega (arith, c.loop-turn-test.true))
+          kept-extended base part turn _ (omega (arith, c.loop-turn-test.true))
           (c.pack_more-count.ensures.kept base held
           ∙ ap (λ l. l ++ filter (keeps base) next) (c.loop-turn.invariant.2 base held)),
     )

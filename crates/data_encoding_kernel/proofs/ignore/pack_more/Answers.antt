@@ -1,7 +1,7 @@
 use Rattle.std.proofs.Common.{◌∙◌, w8, arith}
 use Rattle.std.proofs.lemmas.Simd.{below_from_Fits}
 use Rattle.data_encoding_meaning.proofs.lists.PartLemmas.{length-part}
-use Rattle.data_encoding_kernel.proofs.packing.KeptLemmas.{count-few, flags-from-sixteen, flags_from, mask-below, mask-is, packed-more}
+use Rattle.data_encoding_kernel.proofs.packing.KeptLemmas.{count-at_most, flags-from-sixteen, flags_from, mask-below, mask-is, packed-more}
 use Rattle.data_encoding_kernel.proofs.ignore.pack_more.Goals as goal
 
 pub pack_sixteen-requires-clause-mask : goal.pack_sixteen-requires-clause-mask
@@ -19,7 +19,7 @@ returns-clause-few c =
     let first = c.args.first in
     let long = c.fits-bytes.0 in
     let few = c.requires.first in
-    let rest = count-few ignored bytes first long few c.pack_sixteen.result
+    let rest = count-at_most ignored bytes first long few c.pack_sixteen.result
     c.pack_sixteen.new.room
     (c.pack_sixteen.ensures.packed (flags_from ignored bytes first long few)
     (flags-from-sixteen ignored bytes first long few)

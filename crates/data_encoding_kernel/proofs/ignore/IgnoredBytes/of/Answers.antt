@@ -2,7 +2,7 @@ use Rattle.std.proofs.Common.{◌≡◌, ◌+◌, ◌-◌, ◌*◌, refl, map, s
 use Rattle.std.specs.List.{range_with_len}
 use Rattle.std.specs.Simd.Lanes.{mask_l}
 use Rattle.data_encoding_kernel.proofs.digits.AffineLemmas.{row-entries}
-use Rattle.data_encoding_kernel.proofs.packing.IgnoredLemmas.{few-flags, holds-ignored, row-before, row_flags}
+use Rattle.data_encoding_kernel.proofs.packing.IgnoredLemmas.{flags-below, holds-ignored, row-before, row_flags}
 use Rattle.data_encoding_kernel.proofs.ignore.IgnoredBytes.of.Goals as goal
 
 pub loop-below-init : goal.loop-below-init
@@ -15,7 +15,7 @@ loop-below-preserved c =
     row-before values _ below c.loop-below-test.true
     (c.with_row-rows.ensures (λ k. slice_index values (16 * (7 - below) + k))
     (row_flags values (8 - below) below)
-    (λ k. few-flags values (8 - below) below k c.loop-below-test.true)
+    (λ k. flags-below values (8 - below) below k c.loop-below-test.true)
     (row-entries (7 - below) values c.told-values (omega arith))
     c.loop-below.invariant)
 

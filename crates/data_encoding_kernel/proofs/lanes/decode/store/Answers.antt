@@ -1,23 +1,17 @@
-use Rattle.std.proofs.Common.{◌≡◌, ◌*◌, ◌<◌, List, ℕ, map, w8, sym, ap, ◌∙◌, subst, arith}
-use Rattle.std.specs.List.{AllByRecursion}
-use Rattle.std.specs.Simd.Lanes.{put_chunk}
-use Rattle.data_encoding_kernel.proofs.digits.GatherStoreLemmas.{bytes_of_words, low-below, narrow-enough, stored-low}
+use Rattle.std.proofs.Common.{◌≡◌, ◌*◌, w8, sym, ap, ◌∙◌, arith}
+use Rattle.data_encoding_kernel.proofs.digits.GatherStoreLemmas.{bytes_of_words, low-fits, stored-low}
 use Rattle.data_encoding_meaning.proofs.digits.SizeLemmas.{bytes-are}
 use Rattle.data_encoding_kernel.proofs.lanes.decode.store.Goals as goal
 
 pub overflow_cast-output : goal.overflow_cast-output
 overflow_cast-output g c =
-    narrow-enough w8 256 (omega arith) c.low_bits.result
-    (subst (AllByRecursion (λ word. word < 256)) (sym c.low_bits.ensures)
-    (low-below 256 (omega arith) c.args.words))
+    low-fits w8 256 (omega arith) (omega arith) c.args.words c.low_bits.ensures
 
 pub returns-in-1 : goal.returns-in-1
 returns-in-1 g c =
     let one : g.G.GroupSize.BYTES ≡ 1 = sym c.BYTES.ensures ∙ c.in-1.is in
-    ap (λ (l : List ℕ). put_chunk 0 c.args.output.now (map (λ x. x) l)) c.low_bits.ensures
-    ∙ stored-low c.args.order c.args.words c.args.output.now
-    (c.requires.exact ∙ ap (λ n. 8 * n) one ∙ sym c.fits-words.0)
-    ∙ ap (λ n. bytes_of_words c.args.order n c.args.words) (sym one)
+    stored-low c.args.order c.args.words c.low_bits.result c.args.output.now one
+    c.low_bits.ensures (c.requires.exact ∙ ap (λ n. 8 * n) one ∙ sym c.fits-words.0)
 
 pub returns-in-3 : goal.returns-in-3
 returns-in-3 g c =

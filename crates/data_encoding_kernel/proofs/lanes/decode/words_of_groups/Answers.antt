@@ -8,7 +8,7 @@ pub returns-in-2 : goal.returns-in-2
 returns-in-2 g c =
     let whole = IsWhole-group g.G.GroupSize.WIDTH g.G.GroupSize.BYTES g.G.GroupSize.SYMBOLS
     g.G.GroupSize.is_group in
-    words-found 8 whole.is_width whole.some_symbols c.WIDTH-width.ensures
+    words-found 8 whole.some_symbols c.WIDTH-width.ensures
     (sym c.SYMBOLS.ensures ∙ c.in-2.is) (λ values. g.L.LookUp.holds values c.args.look_up.now)
     c.args.order c.args.input.now c.look_up_16-entries.result c.words_of_two.result
     c.count_below.result c.requires.symbols
@@ -20,7 +20,7 @@ pub returns-in-4 : goal.returns-in-4
 returns-in-4 g c =
     let whole = IsWhole-group g.G.GroupSize.WIDTH g.G.GroupSize.BYTES g.G.GroupSize.SYMBOLS
     g.G.GroupSize.is_group in
-    words-found 8 whole.is_width whole.some_symbols c.WIDTH-width.ensures
+    words-found 8 whole.some_symbols c.WIDTH-width.ensures
     (sym c.SYMBOLS.ensures ∙ c.in-4.is) (λ values. g.L.LookUp.holds values c.args.look_up.now)
     c.args.order c.args.input.now c.look_up_32-entries.result c.words_of_four.result
     c.count_below-in-4.result c.requires.symbols
@@ -32,7 +32,7 @@ pub returns-in_default : goal.returns-in_default
 returns-in_default g c =
     let whole = IsWhole-group g.G.GroupSize.WIDTH g.G.GroupSize.BYTES g.G.GroupSize.SYMBOLS
     g.G.GroupSize.is_group in
-    words-found 8 whole.is_width whole.some_symbols c.WIDTH-width.ensures
+    words-found 8 whole.some_symbols c.WIDTH-width.ensures
     (omega (arith, symbols-are g.G.GroupSize.is_group, c.in_default))
     (λ values. g.L.LookUp.holds values c.args.look_up.now)
     c.args.order c.args.input.now c.look_up_64-entries.result c.words_of_eight.result

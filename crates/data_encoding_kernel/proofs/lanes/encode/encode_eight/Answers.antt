@@ -13,8 +13,8 @@ returns g c base writes =
     let show = map (slice_index symbols) in
     c.store.ensures
     ∙ (λ i. take (8 * g.G.GroupSize.SYMBOLS) (c.symbols_of.ensures i))
-    ∙ take-map (slice_index symbols) (8 * g.G.GroupSize.SYMBOLS) c.digits-values.result
-    ∙ ap show c.digits-values.ensures.digits
+    ∙ take-map (slice_index symbols) (8 * g.G.GroupSize.SYMBOLS) c.digits_of_eight-values.result
+    ∙ ap show c.digits_of_eight-values.ensures.digits
     ∙ plain_text-groups base order width g.G.GroupSize.BYTES g.G.GroupSize.SYMBOLS symbols group
     writes 8 input
     (omega (arith, c.requires.bytes))

@@ -7,7 +7,7 @@ use Rattle.data_encoding_kernel.specs.Lanes.{digits_of, group_words}
 use Rattle.data_encoding_kernel.proofs.text.FewGroupLemmas.{few-six}
 use Rattle.data_encoding_kernel.proofs.lanes.encode.few_digits.Goals as goal
 
--- what is found for one width is found for the width of the group, which is that one
+-- digits of width w are digits of the width of the group, which is w
 module _ (order : BitOrder) (input found : List ℕ) (w : ℕ) {width bytes symbols : ℕ}
     (is : w ≡ width) (group : IsGroup width bytes symbols) where
   digits-found : take (12 / group_bytes w * group_symbols w) found
