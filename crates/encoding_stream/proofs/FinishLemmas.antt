@@ -8,10 +8,10 @@ use Rattle.data_encoding.specs.Fields.{IsSpecified}
 use Rattle.data_encoding.specs.Grammar.{Positioned}
 use Rattle.data_encoding.specs.Lengths.{decoded_len, length_fault, most_bytes, unless_fault}
 use Rattle.data_encoding.specs.Pieces.{bytes_unless, held_fault, whole_bytes, HasRead, TellsBytes, TellsFault}
-use Rattle.encoding_stream.specs.declared.pieces.Kept.{Kept}
-use Rattle.encoding_stream.specs.Pieces.{at_positions, held, verdict_of, Keeps, NoneIgnored}
+use Rattle.encoding_stream.specs.declared.buffer_decoder.Kept.{Kept}
+use Rattle.encoding_stream.specs.BufferDecoder.{at_positions, held_group, verdict_of, Keeps, NoneIgnored}
 use Rattle.encoding_stream.specs.Reading.{HasLastBytes}
-use Rattle.encoding_stream.proofs.PieceLemmas.{positions-length, unfinished-kept}
+use Rattle.encoding_stream.proofs.ReadByteLemmas.{positions-length, unfinished-kept}
 
 -- the bytes held are judged as a group, if there are any
 held_fault-some : (ended : Bool) (base : Base) (held : List Positioned) → 0 < length held
@@ -75,17 +75,17 @@ module _ (base : Base) (is : IsSpecified base) (text : List ℕ) (len : ℕ)
 pub bytes-judged : (base : Base) → IsSpecified base → TellsBytes → (k : Kept)
     (judged : Result ℕ DecodeError) (output : List ℕ) (written : ℕ)
     → IfOk judged (λ count. (text : List ℕ) → Keeps base k text
-    → (or_else k.fault (held_fault k.ended base (held k)) ≡ None)
-    × (bytes_of_group base (held k) ≡ take count output))
+    → (or_else k.fault (held_fault k.ended base (held_group k)) ≡ None)
+    × (bytes_of_group base (held_group k) ≡ take count output))
     → IfErr judged (λ error. (text : List ℕ) → Keeps base k text
-    → or_else k.fault (held_fault k.ended base (held k)) ≡ Some error)
+    → or_else k.fault (held_fault k.ended base (held_group k)) ≡ Some error)
     → written ≡ result_unwrap_or judged 0 → HasLastBytes base k (take written output)
 bytes-judged base is bytes_law k (Ok count) output written sound faulty same text keeps =
-    bytes_law base is text k.len k.fault (held k) k.ended keeps
-    ∙ ap (λ o. whole_bytes base text ++ bytes_unless o base (held k)) (sound text keeps).0
+    bytes_law base is text k.len k.fault (held_group k) k.ended keeps
+    ∙ ap (λ o. whole_bytes base text ++ bytes_unless o base (held_group k)) (sound text keeps).0
     ∙ ap (λ bs. whole_bytes base text ++ bs) (sound text keeps).1
     ∙ ap (λ n. whole_bytes base text ++ take n output) (sym same)
 bytes-judged base is bytes_law k (Err error) output written sound faulty same text keeps =
-    bytes_law base is text k.len k.fault (held k) k.ended keeps
-    ∙ ap (λ o. whole_bytes base text ++ bytes_unless o base (held k)) (faulty text keeps)
+    bytes_law base is text k.len k.fault (held_group k) k.ended keeps
+    ∙ ap (λ o. whole_bytes base text ++ bytes_unless o base (held_group k)) (faulty text keeps)
     ∙ ap (λ n. whole_bytes base text ++ take n output) (sym same)

@@ -14,19 +14,19 @@ use Rattle.data_encoding.specs.Pieces.{whole_bytes, AreWhole, CountsGroups, Ends
 use Rattle.std.proofs.lemmas.List.{append-nil}
 use Rattle.encoding_stream.specs.Decoded.{JudgesText, DecodesAll, DecodesFront, DecodesJudged, result_of}
 use Rattle.encoding_stream.specs.Reading.{CompletesNothing, HasNoLastBytes, HasVerdict, ReadsOn, HasLastBytes}
-use Rattle.encoding_stream.specs.Pieces.{base_of_pieces, paired, at_positions, held, Keeps, GoesOn, bytes_due, kept_by, most_completed, verdict_of}
-use Rattle.encoding_stream.specs.declared.pieces.BufferDecoder.{BufferDecoder}
+use Rattle.encoding_stream.specs.BufferDecoder.{base_of_pieces, paired, at_positions, held_group, Keeps, HasState, bytes_due, kept_by, most_completed, verdict_of}
+use Rattle.encoding_stream.specs.declared.buffer_decoder.BufferDecoder.{BufferDecoder}
 use Rattle.encoding_stream.specs.declared.decoder.Decoder.{Decoder}
 use Rattle.encoding_stream.specs.declared.error.StreamFault.TheVariants.{Read, Write, Decode, TooLong}
-use Rattle.encoding_stream.specs.declared.blocks.BufferEncoder.{BufferEncoder}
+use Rattle.encoding_stream.specs.declared.buffer_encoder.BufferEncoder.{BufferEncoder}
 use Rattle.data_encoding.specs.declared.kept_data.KeptData.{KeptData}
-use Rattle.encoding_stream.specs.declared.pieces.Kept.{Kept}
+use Rattle.encoding_stream.specs.declared.buffer_decoder.Kept.{Kept}
 use Rattle.encoding_stream.specs.declared.watch.Watch.{Watch}
 use Rattle.encoding_stream.specs.Appending.{AppendsDecoded}
 use Rattle.encoding_stream.specs.Decoder.{base_of_decoder, decoder_len, FinishesWith, HasConsumed, AppendsFinished, AppendsPushed}
 use Rattle.encoding_stream.specs.Encoded.{EncodesAll, EncodesFront, ReadsMore, Succeeds, WritesText}
 use Rattle.encoding_stream.specs.Printed.{printed_stream_fault}
-use Rattle.encoding_stream.specs.Blocks.{base_of_blocks, data_kept, EncodesOn, EndsBlocks, HasWritten}
+use Rattle.encoding_stream.specs.BufferEncoder.{base_of_blocks, data_kept, EncodesOn, EndsBlocks, HasWritten}
 use Rattle.encoding_stream.specs.Resume.{held_bytes, held_positions, is_of_group, Ascend, HasPossibleFault, HoldsNoIgnored, IsKept, MayBeKept}
 use Rattle.encoding_stream.specs.Specified.{HasLaws, IsBuiltAgain, KeepsFront}
 use Rattle.encoding_stream.specs.Watch.{from_to, has_failed, inner_of, is_refused, seen, AppendsFront, Change}
@@ -177,7 +177,7 @@ kept_so_far = record {
 
 kept_of_text :
     Has base64_mime_fields (λ base. Keeps base kept_so_far (codes "SGVsbG" ++ 13 ∷ 10 ∷ []))
-    × (held kept_so_far ≡ positioned_from 4 (codes "bG"))
+    × (held_group kept_so_far ≡ positioned_from 4 (codes "bG"))
     × (at_positions 1 (4 ∷ 5 ∷ []) (codes "bG") ≡ positioned_from 4 (codes "b"))
     × (paired (4 ∷ 5 ∷ []) (codes "bG") ≡ positioned_from 4 (codes "bG"))
 kept_of_text = (
@@ -226,7 +226,7 @@ most_bytes_completed = (refl, refl, refl)
 
 -- a decoder that continues from what is kept
 gone_on : (base : Base) (pieces : BufferDecoder) → base_of_lent pieces.encoding ≡ base
-    → pieces.kept ≡ kept_so_far → GoesOn base kept_so_far pieces × (kept_by pieces ≡ kept_so_far)
+    → pieces.kept ≡ kept_so_far → HasState base kept_so_far pieces × (kept_by pieces ≡ kept_so_far)
 gone_on base pieces is kept_is = (record { base_is = is; kept_is = kept_is }, kept_is)
 
 -- a piece of no bytes changes nothing
@@ -523,7 +523,7 @@ stands_told : (decoder : Decoder) (text : List ℕ) → HasConsumed decoder text
     → decoder_len decoder ≡ length text
 stands_told decoder text consumed = consumed.counted
 
-gone_on_told : (base : Base) (pieces : BufferDecoder) → GoesOn base kept_so_far pieces
+gone_on_told : (base : Base) (pieces : BufferDecoder) → HasState base kept_so_far pieces
     → (base_of_lent pieces.encoding ≡ base) × (pieces.kept ≡ kept_so_far)
 gone_on_told base pieces goes = (goes.base_is, goes.kept_is)
 
