@@ -74,9 +74,9 @@ module _ (base : Base) (n : ℕ) (ps bs : List ℕ) (some : 0 < n) (h : n ≤ le
   abbrev group : List Positioned
   group = at_positions n ps bs
 
-  pub judged-ended : (error : DecodeError) → error.position ≡ slice_index ps 0
+  pub group-after_end : (error : DecodeError) → error.position ≡ slice_index ps 0
       → error.kind ≡ Padding → fault_after true base (at_positions n ps bs) ≡ Some error
-  judged-ended error position kind = λ i.
+  group-after_end error position kind = λ i.
       Some (record {
         position = (positions-at n ps bs 0 some h k ∙ sym position) i;
         kind = sym kind i;
@@ -99,21 +99,21 @@ module _ (base : Base) (n : ℕ) (ps bs : List ℕ) (some : 0 < n) (h : n ≤ le
         alone base is group none (subst (λ m. 0 < m) (sym size) some)
         (subst (λ m. m ≤ group_symbols base.width) (sym size) few)
 
-    pub judged-fault : (fault error : DecodeError) → fault_of base (take n bs) ≡ Some fault
+    pub group-fault : (fault error : DecodeError) → fault_of base (take n bs) ≡ Some fault
         → fault.position < n → error.position ≡ slice_index ps fault.position
         → error.kind ≡ fault.kind
         → fault_after false base (at_positions n ps bs) ≡ Some error
-    judged-fault fault error is_fault inside position kind =
+    group-fault fault error is_fault inside position kind =
         law.0 ∙ ap (fault_in group) (same ∙ is_fault) ∙ (λ i. Some (record {
           position = (positions-at n ps bs fault.position inside h k ∙ sym position) i;
           kind = sym kind i;
         }))
 
-    pub judged-sound : (bytes : List ℕ) → fault_of base (take n bs) ≡ None
+    pub group-sound : (bytes : List ℕ) → fault_of base (take n bs) ≡ None
         → sound_bytes base (take n bs) ≡ bytes
         → (fault_after false base (at_positions n ps bs) ≡ None)
         × (bytes_of_group base (at_positions n ps bs) ≡ bytes)
-    judged-sound bytes no_fault sound = (
+    group-sound bytes no_fault sound = (
       law.0 ∙ ap (fault_in group) (same ∙ no_fault),
       law.1 (same ∙ no_fault) ∙ ap (sound_bytes base) (positions-bytes n ps bs h k) ∙ sound,
     )

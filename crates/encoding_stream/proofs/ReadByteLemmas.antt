@@ -190,10 +190,12 @@ module _ (base : Base) (kept : Kept) (is : IsKept base kept) (byte : ℕ)
       → ReadsOn base kept (record kept { len = kept.len + 1 }) (byte ∷ []) []
   read_byte-ignored holds ignored =
       let same : held_with base kept.len (held_group kept) (byte ∷ []) ≡ held_group kept =
-      ap (λ b. held_group kept ++ cond (not b) (next ∷ []) []) ignored ∙ append-nil (held_group kept) in
+      ap (λ b. held_group kept ++ cond (not b) (next ∷ []) []) ignored
+      ∙ append-nil (held_group kept) in
       reads-byte _ []
       (λ text read.
-      let after = holds base is.specified text (byte ∷ []) kept.len (held_group kept) kept.ended read
+      let after =
+      holds base is.specified text (byte ∷ []) kept.len (held_group kept) kept.ended read
       (subst (λ ks. length ks < group_symbols base.width) (sym same)
       (subst (λ m. m < group_symbols base.width) (sym size) is.short)) in (
         again (text ++ byte ∷ []) _ (held_group kept) kept.ended same after.0,
@@ -229,7 +231,8 @@ module _ (base : Base) (kept : Kept) (is : IsKept base kept) (byte : ℕ)
     read_byte-held holds few =
         reads-byte _ []
         (λ text read.
-        let after = holds base is.specified text (byte ∷ []) kept.len (held_group kept) kept.ended read
+        let after =
+        holds base is.specified text (byte ∷ []) kept.len (held_group kept) kept.ended read
         (subst (λ ks. length ks < group_symbols base.width) (sym joined)
         (subst (λ n. n < group_symbols base.width) (sym long) few)) in (
           again (text ++ byte ∷ []) _ group kept.ended joined after.0,
@@ -242,7 +245,8 @@ module _ (base : Base) (kept : Kept) (is : IsKept base kept) (byte : ℕ)
         → NoneIgnored base group
     none-ignored text read =
         subst (NoneIgnored base) more
-        (All-append (λ (q : Positioned). is_ignored (meaning base q.byte) ≡ false) (held_group kept) _
+        (All-append (λ (q : Positioned). is_ignored (meaning base q.byte) ≡ false)
+        (held_group kept) _
         (subst (NoneIgnored base) (sym (read.holds refl)) (unfinished-kept base text))
         (All-cons (λ (q : Positioned). is_ignored (meaning base q.byte) ≡ false) next [] is_kept
         (All-nil _)))

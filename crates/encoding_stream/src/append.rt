@@ -52,8 +52,8 @@ pub(crate) fn append_piece<A: Allocator + Copy>(
 
 /// Decodes a part of a piece to `buffer`, and appends the decoded bytes to `output`.
 ///
-/// If there are any, `output` first grows for them and for the bytes that the `rest` following bytes
-/// of the piece may complete.
+/// If there are any, `output` first grows for them and for the bytes that the next `rest` bytes of
+/// the piece may complete.
 fn append_chunk<A: Allocator + Copy>(
     pieces: &mut BufferDecoder<'_>,
     chunk: &[u8],

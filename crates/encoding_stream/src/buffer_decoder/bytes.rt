@@ -10,8 +10,8 @@ use data_encoding::DECODE_LIMIT;
 
 impl BufferDecoder<'_> {
     /// Reads byte by byte, up to a fault, while at least `least` bytes are held.
-    // Inlined with `read_byte`, since mostly no byte or a few bytes are read: calls would take 3 % of
-    // the instructions of short pieces.
+    // Inlined with `read_byte`, since mostly no byte or a few bytes are read. Calls would take 3 %
+    // of the instructions of short pieces.
     #[inline(always)]
     pub(crate) fn read_bytes(
         &mut self,

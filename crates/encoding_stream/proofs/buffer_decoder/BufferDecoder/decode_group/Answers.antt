@@ -6,7 +6,7 @@ use Rattle.encoding_stream.specs.BufferDecoder.{at_positions, base_of_pieces}
 use Rattle.encoding_stream.proofs.SizeLemmas.{symbols-few}
 use Rattle.encoding_stream.proofs.ReadByteLemmas.{is-specified}
 use Rattle.encoding_stream.proofs.OrderLemmas.{is-held}
-use Rattle.encoding_stream.proofs.GroupLemmas.{due-few, fault-refused, fault-stopped, judged-ended, judged-fault, judged-sound}
+use Rattle.encoding_stream.proofs.GroupLemmas.{due-few, fault-refused, fault-stopped, group-after_end, group-fault, group-sound}
 use Rattle.encoding_stream.proofs.buffer_decoder.BufferDecoder.decode_group.Goals.{in-Ok+in-Err-decode_mut, in-Err}
 use Rattle.encoding_stream.proofs.buffer_decoder.BufferDecoder.decode_group.Goals as goal
 
@@ -19,8 +19,9 @@ returns-then-self-clause-fault c = λ none.
     (λ e. fault_after e (base_of_pieces s) (at_positions c.args.count k.positions k.bytes)
     ≡ Some c.at_text_position.result)
     (sym c.if-self.true)
-    (judged-ended (base_of_pieces s) c.args.count k.positions k.bytes c.requires.some
-    (omega (arith, few, c.requires.few)) (omega (arith, few, c.requires.few)) c.at_text_position.result
+    (group-after_end (base_of_pieces s) c.args.count k.positions k.bytes c.requires.some
+    (omega (arith, few, c.requires.few)) (omega (arith, few, c.requires.few))
+    c.at_text_position.result
     c.at_text_position.ensures.position c.at_text_position.ensures.kind)
 
 pub shared_ref_as_front-decode_mut : goal.shared_ref_as_front-decode_mut
@@ -66,7 +67,7 @@ returns-in-Ok-decode_mut-clause-sound c = λ none.
     take-append-le c.in-Ok-decode_mut.written c.decode_mut.new.output
     (drop c.in-Ok.len c.args.output.now) c.in-Ok-decode_mut.ensures.decoded.0 in
     let judged =
-    judged-sound (base_of_pieces s) c.args.count k.positions k.bytes c.requires.some
+    group-sound (base_of_pieces s) c.args.count k.positions k.bytes c.requires.some
     (omega (arith, few, c.requires.few)) (omega (arith, few, c.requires.few))
     (is-specified s) s.laws.alone c.requires.few none _ sound.0
     (sound.1 ∙ sym part) in (
@@ -105,7 +106,8 @@ pub returns-then-self-clause-position : goal.returns-then-self-clause-position
 returns-then-self-clause-position c =
     let s = c.args.self.now in
     let few = symbols-few (base_of_pieces s).width s.width in
-    is-held c.args.count 0 s.kept.positions c.at_text_position.result.position c.at_text_position.ensures.position
+    is-held c.args.count 0 s.kept.positions c.at_text_position.result.position
+    c.at_text_position.ensures.position
     c.requires.some (omega (arith, few, c.requires.few))
 
 pub returns-clause-position : goal.returns-clause-position
@@ -120,7 +122,8 @@ returns-clause-position c =
       | in-Err w ↦ rw w.fault-is w.in-Err.ensures.position
     ] in
     is-held c.args.count c.match-decode_len.fault.position s.kept.positions
-    c.at_text_position-2.result.position c.at_text_position-2.ensures.position inside (omega (arith, few, c.requires.few))
+    c.at_text_position-2.result.position c.at_text_position-2.ensures.position inside
+    (omega (arith, few, c.requires.few))
 
 pub at_text_position-requires-2 : goal.at_text_position-requires-2
 at_text_position-requires-2 c =
@@ -160,8 +163,9 @@ returns-clause-fault c = λ none.
     (λ e. fault_after e (base_of_pieces s) (at_positions c.args.count k.positions k.bytes)
     ≡ Some c.at_text_position-2.result)
     (sym c.if-self.false)
-    (judged-fault (base_of_pieces s) c.args.count k.positions k.bytes c.requires.some
+    (group-fault (base_of_pieces s) c.args.count k.positions k.bytes c.requires.some
     (omega (arith, few, c.requires.few)) (omega (arith, few, c.requires.few))
     (is-specified s) s.laws.alone c.requires.few none
-    c.match-decode_len.fault c.at_text_position-2.result found.0 found.1 c.at_text_position-2.ensures.position
+    c.match-decode_len.fault c.at_text_position-2.result found.0 found.1
+    c.at_text_position-2.ensures.position
     c.at_text_position-2.ensures.kind)

@@ -3,7 +3,7 @@ use Rattle.std.proofs.lemmas.List.Elements.{All-contains}
 use Rattle.std.proofs.lemmas.Result.{IfErr-weaker, IfOk-weaker}
 use Rattle.encoding_stream.specs.BufferDecoder.{base_of_pieces}
 use Rattle.encoding_stream.proofs.SizeLemmas.{bytes-few, symbols-few}
-use Rattle.encoding_stream.proofs.FinishLemmas.{last-judged, last-kept}
+use Rattle.encoding_stream.proofs.FinishLemmas.{last-fault, last-none_ignored}
 use Rattle.encoding_stream.proofs.buffer_decoder.BufferDecoder.decode_last_group.Goals as goal
 
 pub returns-then-self-eq0-clause-sound : goal.returns-then-self-eq0-clause-sound
@@ -26,10 +26,10 @@ returns-clause-sound c =
     IfOk-weaker c.decode_group.result _ _
     (λ written judged text keeps.
     let verdict = judged
-    (last-kept (base_of_pieces s) k.fault k.positions k.bytes k.count k.ended none
+    (last-none_ignored (base_of_pieces s) k.fault k.positions k.bytes k.count k.ended none
     (omega (arith, c.if-self-eq0.false)) (omega (arith, few, s.short))
     (omega (arith, few, s.short)) text k.len keeps) in (
-      last-judged (base_of_pieces s) k.fault k.positions k.bytes k.count k.ended none
+      last-fault (base_of_pieces s) k.fault k.positions k.bytes k.count k.ended none
           (omega (arith, c.if-self-eq0.false)) (omega (arith, few, s.short))
           (omega (arith, few, s.short)) text k.len keeps None verdict.0,
       verdict.1,
@@ -44,11 +44,11 @@ returns-clause-fault c =
     let few = symbols-few (base_of_pieces s).width s.width in
     IfErr-weaker c.decode_group.result _ _
     (λ error judged text keeps.
-    last-judged (base_of_pieces s) k.fault k.positions k.bytes k.count k.ended none
+    last-fault (base_of_pieces s) k.fault k.positions k.bytes k.count k.ended none
     (omega (arith, c.if-self-eq0.false)) (omega (arith, few, s.short))
     (omega (arith, few, s.short)) text k.len keeps (Some error)
     (judged
-    (last-kept (base_of_pieces s) k.fault k.positions k.bytes k.count k.ended none
+    (last-none_ignored (base_of_pieces s) k.fault k.positions k.bytes k.count k.ended none
     (omega (arith, c.if-self-eq0.false)) (omega (arith, few, s.short))
     (omega (arith, few, s.short)) text k.len keeps)))
     c.decode_group.ensures.fault

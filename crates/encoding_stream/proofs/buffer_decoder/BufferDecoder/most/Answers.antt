@@ -15,4 +15,5 @@ returns-clause-few c =
     )
 
 pub returns-clause-value : goal.returns-clause-value
-returns-clause-value c = rw (sym c.is_some.ensures ∙ c.if-is_some.false) c.completed_groups.ensures.bytes
+returns-clause-value c =
+    rw (sym c.is_some.ensures ∙ c.if-is_some.false) c.completed_groups.ensures.bytes

@@ -78,7 +78,8 @@ returns-in-Ok-clause-reads c =
     let bytes = take c.in-Ok.written c.decode_group-decoded.new.output in
     let whole = rw c.by_ref-encoding.ensures at c.group_len-size.ensures.value in
     let size =
-    length-take-le c.in-Ok.written c.decode_group-decoded.new.output (returns-in-Ok-clause-within c) in
+    length-take-le c.in-Ok.written c.decode_group-decoded.new.output (returns-in-Ok-clause-within c)
+    in
     read_byte-sound (base_of_pieces s) s.kept
     (is-kept s (omega arith) (omega arith)) c.args.byte
     (sym c.is_some.ensures ∙ c.if-is_some.false)

@@ -21,7 +21,8 @@ returns-in-Err-clause-reads c =
     let text = take c.completed_groups-len.result.0 c.args.piece.now in
     let bytes = take partial.written new in
     let text-is : length text ≡ c.completed_groups-len.result.0 =
-    length-take-le c.completed_groups-len.result.0 c.args.piece.now c.completed_groups-len.ensures.few in
+    length-take-le c.completed_groups-len.result.0 c.args.piece.now
+    c.completed_groups-len.ensures.few in
     let within = c.in-Err.ensures.within in
     let few : FillsGroups base 0 (length text) 0 (length bytes) = record {
       groups = length c.args.piece.now / group_symbols base.width;
@@ -40,7 +41,8 @@ returns-in-Err-clause-reads c =
       sound = sym c.is_some.ensures ∙ c.if-is_some.false;
       goes_on = c.if-self.false;
     } in
-    rw (take-append-le partial.written new (drop c.completed_groups-len.result.1 c.args.output.now) within)
+    rw (take-append-le partial.written new
+    (drop c.completed_groups-len.result.1 c.args.output.now) within)
     (subst (λ e. ReadsOn base old (record old {
       len = old.len + c.completed_groups-len.result.0;
       fault = further old.len (Some partial.error);
@@ -66,7 +68,9 @@ returns-clause-reads c =
     let written = run.run'.1 in
     let front = take read c.args.piece.now in
     let bytes = take written new in
-    let within = length-take-le c.completed_groups-len.result.0 c.args.piece.now c.completed_groups-len.ensures.few in
+    let within =
+    length-take-le c.completed_groups-len.result.0 c.args.piece.now
+    c.completed_groups-len.ensures.few in
     let front-is : length front ≡ read =
     length-take-le read c.args.piece.now
     (omega (arith, run.ensures.read, within, c.completed_groups-len.ensures.few)) in
@@ -108,13 +112,15 @@ pub returns-then-not-are_whole-clause-all : goal.returns-then-not-are_whole-clau
 returns-then-not-are_whole-clause-all c = λ _ _ _ none bytes means.
     let read-is =
     c.in-Ok.ensures.all bytes (rw (sym c.completed_groups-len.ensures.len) at means)
-    ∙ length-take-le c.completed_groups-len.result.0 c.args.piece.now c.completed_groups-len.ensures.few in
+    ∙ length-take-le c.completed_groups-len.result.0 c.args.piece.now
+    c.completed_groups-len.ensures.few in
     absurd (false≢true (sym c.if-not-are_whole.true ∙ c.are_whole.ensures.by_length none read-is))
 
 pub returns-clause-all : goal.returns-clause-all
 returns-clause-all c = λ _ _ _ none bytes means.
     c.in-Ok.ensures.all bytes (rw (sym c.completed_groups-len.ensures.len) at means)
-    ∙ length-take-le c.completed_groups-len.result.0 c.args.piece.now c.completed_groups-len.ensures.few
+    ∙ length-take-le c.completed_groups-len.result.0 c.args.piece.now
+    c.completed_groups-len.ensures.few
     ∙ c.completed_groups-len.ensures.len
 
 pub invariant_of-self-2 : goal.invariant_of-self-2
@@ -131,7 +137,8 @@ invariant_of-self-2 c =
         arith,
         c.requires.limit,
         c.in-Ok.ensures.read,
-        length-take-le c.completed_groups-len.result.0 c.args.piece.now c.completed_groups-len.ensures.few,
+        length-take-le c.completed_groups-len.result.0 c.args.piece.now
+            c.completed_groups-len.ensures.few,
         c.completed_groups-len.ensures.few,
       );
       inside = λ k d at. omega (arith, s.inside k d at);
@@ -153,7 +160,8 @@ returns-then-not-are_whole-clause-reads c =
 pub overflow_add-self : goal.overflow_add-self
 overflow_add-self c =
     let read =
-    length-take-le c.completed_groups-len.result.0 c.args.piece.now c.completed_groups-len.ensures.few in
+    length-take-le c.completed_groups-len.result.0 c.args.piece.now
+    c.completed_groups-len.ensures.few in
     record {
       fits = omega (
         arith,
@@ -169,13 +177,15 @@ returns-in-Err-clause-within c =
     omega (
       arith,
       c.in-Err.ensures.within,
-      length-append c.decode_run.new.output (drop c.completed_groups-len.result.1 c.args.output.now),
+      length-append c.decode_run.new.output
+          (drop c.completed_groups-len.result.1 c.args.output.now),
     )
 
 pub overflow_add-self-2 : goal.overflow_add-self-2
 overflow_add-self-2 c =
     let read =
-    length-take-le c.completed_groups-len.result.0 c.args.piece.now c.completed_groups-len.ensures.few in
+    length-take-le c.completed_groups-len.result.0 c.args.piece.now
+    c.completed_groups-len.ensures.few in
     record {
       fits = omega (
         arith,
@@ -191,7 +201,8 @@ returns-clause-read c =
     omega (
       arith,
       c.in-Ok.ensures.read,
-      length-take-le c.completed_groups-len.result.0 c.args.piece.now c.completed_groups-len.ensures.few,
+      length-take-le c.completed_groups-len.result.0 c.args.piece.now
+          c.completed_groups-len.ensures.few,
       c.completed_groups-len.ensures.few,
     )
 
@@ -200,7 +211,8 @@ returns-clause-within c =
     omega (
       arith,
       c.in-Ok.ensures.written,
-      length-append c.decode_run.new.output (drop c.completed_groups-len.result.1 c.args.output.now),
+      length-append c.decode_run.new.output
+          (drop c.completed_groups-len.result.1 c.args.output.now),
     )
 
 pub slice_bounds-decode_run-end-2 : goal.slice_bounds-decode_run-end-2
@@ -212,15 +224,18 @@ pub slice_bounds-decode_run-end-3 : goal.slice_bounds-decode_run-end-3
 slice_bounds-decode_run-end-3 c =
     sym (length-take-le c.completed_groups-len.result.1 c.args.output.now
     (due-fits c.args.self.now _ c.if-self-ne0.false
-    (sym c.is_some.ensures ∙ c.if-is_some.false) c.completed_groups-len.ensures.bytes c.requires.room))
+    (sym c.is_some.ensures ∙ c.if-is_some.false) c.completed_groups-len.ensures.bytes
+    c.requires.room))
 
 pub decode_run-requires-clause-exact : goal.decode_run-requires-clause-exact
 decode_run-requires-clause-exact c =
     rw (
-      length-take-le c.completed_groups-len.result.0 c.args.piece.now c.completed_groups-len.ensures.few,
+      length-take-le c.completed_groups-len.result.0 c.args.piece.now
+          c.completed_groups-len.ensures.few,
       length-take-le c.completed_groups-len.result.1 c.args.output.now
           (due-fits c.args.self.now (length c.args.piece.now) c.if-self-ne0.false
-          (sym c.is_some.ensures ∙ c.if-is_some.false) c.completed_groups-len.ensures.bytes c.requires.room),
+          (sym c.is_some.ensures ∙ c.if-is_some.false) c.completed_groups-len.ensures.bytes
+          c.requires.room),
     )
     c.completed_groups-len.ensures.due
 
@@ -228,7 +243,8 @@ pub invariant_of-self : goal.invariant_of-self
 invariant_of-self c =
     let s = c.args.self.now in
     let read =
-    length-take-le c.completed_groups-len.result.0 c.args.piece.now c.completed_groups-len.ensures.few in
+    length-take-le c.completed_groups-len.result.0 c.args.piece.now
+    c.completed_groups-len.ensures.few in
     record {
       laws = s.laws;
       specified = s.specified;
