@@ -12,22 +12,22 @@ const FIRST_LEN: usize = 256;
 
 /// Returns the arguments of the command line, without the name of the program.
 ///
-/// In an argument that is not UTF-8, each byte that belongs to no character is written as `\x` and
-/// its two hexadecimal digits. No verb and no name has a backslash. Returns an error only if memory
+/// In an argument that is not UTF-8, each byte outside a character is written as `\x` and its two
+/// hexadecimal digits. No verb and no name has a backslash. Returns an error only if memory
 /// runs out.
-pub fn words_of(rt: &HostRuntime) -> Result<Vec<String>, AllocError> {
-    let mut words = Vec::new(rt.alloc());
+pub fn arguments_of(rt: &HostRuntime) -> Result<Vec<String>, AllocError> {
+    let mut arguments = Vec::new(rt.alloc());
     for index in 1..usize::MAX {
-        let Some(word) = word_at(rt, index)? else {
+        let Some(argument) = argument_at(rt, index)? else {
             break;
         };
-        words.push(shown(rt.alloc(), &word)?)?;
+        arguments.push(shown(rt.alloc(), &argument)?)?;
     }
-    Ok(words)
+    Ok(arguments)
 }
 
-// The bytes of an argument, or `None` after the last.
-fn word_at(rt: &HostRuntime, index: usize) -> Result<Option<Vec<u8>>, AllocError> {
+/// Returns the bytes of the argument `index`, or `None` after the last argument.
+fn argument_at(rt: &HostRuntime, index: usize) -> Result<Option<Vec<u8>>, AllocError> {
     let mut bytes = vec![in rt.alloc(); 0; FIRST_LEN]?;
     for _ in 0..usize::BITS {
         match rt.arg(index, bytes.as_mut_slice()) {
@@ -42,20 +42,21 @@ fn word_at(rt: &HostRuntime, index: usize) -> Result<Option<Vec<u8>>, AllocError
     Err(AllocError)
 }
 
-// An argument as text: the same bytes, if they are UTF-8.
-fn shown(alloc: Global, word: &[u8]) -> Result<String, AllocError>
-    ensures { IfOk result (λ text. IsUtf8 word.now → string_bytes text ≡ word.now) }
+/// Returns the bytes of `argument` as text if they are UTF-8, and otherwise escapes them.
+fn shown(alloc: Global, argument: &[u8]) -> Result<String, AllocError>
+    ensures { IfOk result (λ text. IsUtf8 argument.now → string_bytes text ≡ argument.now) }
 {
-    match str::from_utf8(word) {
+    match str::from_utf8(argument) {
         Ok(text) => String::from_str(alloc, text),
-        Err(_) => escaped(alloc, word),
+        Err(_) => escaped(alloc, argument),
     }
 }
 
-// The bytes that are UTF-8 as they are, and the others as `\x` and their two hexadecimal digits.
-fn escaped(alloc: Global, word: &[u8]) -> Result<String, AllocError> {
+/// Returns `argument` as text. Each byte that is not UTF-8 becomes `\x` and its two hexadecimal
+/// digits.
+fn escaped(alloc: Global, argument: &[u8]) -> Result<String, AllocError> {
     let mut text = String::new(alloc);
-    for chunk in word.utf8_chunks() {
+    for chunk in argument.utf8_chunks() {
         text.push_str(chunk.valid())?;
         for byte in chunk.invalid() {
             write!(text, "\\x{byte:02x}")?;

@@ -5,11 +5,11 @@ use Rattle.std.specs.declared.string.String.{String}
 use Rattle.std.specs.declared.alloc.Global.{Global}
 use Rattle.basecode.specs.Faults.{printed_word_fault}
 use Rattle.data_encoding.specs.Named.{fields_named}
-use Rattle.basecode.specs.Words.{AreRequest, IsWrong, ask_of, texts}
+use Rattle.basecode.specs.Arguments.{AreRequest, IsWrong, ask_of, texts}
 use Rattle.basecode.specs.declared.fault.WordFault.{WordFault}
 use Rattle.basecode.specs.declared.fault.WordFault.TheVariants.{Usage, UnknownName}
-use Rattle.basecode.proofs.WordLemmas.{name_requested, printed_name}
-use Rattle.basecode.proofs.callers.told.Goals as goal
+use Rattle.basecode.proofs.ArgumentLemmas.{name_requested, printed_name}
+use Rattle.basecode.proofs.callers.printed_fault.Goals as goal
 
 pub returns-in-Ok-clause-no_name : goal.returns-in-Ok-clause-no_name
 returns-in-Ok-clause-no_name c = λ some unknown.

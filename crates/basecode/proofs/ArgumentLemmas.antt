@@ -12,8 +12,8 @@ use Rattle.data_encoding.specs.Canonical.{IsCanonical}
 use Rattle.data_encoding.specs.Named.{fields_named, IsNamed}
 use Rattle.encoding_stream.specs.Watch.{from_to}
 use Rattle.basecode.specs.Faults.{printed_word_fault}
-use Rattle.basecode.specs.Words.{AreRequest, Asks, IsWrong, Names, Of, Request, Task, ask_of, both, texts}
-use Rattle.basecode.specs.Run.{Answers, Begins, Begun, ByAnswer, ByReply, Done, Fulfils, OfNames, OfQuestion, Replies, TellsCanonical, truth}
+use Rattle.basecode.specs.Arguments.{AreRequest, Asks, IsWrong, Names, Of, Request, Task, ask_of, both, texts}
+use Rattle.basecode.specs.Run.{Answers, Begins, Begun, ByAnswer, ByReply, Done, Fulfils, OfNames, OfQuestion, Replies, IsCanonicalLine, truth}
 use Rattle.basecode.specs.declared.command.Ask.{Ask}
 use Rattle.basecode.specs.declared.command.Ask.TheVariants.{Conversion, Question}
 use Rattle.basecode.specs.declared.command.Request.{Request as Requested}
@@ -184,12 +184,12 @@ module _ (word name : List ℕ) (given : Verb) (asks : ask_of word ≡ Some (Con
 -- the arguments ask whether data has one text only, in the encoding with a name
 module _ (name : List ℕ) (base : Base) (known : IsNamed name base) where
   fulfilled_answered : (old new : Option (List ℕ)) (output : List ℕ)
-      → Fulfils (codes "canonical" ∷ name ∷ []) old new output → TellsCanonical base output
+      → Fulfils (codes "canonical" ∷ name ∷ []) old new output → IsCanonicalLine base output
   fulfilled_answered old new output (ByAnswer verb other asked answers) =
       absurd (false≢true (ap is_question
       (ask_asked (codes "canonical") name (Conversion verb) other asked Question refl)))
   fulfilled_answered old new output (ByReply (OfQuestion other asked keeps answered)) =
-      subst (λ b. TellsCanonical b output)
+      subst (λ b. IsCanonicalLine b output)
       (base_asked (codes "canonical") name Question other asked base known) answered
   fulfilled_answered old new output (ByReply (OfNames is keeps listed)) =
       absurd (names_by_two (both (Some Question) (fields_named name)) is)
@@ -197,13 +197,13 @@ module _ (name : List ℕ) (base : Base) (known : IsNamed name base) where
   -- what was written says so
   pub canonical_answered : (old new : Option (List ℕ)) (line : List ℕ)
       → Done (codes "canonical" ∷ name ∷ []) (from_to old new) (from_to (Some []) (Some line))
-      → TellsCanonical base line
+      → IsCanonicalLine base line
   canonical_answered old new line done =
-      subst (TellsCanonical base) (sym done.written)
+      subst (IsCanonicalLine base) (sym done.written)
       (fulfilled_answered old new done.output done.fulfils)
 
 -- and a line is read as it was written
-pub line_read : (base : Base) (line : List ℕ) → TellsCanonical base line
+pub line_read : (base : Base) (line : List ℕ) → IsCanonicalLine base line
     → (line ≡ truth true) ↔ IsCanonical base
 line_read base line (inl (is, shown)) = (λ same. is, λ is_so. shown)
 line_read base line (inr (is_not, shown)) =

@@ -1,7 +1,7 @@
 use Rattle.std.proofs.Common.{rules, ◌≡◌}
 use Rattle.std.proofs.lemmas.Result.{on_ok_weaker}
 use Rattle.basecode.proofs.LineLemmas.{line_sent, line_written}
-use Rattle.basecode.proofs.fault.tell.Goals as goal
+use Rattle.basecode.proofs.fault.print_fault.Goals as goal
 
 pub returns-in-Ok : goal.returns-in-Ok
 returns-in-Ok g c =
