@@ -17,12 +17,12 @@ use Rattle.encoding_stream.specs.declared.error.StreamFault.TheVariants.{Decode 
 use Rattle.encoding_stream.specs.Watch.{from_to}
 use Rattle.basecode.specs.Faults.{status_after}
 use Rattle.data_encoding.specs.Named.{IsNamed}
-use Rattle.basecode.specs.Run.{Begun, ByAnswer, Converts, DecodesFaulty, Done, Explains, Refused}
-use Rattle.basecode.specs.Words.{Asks, limit_of}
+use Rattle.basecode.specs.Run.{Begun, ByAnswer, Converts, DecodesFaulty, Done, CausesFault, Refused}
+use Rattle.basecode.specs.Arguments.{Asks, limit_of}
 use Rattle.basecode.specs.declared.command.Ask.TheVariants.{Conversion}
 use Rattle.basecode.specs.declared.command.Verb.{Verb}
 use Rattle.basecode.specs.declared.command.Verb.TheVariants.{Encode, Decode}
-use Rattle.basecode.proofs.WordLemmas.{base_asked, begun, fulfilled, verb_asked}
+use Rattle.basecode.proofs.ArgumentLemmas.{base_asked, begun, fulfilled, verb_asked}
 
 -- what is read to the end is all that there was
 all_read : (old new bytes : List ℕ) → Consumes (Some old) (Some new) bytes → IsAtEnd (Some new)
@@ -70,7 +70,7 @@ module _ (words : List (List ℕ)) (read_old read_new written_old written_new : 
     -- a conversion that ends with status 1 is refused
     pub refused_conversion : (verb : Verb) (base : Base) (outcome : Result (Unit {0}) StreamFault)
         → Asks words (Conversion verb) base
-        → IfErr outcome (Explains verb base (from_to read_old read_new)
+        → IfErr outcome (CausesFault verb base (from_to read_old read_new)
         (from_to written_old written_new))
         → status_after outcome ≡ 1 → Refused words (from_to read_old read_new)
         (from_to written_old written_new)
@@ -126,7 +126,7 @@ pub explained : (base : Base) (read_old read_new written_old written_new : Optio
     → ((error : DecodeError) → outcome ≡ Err (Faulty error)
     → DecodesAll base (Some error) (from_to read_old read_new) (from_to written_old written_new))
     → (outcome ≡ Err TooLong → ReadsMore (limit_of Decode) (from_to read_old read_new))
-    → IfErr outcome (Explains Decode base (from_to read_old read_new)
+    → IfErr outcome (CausesFault Decode base (from_to read_old read_new)
     (from_to written_old written_new))
 explained base read_old read_new written_old written_new (Ok done) faulty past = tt
 explained base read_old read_new written_old written_new (Err (Faulty error)) faulty past =

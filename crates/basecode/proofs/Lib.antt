@@ -1,4 +1,4 @@
-pub mod WordLemmas
+pub mod ArgumentLemmas
 pub mod ConversionLemmas
 mod Vectors
 pub mod LineLemmas

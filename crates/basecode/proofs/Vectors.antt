@@ -14,8 +14,8 @@ use Rattle.encoding_stream.specs.Watch.{from_to, AppendsFront, Change}
 use Rattle.basecode.specs.declared.command.Ask.TheVariants.{Conversion, Question}
 use Rattle.basecode.specs.declared.command.Verb.TheVariants.{Encode, Decode}
 use Rattle.data_encoding.specs.Named.{IsNamed, fields_named, listing, names}
-use Rattle.basecode.specs.Run.{DecodesFaulty, AskConversion, Answers, Begins, BeginsAnswer, BeginsReply, Begun, Done, Fulfils, ByAnswer, ByReply, IsAnswer, Refused, Replies, OfNames, OfQuestion, TellsCanonical, truth}
-use Rattle.basecode.specs.Words.{Task, Request, Asks, Names, Of, ask_of, both, limit_of, request_of, texts}
+use Rattle.basecode.specs.Run.{DecodesFaulty, AskConversion, Answers, Begins, BeginsAnswer, BeginsReply, Begun, Done, Fulfils, ByAnswer, ByReply, IsAnswer, Refused, Replies, OfNames, OfQuestion, IsCanonicalLine, truth}
+use Rattle.basecode.specs.Arguments.{Task, Request, Asks, Names, Of, ask_of, both, limit_of, request_of, texts}
 use Rattle.std.proofs.lemmas.List.{append-nil}
 use Rattle.std.specs.Io.KnownBytes.{Keeps}
 use Rattle.data_encoding.specs.Grammar.{Means}
@@ -110,27 +110,27 @@ encoded_hello :
 encoded_hello = encoded_in _ asked refl
 
 answered_in : (base : Base) → Asks question Question base
-    → (IsCanonical base → TellsCanonical base (codes "true" ++ 10 ∷ [])
+    → (IsCanonical base → IsCanonicalLine base (codes "true" ++ 10 ∷ [])
     × Replies question hello hello (codes "true" ++ 10 ∷ []))
-    × (¬ IsCanonical base → TellsCanonical base (codes "false" ++ 10 ∷ [])
+    × (¬ IsCanonical base → IsCanonicalLine base (codes "false" ++ 10 ∷ [])
     × Replies question hello hello (codes "false" ++ 10 ∷ []))
 answered_in base asks = (
   λ is.
-      let answered : TellsCanonical base (codes "true" ++ 10 ∷ []) = inl (is, refl) in
+      let answered : IsCanonicalLine base (codes "true" ++ 10 ∷ []) = inl (is, refl) in
       (answered, OfQuestion base asks refl answered),
   λ is_not.
-      let answered : TellsCanonical base (codes "false" ++ 10 ∷ []) = inr (is_not, refl) in
+      let answered : IsCanonicalLine base (codes "false" ++ 10 ∷ []) = inr (is_not, refl) in
       (answered, OfQuestion base asks refl answered),
 )
 
 -- the answer to a question, with nothing read
-told :
+question_answered :
     Has hexlower_fields (λ base.
-    (IsCanonical base → TellsCanonical base (codes "true" ++ 10 ∷ [])
+    (IsCanonical base → IsCanonicalLine base (codes "true" ++ 10 ∷ [])
     × Replies question hello hello (codes "true" ++ 10 ∷ []))
-    × (¬ IsCanonical base → TellsCanonical base (codes "false" ++ 10 ∷ [])
+    × (¬ IsCanonical base → IsCanonicalLine base (codes "false" ++ 10 ∷ [])
     × Replies question hello hello (codes "false" ++ 10 ∷ [])))
-told = answered_in _ asked_whether
+question_answered = answered_in _ asked_whether
 
 -- the line of an answer, and the reply to `list`, with nothing read
 replied :
@@ -221,37 +221,37 @@ answered_by base text left output answers =
     ∙ ap (λ rest. answers.input ++ rest) (sym answers.at_end) ∙ sym answers.read in
     (answers.at_end, answers.is_answer ∙ ap (text_of base) input ∙ text)
 
-answered_told :
+answer_of_hello :
     Has base64_fields (λ base. (left output : List ℕ)
     → Answers Encode base hello (Some left) output
     → (left ≡ []) × (output ≡ codes "SGVsbG8="))
-answered_told = answered_by _ refl
+answer_of_hello = answered_by _ refl
 
-answer_told :
+answer_is_text_or_data :
     Has base64_fields (λ base. (input output : List ℕ)
     → (IsAnswer Encode base (codes "Hello") output → output ≡ codes "SGVsbG8=")
     × (IsAnswer Decode base input output → Means base input output))
-answer_told input output = (λ is. is, λ means. means)
+answer_is_text_or_data input output = (λ is. is, λ means. means)
 
 -- what beginning to convert has done
-begins_told : (base : Base) (reader writer : Change)
+begins_by_verb : (base : Base) (reader writer : Change)
     → (Begins Encode base reader writer → EncodesFront base reader writer)
     × (Begins Decode base reader writer → DecodesFront base reader writer)
-begins_told base reader writer = (λ begins. begins, λ begins. begins)
+begins_by_verb base reader writer = (λ begins. begins, λ begins. begins)
 
 -- a line is `true` of a canonical base, or `false` of another
-line_told : (base : Base) (line : List ℕ) → TellsCanonical base line
+line_is_true_or_false : (base : Base) (line : List ℕ) → IsCanonicalLine base line
     → (IsCanonical base × (line ≡ codes "true" ++ 10 ∷ []))
     ⊎ ((¬ IsCanonical base) × (line ≡ codes "false" ++ 10 ∷ []))
-line_told base line answered = answered
+line_is_true_or_false base line answered = answered
 
 -- what was written is what was asked for
-done_told : (output : List ℕ)
+done_fulfils : (output : List ℕ)
     → Done words (from_to hello nothing) (from_to nothing (Some output))
     → Fulfils words hello nothing output
-done_told output done = subst (Fulfils words hello nothing) (sym done.written) done.fulfils
+done_fulfils output done = subst (Fulfils words hello nothing) (sym done.written) done.fulfils
 
-begun_told : (reader writer : Change)
+begun_by_answer_or_reply : (reader writer : Change)
     → ((answer : BeginsAnswer words reader writer) → Asks words (Conversion answer.verb) answer.base
     × Begins answer.verb answer.base reader writer)
     × ((reply : BeginsReply words reader writer)
@@ -259,14 +259,14 @@ begun_told : (reader writer : Change)
     × AppendsFront writer.old writer.new reply.output)
     × (Begun words reader writer → BeginsAnswer words reader writer
     ⊎ BeginsReply words reader writer)
-begun_told reader writer = (
+begun_by_answer_or_reply reader writer = (
   λ answer. (answer.asked, answer.begins),
   λ reply. (reply.replies, reply.written),
   λ begun. begun.is_begun,
 )
 
 -- only a text to decode has a fault
-refused_told : (base : Base) (reader writer : Change)
+refused_for_a_reason : (base : Base) (reader writer : Change)
     → ((faulty : DecodesFaulty Decode base reader writer)
     → DecodesAll base (Some faulty.error) reader writer)
     × ((faulty : DecodesFaulty Encode base reader writer) → Encode ≡ Decode)
@@ -275,7 +275,7 @@ refused_told : (base : Base) (reader writer : Change)
     × (ReadsMore (limit_of refused.verb) reader
     ⊎ DecodesFaulty refused.verb refused.base reader writer))
     × ((ask : AskConversion words) → Asks words (Conversion ask.verb) ask.base)
-refused_told base reader writer = (
+refused_for_a_reason base reader writer = (
   λ faulty. faulty.decodes,
   λ faulty. faulty.is_decoding,
   λ refused. (refused.asked, refused.reason),
@@ -288,18 +288,21 @@ fields_in (Some Names) = hexlower_fields
 fields_in None = hexlower_fields
 
 -- `encode BASE64` asks about the base that is built from the specification of BASE64
-asked_told : (base : Base) → Asks words (Conversion Encode) base → base_of base64_fields ≡ Ok base
-asked_told base asks = ap (λ request. base_of (fields_in request)) asks.is_request ∙ asks.is_built
+asked_base_is_built : (base : Base) → Asks words (Conversion Encode) base
+    → base_of base64_fields ≡ Ok base
+asked_base_is_built base asks =
+    ap (λ request. base_of (fields_in request)) asks.is_request ∙ asks.is_built
 
 -- a reply reads nothing, and what is asked for is an answer or a reply
-reply_told : (given : List (List ℕ)) (old new : Option (List ℕ)) (output : List ℕ)
+reply_keeps_input : (given : List (List ℕ)) (old new : Option (List ℕ)) (output : List ℕ)
     → Replies given old new output → Keeps old new
-reply_told given old new output (OfQuestion base asks keeps answered) = keeps
-reply_told given old new output (OfNames is keeps listed) = keeps
+reply_keeps_input given old new output (OfQuestion base asks keeps answered) = keeps
+reply_keeps_input given old new output (OfNames is keeps listed) = keeps
 
-fulfilled_told : (given : List (List ℕ)) (old new : Option (List ℕ)) (output : List ℕ)
+fulfilled_by_answer_or_reply : (given : List (List ℕ)) (old new : Option (List ℕ)) (output : List ℕ)
     → Fulfils given old new output
     → ((verb : Verb) × (base : Base) × Answers verb base old new output)
     ⊎ Replies given old new output
-fulfilled_told given old new output (ByAnswer verb base asks answers) = inl (verb, base, answers)
-fulfilled_told given old new output (ByReply replies) = inr replies
+fulfilled_by_answer_or_reply given old new output (ByAnswer verb base asks answers) =
+    inl (verb, base, answers)
+fulfilled_by_answer_or_reply given old new output (ByReply replies) = inr replies

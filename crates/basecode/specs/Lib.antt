@@ -1,3 +1,3 @@
 pub mod Faults
-pub mod Words
+pub mod Arguments
 pub mod Run

@@ -15,7 +15,7 @@ use Rattle.basecode.specs.declared.command.Ask.TheVariants.{Conversion, Question
 use Rattle.basecode.specs.declared.command.Verb.{Verb}
 use Rattle.basecode.specs.declared.command.Verb.TheVariants.{Encode, Decode}
 use Rattle.data_encoding.specs.Named.{listing}
-use Rattle.basecode.specs.Words.{Asks, Names, limit_of, request_of}
+use Rattle.basecode.specs.Arguments.{Asks, Names, limit_of, request_of}
 
 -- `output` is the answer to an input: the text of its bytes, or the bytes that it means.
 abbrev pub IsAnswer : Verb → Base → List ℕ → List ℕ → Type 0
@@ -45,14 +45,14 @@ Begins Encode base reader writer =
 Begins Decode base reader writer =
     DecodesFront base reader writer
 
--- The reason for a fault. After `Decode`, the whole text has this fault, and its sound bytes were
+-- The cause of a fault. After `Decode`, the whole text has this fault, and its sound bytes were
 -- written. After `TooLong`, more bytes than the limit were read.
-abbrev pub Explains : Verb → Base → Change → Change → StreamFault → Type 0
-Explains verb base reader writer (DecodeFault error) =
+abbrev pub CausesFault : Verb → Base → Change → Change → StreamFault → Type 0
+CausesFault verb base reader writer (DecodeFault error) =
     (verb ≡ Decode) × DecodesAll base (Some error) reader writer
-Explains verb base reader writer TooLong =
+CausesFault verb base reader writer TooLong =
     ReadsMore (limit_of verb) reader
-Explains verb base reader writer _ = ⊤
+CausesFault verb base reader writer _ = ⊤
 
 -- The line that answers a question.
 abbrev pub truth : Bool → List ℕ
@@ -60,8 +60,8 @@ truth true = codes "true" ++ 10 ∷ []
 truth false = codes "false" ++ 10 ∷ []
 
 -- The line is `true` if no two different texts mean the same data, and `false` otherwise.
-abbrev pub TellsCanonical : Base → List ℕ → Type 0
-TellsCanonical base line =
+abbrev pub IsCanonicalLine : Base → List ℕ → Type 0
+IsCanonicalLine base line =
     (IsCanonical base × (line ≡ truth true)) ⊎ ((¬ IsCanonical base) × (line ≡ truth false))
 
 -- Nothing was read, and `output` is the reply to the arguments: the line that states if an encoding
@@ -69,7 +69,7 @@ TellsCanonical base line =
 pub data Replies (words : List (List ℕ)) (old new : Option (List ℕ)) (output : List ℕ)
     : Type 0 where
   OfQuestion : (base : Base) → Asks words Question base → Keeps old new
-      → TellsCanonical base output → Replies words old new output
+      → IsCanonicalLine base output → Replies words old new output
   OfNames : request_of words ≡ Some Names → Keeps old new → output ≡ listing
       → Replies words old new output
 

@@ -9,7 +9,7 @@ ghost use Rattle.data_encoding.specs.Fault.{fault_of, sound_bytes};
 ghost use Rattle.data_encoding.specs.Grammar.{Means};
 ghost use Rattle.data_encoding.specs.Text.{text_of};
 ghost use Rattle.data_encoding.specs.Named.{IsNamed, fields_named, listing};
-ghost use Rattle.basecode.specs.Words.{ask_of, texts};
+ghost use Rattle.basecode.specs.Arguments.{ask_of, texts};
 ghost use Rattle.encoding_stream.specs.Watch.{has_failed, inner_of};
 
 use crate::command::request_named;
@@ -28,8 +28,8 @@ struct Outcome<'a> {
     output: Vec<u8>,
 }
 
-// Two arguments.
-fn words_of(alloc: Global, verb: &str, name: &str) -> Result<Vec<String>, AllocError>
+/// Returns two arguments.
+fn two_arguments(alloc: Global, verb: &str, name: &str) -> Result<Vec<String>, AllocError>
     ensures { IfOk result (λ words. texts words.items ≡ verb.now ∷ name.now ∷ []) }
 {
     let verb = String::from_str(alloc, verb)?;
@@ -37,7 +37,7 @@ fn words_of(alloc: Global, verb: &str, name: &str) -> Result<Vec<String>, AllocE
     Ok(vec![in alloc; verb, name]?)
 }
 
-// Encodes bytes in memory, and appends their text to the output.
+/// Encodes bytes in memory, and appends their text to `output`.
 fn encode<'a>(
     alloc: Global,
     name: &str,
@@ -55,7 +55,7 @@ fn encode<'a>(
         × (ended.output.items ≡ output.items ++ take count (text_of base input.now))) }
     ensures kept { IfOk result (λ ended. ended.status ≡ 2 → ended.output.items ≡ output.items) }
 {
-    let words = words_of(alloc, "encode", name)?;
+    let words = two_arguments(alloc, "encode", name)?;
     let mut reader = Watch::new(input);
     let mut writer = Watch::new(output);
     let mut faults = Vec::new(alloc);
@@ -67,7 +67,7 @@ fn encode<'a>(
     })
 }
 
-// Decodes a text in memory, and appends its data to the output.
+/// Decodes a text in memory, and appends its data to `output`.
 fn decode<'a>(
     alloc: Global,
     name: &str,
@@ -89,7 +89,7 @@ fn decode<'a>(
         × (ended.output.items ≡ output.items ++ take count (sound_bytes base input.now))) }
     ensures kept { IfOk result (λ ended. ended.status ≡ 2 → ended.output.items ≡ output.items) }
 {
-    let words = words_of(alloc, "decode", name)?;
+    let words = two_arguments(alloc, "decode", name)?;
     let mut reader = Watch::new(input);
     let mut writer = Watch::new(output);
     let mut faults = Vec::new(alloc);
@@ -101,7 +101,7 @@ fn decode<'a>(
     })
 }
 
-// Encodes five bytes in memory, and appends their text to a prompt.
+/// Encodes five bytes in memory, and appends their text to a prompt.
 fn encode_hello(alloc: Global) -> Result<Option<Vec<u8>>, AllocError>
     ensures { IfOk result (λ output. IfSome output (λ bytes.
         bytes.items ≡ codes "> 48656c6c6f")) }
@@ -113,7 +113,7 @@ fn encode_hello(alloc: Global) -> Result<Option<Vec<u8>>, AllocError>
     Ok(Some(outcome.output))
 }
 
-// Appends the names to the output, if they could be written; nothing is read.
+/// Appends the names to `output` if they could be written, and reads nothing.
 fn list<R: Read>(
     alloc: Global,
     reader: &mut Watch<R>,
@@ -135,12 +135,13 @@ fn list<R: Read>(
     Ok(Some(writer.into_inner()))
 }
 
-// Whether no two texts mean the same data in the encoding with this name, if that was printed.
+/// Returns `true` if different texts never mean the same data in the encoding with the name `name`,
+/// or `None` if the answer could not be printed.
 fn canonical(alloc: Global, name: &str) -> Result<Option<bool>, AllocError>
     ensures { IfOk result (λ found. IfSome found (λ answer. (base : Base) → IsNamed name.now base
         → (IsTrue answer ↔ IsCanonical base))) }
 {
-    let words = words_of(alloc, "canonical", name)?;
+    let words = two_arguments(alloc, "canonical", name)?;
     let mut reader = Watch::new(b"".as_slice());
     let mut writer = Watch::new(Vec::new(alloc));
     let mut faults = Vec::new(alloc);
@@ -152,15 +153,15 @@ fn canonical(alloc: Global, name: &str) -> Result<Option<bool>, AllocError>
     Ok(Some(line.as_slice() == b"true\n".as_slice()))
 }
 
-// What is printed for two arguments, or nothing if they are valid.
-fn told(alloc: Global, verb: &str, name: &str) -> Result<String, AllocError>
+/// Returns the message about two arguments, or an empty string if they are valid.
+fn printed_fault(alloc: Global, verb: &str, name: &str) -> Result<String, AllocError>
     ensures no_verb { IfOk result (λ line. ask_of verb.now ≡ None → string_bytes line
         ≡ codes "usage: basecode list OR encode NAME OR decode NAME OR canonical NAME") }
     ensures no_name { IfOk result (λ line. IsSome (ask_of verb.now)
         → fields_named name.now ≡ None
         → string_bytes line ≡ codes "unknown encoding: " ++ name.now) }
 {
-    let words = words_of(alloc, verb, name)?;
+    let words = two_arguments(alloc, verb, name)?;
     match request_named(&words) {
         Ok(_) => Ok(String::new(alloc)),
         Err(fault) => format!(in alloc; "{fault}"),
@@ -172,7 +173,7 @@ mod tests {
     use super::*;
     use std::test::Fail;
 
-    // No clause says that memory is available.
+    // No clause states that memory is available.
     #[test]
     fn memory_is_found(rt: HostRuntime) -> Result<(), Fail> {
         assert!(rt; encode_hello(rt.alloc())?.is_some());

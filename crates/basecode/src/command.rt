@@ -1,7 +1,7 @@
 //! The request that the arguments of a command line make.
 
 ghost use Rattle.std.specs.Prelude.{◌≡◌, ◌↔◌, [], ◌∷◌, IfErr, IfOk, IsErr, None};
-ghost use Rattle.basecode.specs.Words.{AreRequest, Asks, IsWrong, ask_of, request_of, texts};
+ghost use Rattle.basecode.specs.Arguments.{AreRequest, Asks, IsWrong, ask_of, request_of, texts};
 
 use crate::fault::WordFault;
 use data_encoding::{Encoding, predefined};
@@ -46,7 +46,7 @@ pub enum Request {
     Of(Task),
 }
 
-// What an argument asks about an encoding.
+/// Returns the request of the verb `word`, or `None` if it is not a verb.
 fn ask_named(word: &str) -> Option<Ask>
     ensures { result ≡ ask_of word.now }
 {
@@ -76,7 +76,7 @@ pub fn request_named(words: &[String]) -> Result<Request, WordFault<'_>>
     }
 }
 
-// What two arguments ask for.
+/// Returns the request that two arguments make, or their fault.
 fn task_named<'a>(word: &str, name: &'a str) -> Result<Task, WordFault<'a>>
     ensures asked { IfOk result (λ task. Asks (word.now ∷ name.now ∷ []) task.ask task.encoding) }
     ensures wrong { IsErr result ↔ (request_of (word.now ∷ name.now ∷ []) ≡ None) }

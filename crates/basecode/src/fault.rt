@@ -10,8 +10,8 @@ use std::fmt::Write as _;
 use std::io::Write;
 use std::{fmt, io};
 
-// The most bytes of a line that is written in one call: a pipe takes as many without mixing them
-// with others.
+// The greatest length of a line that is written in one call. A pipe takes it without mixing it with
+// other lines.
 const LINE_LIMIT: usize = 4096;
 
 /// The fault of the arguments of a command line.
@@ -54,7 +54,7 @@ pub fn exit_status(fault: StreamFault) -> u8
 ///
 /// A line of at most 4,096 bytes is printed in one write, and a longer line in several. Nothing is
 /// allocated. If an error is returned, a prefix of the line may have been printed.
-pub fn tell<F: Write, D: fmt::Display>(faults: &mut F, fault: &D) -> io::Result<()>
+pub fn print_fault<F: Write, D: fmt::Display>(faults: &mut F, fault: &D) -> io::Result<()>
     ensures { OnOk result (IfSome (D.output fault.now) (λ text.
         Appends (F.contents faults.old) (F.contents faults.new) (line_of text))) }
 {

@@ -9,25 +9,25 @@
 //! arguments.
 #![tactic(auto)]
 
+mod arguments;
 mod callers;
 mod command;
 mod fault;
 mod run;
-mod words;
 
+use arguments::arguments_of;
 pub use encoding_stream::Watch;
-use fault::tell;
+use fault::print_fault;
 pub use run::run;
 use std::process::ExitCode;
-use words::words_of;
 
 // The exit status if memory runs out for the arguments.
 const OUT_OF_MEMORY: u8 = 4;
 
 fn main(rt: HostRuntime) -> ExitCode {
     let mut faults = rt.stderr();
-    let Ok(words) = words_of(&rt) else {
-        let _ = tell(&mut faults, &"out of memory");
+    let Ok(words) = arguments_of(&rt) else {
+        let _ = print_fault(&mut faults, &"out of memory");
         return ExitCode::from(OUT_OF_MEMORY);
     };
     let mut reader = Watch::new(rt.reader());

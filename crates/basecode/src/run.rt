@@ -3,12 +3,12 @@
 ghost use Rattle.std.specs.Prelude.{◌≡◌, ◌≢◌, ◌≤◌, ◌↔◌, ◌⊎◌, false, IsTrue, IfErr, IsErr, OnOk, Err, None};
 ghost use Rattle.std.specs.Io.KnownBytes.{Appends};
 ghost use Rattle.basecode.specs.Faults.{status_after};
-ghost use Rattle.basecode.specs.Run.{AskConversion, Begins, Begun, Converts, Done, Explains, Refused, TellsCanonical};
+ghost use Rattle.basecode.specs.Run.{AskConversion, Begins, Begun, Converts, Done, CausesFault, Refused, IsCanonicalLine};
 ghost use Rattle.encoding_stream.specs.Watch.{AppendsFront, has_failed, inner_of, seen};
-ghost use Rattle.basecode.specs.Words.{request_of, texts};
+ghost use Rattle.basecode.specs.Arguments.{request_of, texts};
 
 use crate::command::{Ask, Request, Verb, request_named};
-use crate::fault::{exit_status, tell};
+use crate::fault::{exit_status, print_fault};
 use data_encoding::laws::sound_text;
 use data_encoding::{Encoding, predefined_names};
 use encoding_stream::{StreamFault, Watch, decode_stream, encode_stream};
@@ -33,7 +33,7 @@ use std::io::{Read, Write};
 /// or a flush that fails ends the run with status 3.
 ///
 /// Unless the usage is wrong, a prefix of the requested output is written in every case. A line
-/// about the fault is printed to `faults`. A failure to print it has no effect.
+/// about the fault is printed to `faults`. A failure to print it is ignored.
 pub fn run<R: Read, W: Write, F: Write>(
     _alloc: Global,
     words: &[String],
@@ -53,7 +53,7 @@ pub fn run<R: Read, W: Write, F: Write>(
     ensures failed { (result ≡ 3)
         ↔ (IsTrue (has_failed reader.new) ⊎ IsTrue (has_failed writer.new)) }
 
-    // Only a conversion reads, and only what was asked for is written.
+    // Only a conversion reads, and only the requested output is written.
     ensures reads { IsTrue (has_failed reader.new) → AskConversion (texts words.now) }
     ensures begun { result ≢ 2 → Begun (texts words.now)
         (seen R.remaining reader.old reader.new) (seen W.contents writer.old writer.new) }
@@ -68,15 +68,16 @@ pub fn run<R: Read, W: Write, F: Write>(
             }
         },
         Err(fault) => {
-            let _ = tell(faults, &fault);
+            let _ = print_fault(faults, &fault);
             2
         }
     }
 }
 
-// Whether data has one text only in the encoding, as a line.
+/// Returns the line `true` if data has only one text in the encoding, and the line `false`
+/// otherwise.
 fn truth_of(encoding: &Encoding) -> &'static [u8]
-    ensures { TellsCanonical encoding.now result.now }
+    ensures { IsCanonicalLine encoding.now result.now }
 {
     if encoding.is_canonical() {
         b"true\n"
@@ -85,20 +86,20 @@ fn truth_of(encoding: &Encoding) -> &'static [u8]
     }
 }
 
-// Returns the exit status of an outcome, and prints its fault.
+/// Returns the exit status of an outcome, and prints its fault.
 fn settle<F: Write>(outcome: Result<(), StreamFault>, faults: &mut F) -> u8
     ensures { result ≡ status_after outcome }
 {
     match outcome {
         Ok(()) => 0,
         Err(fault) => {
-            let _ = tell(faults, &fault);
+            let _ = print_fault(faults, &fault);
             exit_status(fault)
         }
     }
 }
 
-// Reads an input to its end, and writes what it converts to as it comes.
+/// Reads an input to its end, and writes the converted pieces as they come.
 fn convert<R: Read, W: Write>(
     verb: Verb,
     encoding: &Encoding,
@@ -109,7 +110,7 @@ fn convert<R: Read, W: Write>(
     requires writer_works { has_failed writer.old ≡ false }
     ensures done { OnOk result (Converts verb encoding.now
         (seen R.remaining reader.old reader.new) (seen W.contents writer.old writer.new)) }
-    ensures fault { IfErr result (Explains verb encoding.now
+    ensures fault { IfErr result (CausesFault verb encoding.now
         (seen R.remaining reader.old reader.new) (seen W.contents writer.old writer.new)) }
     ensures read { (result ≡ Err StreamFault.Read) ↔ IsTrue (has_failed reader.new) }
     ensures write { (result ≡ Err StreamFault.Write) ↔ IsTrue (has_failed writer.new) }
@@ -122,7 +123,7 @@ fn convert<R: Read, W: Write>(
     }
 }
 
-// Writes these bytes, and flushes once.
+/// Writes `bytes`, and flushes once.
 fn send<W: Write>(bytes: &[u8], writer: &mut Watch<W>) -> Result<(), StreamFault>
     requires writer_works { has_failed writer.old ≡ false }
     ensures sent { OnOk result (Appends (W.contents (inner_of writer.old))

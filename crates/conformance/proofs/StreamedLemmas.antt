@@ -7,7 +7,7 @@ use Rattle.data_encoding.specs.Base.{Base}
 use Rattle.data_encoding.specs.Fault.{fault_of, sound_bytes}
 use Rattle.encoding_stream.specs.Decoded.{DecodesAll}
 use Rattle.encoding_stream.specs.Appending.{AppendsDecoded}
-use Rattle.encoding_stream.specs.Pieces.{verdict_of}
+use Rattle.encoding_stream.specs.BufferDecoder.{verdict_of}
 use Rattle.encoding_stream.specs.Watch.{from_to}
 
 -- the pieces so far, joined, and the next

@@ -3,8 +3,8 @@ use Rattle.std.proofs.Common.{◌≡◌, ℕ, ◌+◌, ◌-◌, ◌≤◌, List,
 use Rattle.std.proofs.lemmas.List.{drop-take, length-append, take-append-drop, take-take}
 use Rattle.data_encoding.specs.Base.{Base}
 use Rattle.data_encoding.specs.Pieces.{whole_bytes}
-use Rattle.encoding_stream.specs.declared.pieces.Kept.{Kept}
-use Rattle.encoding_stream.specs.Pieces.{Keeps}
+use Rattle.encoding_stream.specs.declared.buffer_decoder.Kept.{Kept}
+use Rattle.encoding_stream.specs.BufferDecoder.{Keeps}
 use Rattle.encoding_stream.specs.Reading.{ReadsOn}
 
 -- `needed` is the length of the data, which is at the start of the output if it fits.

@@ -9,9 +9,9 @@ use Rattle.data_encoding.specs.declared.error.DecodeKind.TheVariants.{Length, Sy
 use Rattle.data_encoding.specs.Base.{Base}
 use Rattle.data_encoding.specs.Fault.{fault_of, sound_bytes}
 use Rattle.data_encoding.specs.Pieces.{whole_bytes}
-use Rattle.encoding_stream.specs.declared.pieces.BufferDecoder.{BufferDecoder}
-use Rattle.encoding_stream.specs.declared.pieces.Kept.{Kept}
-use Rattle.encoding_stream.specs.Pieces.{most_completed, verdict_of, Keeps}
+use Rattle.encoding_stream.specs.declared.buffer_decoder.BufferDecoder.{BufferDecoder}
+use Rattle.encoding_stream.specs.declared.buffer_decoder.Kept.{Kept}
+use Rattle.encoding_stream.specs.BufferDecoder.{most_completed, verdict_of, Keeps}
 use Rattle.encoding_stream.specs.Reading.{HasLastBytes}
 use Rattle.data_encoding_calls.specs.declared.pieces.PlainKept.{PlainKept}
 use Rattle.data_encoding_calls.specs.Pieces.{fault_told, kept_told, kept_with, piece_status, Places, ReadsPiece, HasConsumed}

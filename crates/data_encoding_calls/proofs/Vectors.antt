@@ -20,10 +20,10 @@ use Rattle.data_encoding.specs.Pieces.{whole_bytes}
 use Rattle.data_encoding.specs.Predefined.{base64_fields, base64_mime_fields}
 use Rattle.data_encoding.specs.Text.{text_of}
 use Rattle.data_encoding.specs.declared.encode.kept_data.KeptData.{KeptData}
-use Rattle.encoding_stream.specs.declared.pieces.Kept.{Kept}
+use Rattle.encoding_stream.specs.declared.buffer_decoder.Kept.{Kept}
 use Rattle.data_encoding.specs.KeptData.{held_data, piece_text}
-use Rattle.encoding_stream.specs.Blocks.{EncodesOn, HasWritten, EndsBlocks}
-use Rattle.encoding_stream.specs.Pieces.{most_completed}
+use Rattle.encoding_stream.specs.BufferEncoder.{EncodesOn, HasWritten, EndsBlocks}
+use Rattle.encoding_stream.specs.BufferDecoder.{most_completed}
 use Rattle.encoding_stream.specs.Resume.{HoldsNoIgnored, MayBeKept}
 use Rattle.data_encoding_calls.specs.declared.convert.Decoded.{Decoded}
 use Rattle.data_encoding_calls.specs.declared.facts.TextLengths.{TextLengths}

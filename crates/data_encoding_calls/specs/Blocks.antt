@@ -5,7 +5,7 @@ use Rattle.data_encoding.specs.Lengths.{alignment}
 use Rattle.data_encoding.specs.Text.{text_of}
 use Rattle.data_encoding.specs.declared.encode.kept_data.KeptData.{KeptData}
 use Rattle.data_encoding.specs.KeptData.{after_blocks, held_data, piece_text}
-use Rattle.encoding_stream.specs.Blocks.{EncodesOn, EndsBlocks}
+use Rattle.encoding_stream.specs.BufferEncoder.{EncodesOn, EndsBlocks}
 use Rattle.data_encoding_calls.specs.Calls.{encode_len_status, front_status, over}
 use Rattle.data_encoding_calls.specs.Status.{ok, too_long, no_encoder}
 

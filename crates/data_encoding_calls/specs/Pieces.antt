@@ -6,8 +6,8 @@ use Rattle.data_encoding.specs.declared.error.DecodeKind.TheVariants.{Length, Sy
 use Rattle.data_encoding.specs.Base.{Base}
 use Rattle.data_encoding.specs.Fault.{fault_of, sound_bytes}
 use Rattle.data_encoding.specs.Pieces.{whole_bytes}
-use Rattle.encoding_stream.specs.declared.pieces.Kept.{Kept}
-use Rattle.encoding_stream.specs.Pieces.{most_completed, Keeps}
+use Rattle.encoding_stream.specs.declared.buffer_decoder.Kept.{Kept}
+use Rattle.encoding_stream.specs.BufferDecoder.{most_completed, Keeps}
 use Rattle.encoding_stream.specs.Resume.{MayBeKept}
 use Rattle.data_encoding_calls.specs.declared.convert.Decoded.{Decoded}
 use Rattle.data_encoding_calls.specs.declared.pieces.PlainKept.{PlainKept}

@@ -5,7 +5,7 @@ ghost use Rattle.std.specs.Prelude.{◌≡◌, []};
 ghost use Rattle.data_encoding.specs.Base.{Base};
 ghost use Rattle.data_encoding.specs.Fields.{IsSpecified};
 ghost use Rattle.data_encoding.specs.Plain.{base_of_plain};
-ghost use Rattle.encoding_stream.specs.Blocks.{HasWritten};
+ghost use Rattle.encoding_stream.specs.BufferEncoder.{HasWritten};
 ghost use Rattle.data_encoding_calls.specs.Blocks.{EndsData, TellsDue};
 ghost use Rattle.data_encoding_calls.specs.Calls.{ByNumber};
 ghost use Rattle.data_encoding_calls.specs.Numbered.{EncodesPieceByCustom, EncodesPieceByNumber, EndsDataByNumber};

@@ -4,7 +4,7 @@ ghost use Rattle.std.specs.Prelude.{◌≡◌, ◌+◌, ◌≤◌, ◌++◌, len
 ghost use Rattle.data_encoding.specs.declared.decode.TheConstants.{DECODE_LIMIT};
 ghost use Rattle.data_encoding.specs.Fault.{fault_of, sound_bytes};
 ghost use Rattle.data_encoding.specs.Fields.{IsSpecified};
-ghost use Rattle.encoding_stream.specs.Pieces.{verdict_of};
+ghost use Rattle.encoding_stream.specs.BufferDecoder.{verdict_of};
 
 use data_encoding::{DECODE_LIMIT, DecodeError, EncodingRef};
 use encoding_stream::BufferDecoder;

@@ -1,7 +1,7 @@
 //! Texts in pieces: the state that a caller keeps between calls, as plain numbers.
 
 ghost use Rattle.std.specs.Prelude.{◌≡◌, ℕ, List, IfSome, IsSome, Some};
-ghost use Rattle.encoding_stream.specs.Pieces.{base_of_pieces, kept_by};
+ghost use Rattle.encoding_stream.specs.BufferDecoder.{base_of_pieces, kept_by};
 ghost use Rattle.data_encoding_calls.specs.Pieces.{kept_told, kind_told, EndsText, MayBeGiven, ReadsPiece, HasConsumed, TellsRoom};
 
 use crate::convert::Decoded;

@@ -12,10 +12,10 @@ use Rattle.std.proofs.lemmas.List.{take-append-le}
 use Rattle.data_encoding.specs.declared.error.DecodeError.{DecodeError}
 use Rattle.encoding_stream.specs.declared.error.StreamFault.{StreamFault}
 use Rattle.encoding_stream.specs.declared.error.StreamFault.TheVariants.{Decode, Read, TooLong, Write}
-use Rattle.encoding_stream.specs.declared.pieces.Kept.{Kept}
+use Rattle.encoding_stream.specs.declared.buffer_decoder.Kept.{Kept}
 use Rattle.encoding_stream.specs.Decoded.{result_of, DecodesFront, EndsText}
 use Rattle.encoding_stream.specs.Encoded.{ReadsMore}
-use Rattle.encoding_stream.specs.Pieces.{verdict_of, Keeps}
+use Rattle.encoding_stream.specs.BufferDecoder.{verdict_of, Keeps}
 use Rattle.encoding_stream.specs.Reading.{ReadsOn}
 use Rattle.encoding_stream.specs.Watch.{from_to, AppendsFront}
 use Rattle.encoding_stream.proofs.WriteLemmas.{AppendsFront-all, AppendsFront-more, AppendsFront-within}

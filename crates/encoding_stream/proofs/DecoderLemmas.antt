@@ -4,9 +4,9 @@ use Rattle.std.proofs.lemmas.List.{length-drop, nil_from_length, take-append-dro
 use Rattle.data_encoding.specs.Base.{Base}
 use Rattle.data_encoding.specs.Fields.{IsSpecified}
 use Rattle.data_encoding.specs.Pieces.{whole_bytes, KeepsBytes}
-use Rattle.encoding_stream.specs.declared.pieces.Kept.{Kept}
+use Rattle.encoding_stream.specs.declared.buffer_decoder.Kept.{Kept}
 use Rattle.encoding_stream.specs.Appending.{AppendsDecoded}
-use Rattle.encoding_stream.specs.Pieces.{most_completed, Keeps}
+use Rattle.encoding_stream.specs.BufferDecoder.{most_completed, Keeps}
 use Rattle.encoding_stream.specs.Reading.{AppendsPiece}
 use Rattle.encoding_stream.proofs.ReadPieceLemmas.{reads-join, reads-nothing}
 

@@ -1,5 +1,5 @@
 -- Data that is read and encoded piece by piece.
-use Rattle.std.proofs.Common.{◌≡◌, ℕ, ◌+◌, ◌%◌, ◌<◌, List, [], ◌++◌, Option, None, Some, IfSome, ◌⊎◌, inl, inr, length, refl, sym, ap, ◌∙◌, subst, arith, length-append}
+use Rattle.std.proofs.Common.{◌≡◌, ℕ, ◌+◌, ◌%◌, ◌<◌, ◌≤◌, List, [], ◌++◌, Option, None, Some, IfSome, ◌⊎◌, inl, inr, length, refl, sym, ap, ◌∙◌, subst, arith, take, length-append, length-take-le}
 use Rattle.std.specs.Io.KnownBytes.{Appends, Consumes, IsAtEnd}
 use Rattle.std.proofs.KnownBytes.{Appends-nil, Appends-trans, Consumes-nil, Consumes-trans, Consumes-whole}
 use Rattle.data_encoding.specs.Base.{Base}
@@ -110,6 +110,12 @@ module _ (base : Base) (specified : IsSpecified base) (join : JoinEncode) where
       read = Consumes-trans r s t so_far.bytes more so_far.read read;
       more = omega (arith, length-joined, past);
     }
+
+-- a buffer has the bytes that were asked for after it was read into
+pub filled-len : {asked piece room : ℕ} (old new : List ℕ) → length new ≡ length (take asked old)
+    → asked ≤ piece → piece ≤ room → length old ≡ room → length new ≡ asked
+filled-len {asked} {piece} {room} old new same few fits size =
+    same ∙ length-take-le asked old (omega (arith, few, fits, size))
 
 -- nothing is a prefix of any text
 pub front-nothing : (base : Base) (s w : Option (List ℕ))

@@ -5,8 +5,8 @@ pub mod EncodedLemmas
 pub mod SizeLemmas
 pub mod ReadPieceLemmas
 pub mod ReadRunLemmas
-pub mod PieceLemmas
-pub mod JudgedLemmas
+pub mod ReadByteLemmas
+pub mod GroupLemmas
 pub mod DecoderLemmas
 pub mod DecodedLemmas
 pub mod FinishLemmas

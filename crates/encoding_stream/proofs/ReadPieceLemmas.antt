@@ -9,8 +9,8 @@ use Rattle.data_encoding.specs.declared.error.DecodeError.{DecodeError}
 use Rattle.data_encoding.specs.Fields.{IsSpecified}
 use Rattle.data_encoding.specs.Grammar.{Positioned}
 use Rattle.data_encoding.specs.Pieces.{whole_bytes, HasRead, KeepsFault}
-use Rattle.encoding_stream.specs.declared.pieces.Kept.{Kept}
-use Rattle.encoding_stream.specs.Pieces.{bytes_due, held, most_completed, FillsGroups, Keeps}
+use Rattle.encoding_stream.specs.declared.buffer_decoder.Kept.{Kept}
+use Rattle.encoding_stream.specs.BufferDecoder.{bytes_due, held_group, most_completed, FillsGroups, Keeps}
 use Rattle.encoding_stream.specs.Reading.{ReadsOn}
 use Rattle.encoding_stream.proofs.SizeLemmas.{most-few, symbols-some}
 
@@ -149,7 +149,7 @@ pub reads-fault : (base : Base) → IsWidth base.width → IsSpecified base → 
     → ReadsOn base old (record old { len = old.len + length piece }) piece []
 reads-fault base width is law old some piece =
     let next = λ (text : List ℕ) (keeps : Keeps base old text).
-    fault-keeps base is law old.fault some text piece old.len (held old) old.ended keeps in
+    fault-keeps base is law old.fault some text piece old.len (held_group old) old.ended keeps in
     record {
       keeps = λ text keeps. (next text keeps).0;
       decodes = λ text keeps. (next text keeps).1 ∙ sym (append-nil _);

@@ -9,11 +9,11 @@ use Rattle.data_encoding.specs.Grammar.{Means}
 use Rattle.data_encoding.specs.Laws.{shifted}
 use Rattle.data_encoding.specs.Lengths.{decoded_len, length_fault, most_bytes, unless_fault}
 use Rattle.data_encoding.specs.Pieces.{CountsGroups, ReadsSound}
-use Rattle.encoding_stream.specs.declared.pieces.Kept.{Kept}
-use Rattle.encoding_stream.specs.declared.pieces.BufferDecoder.{BufferDecoder}
-use Rattle.encoding_stream.specs.Pieces.{at_positions, base_of_pieces, bytes_due, most_completed, FillsGroups, Keeps}
+use Rattle.encoding_stream.specs.declared.buffer_decoder.Kept.{Kept}
+use Rattle.encoding_stream.specs.declared.buffer_decoder.BufferDecoder.{BufferDecoder}
+use Rattle.encoding_stream.specs.BufferDecoder.{at_positions, base_of_pieces, bytes_due, most_completed, FillsGroups, Keeps}
 use Rattle.encoding_stream.specs.Reading.{has_final, HasOnlyWholeGroups, ReadsOn, ReadsRunTo}
-use Rattle.encoding_stream.proofs.PieceLemmas.{no-fault}
+use Rattle.encoding_stream.proofs.ReadByteLemmas.{no-fault}
 use Rattle.encoding_stream.proofs.ReadPieceLemmas.{fills-few}
 use Rattle.encoding_stream.proofs.SizeLemmas.{bytes-some, due-most, symbols-some}
 

@@ -12,12 +12,12 @@ use Rattle.data_encoding.specs.declared.decode.TheConstants.{DECODE_LIMIT}
 use Rattle.data_encoding.specs.Fault.{first_fault}
 use Rattle.data_encoding.specs.Fields.{IsSpecified}
 use Rattle.data_encoding.specs.Pieces.{unfinished, whole_groups, EndsNowhere, HasRead, JoinsUnpadded}
-use Rattle.encoding_stream.specs.declared.pieces.Kept.{Kept}
-use Rattle.encoding_stream.specs.Pieces.{at_positions, paired, Keeps, NoneIgnored}
+use Rattle.encoding_stream.specs.declared.buffer_decoder.Kept.{Kept}
+use Rattle.encoding_stream.specs.BufferDecoder.{at_positions, paired, Keeps, NoneIgnored}
 use Rattle.encoding_stream.specs.Resume.{is_of_group, Ascend, HasPossibleFault, MayBeKept}
 use Rattle.encoding_stream.proofs.KindLemmas.{group-kind}
 use Rattle.encoding_stream.proofs.OrderLemmas.{first-inside, unfinished-ascends}
-use Rattle.encoding_stream.proofs.PieceLemmas.{positions-bytes, unfinished-kept}
+use Rattle.encoding_stream.proofs.ReadByteLemmas.{positions-bytes, unfinished-kept}
 use Rattle.encoding_stream.proofs.SizeLemmas.{symbols-few, symbols-some}
 
 paired-length : (ps bs : List ℕ) → length ps ≡ length bs → length (paired ps bs) ≡ length ps

@@ -14,19 +14,19 @@ use Rattle.data_encoding.specs.Pieces.{whole_bytes, AreWhole, CountsGroups, Ends
 use Rattle.std.proofs.lemmas.List.{append-nil}
 use Rattle.encoding_stream.specs.Decoded.{JudgesText, DecodesAll, DecodesFront, DecodesJudged, result_of}
 use Rattle.encoding_stream.specs.Reading.{CompletesNothing, HasNoLastBytes, HasVerdict, ReadsOn, HasLastBytes}
-use Rattle.encoding_stream.specs.Pieces.{base_of_pieces, paired, at_positions, held, Keeps, GoesOn, bytes_due, kept_by, most_completed, verdict_of}
-use Rattle.encoding_stream.specs.declared.pieces.BufferDecoder.{BufferDecoder}
+use Rattle.encoding_stream.specs.BufferDecoder.{base_of_pieces, paired, at_positions, held_group, Keeps, HasState, bytes_due, kept_by, most_completed, verdict_of}
+use Rattle.encoding_stream.specs.declared.buffer_decoder.BufferDecoder.{BufferDecoder}
 use Rattle.encoding_stream.specs.declared.decoder.Decoder.{Decoder}
 use Rattle.encoding_stream.specs.declared.error.StreamFault.TheVariants.{Read, Write, Decode, TooLong}
-use Rattle.encoding_stream.specs.declared.blocks.BufferEncoder.{BufferEncoder}
+use Rattle.encoding_stream.specs.declared.buffer_encoder.BufferEncoder.{BufferEncoder}
 use Rattle.data_encoding.specs.declared.encode.kept_data.KeptData.{KeptData}
-use Rattle.encoding_stream.specs.declared.pieces.Kept.{Kept}
+use Rattle.encoding_stream.specs.declared.buffer_decoder.Kept.{Kept}
 use Rattle.encoding_stream.specs.declared.watch.Watch.{Watch}
 use Rattle.encoding_stream.specs.Appending.{AppendsDecoded}
 use Rattle.encoding_stream.specs.Decoder.{base_of_decoder, decoder_len, FinishesWith, HasConsumed, AppendsFinished, AppendsPushed}
 use Rattle.encoding_stream.specs.Encoded.{EncodesAll, EncodesFront, ReadsMore, Succeeds, WritesText}
 use Rattle.encoding_stream.specs.Printed.{printed_stream_fault}
-use Rattle.encoding_stream.specs.Blocks.{base_of_blocks, data_kept, EncodesOn, EndsBlocks, HasWritten}
+use Rattle.encoding_stream.specs.BufferEncoder.{base_of_blocks, data_kept, EncodesOn, EndsBlocks, HasWritten}
 use Rattle.encoding_stream.specs.Resume.{held_bytes, held_positions, is_of_group, Ascend, HasPossibleFault, HoldsNoIgnored, IsKept, MayBeKept}
 use Rattle.encoding_stream.specs.Specified.{HasLaws, IsBuiltAgain, KeepsFront}
 use Rattle.encoding_stream.specs.Watch.{from_to, has_failed, inner_of, is_refused, seen, AppendsFront, Change}
@@ -177,7 +177,7 @@ kept_so_far = record {
 
 kept_of_text :
     Has base64_mime_fields (λ base. Keeps base kept_so_far (codes "SGVsbG" ++ 13 ∷ 10 ∷ []))
-    × (held kept_so_far ≡ positioned_from 4 (codes "bG"))
+    × (held_group kept_so_far ≡ positioned_from 4 (codes "bG"))
     × (at_positions 1 (4 ∷ 5 ∷ []) (codes "bG") ≡ positioned_from 4 (codes "b"))
     × (paired (4 ∷ 5 ∷ []) (codes "bG") ≡ positioned_from 4 (codes "bG"))
 kept_of_text = (
@@ -225,9 +225,9 @@ most_bytes_completed :
 most_bytes_completed = (refl, refl, refl)
 
 -- a decoder that continues from what is kept
-gone_on : (base : Base) (pieces : BufferDecoder) → base_of_lent pieces.encoding ≡ base
-    → pieces.kept ≡ kept_so_far → GoesOn base kept_so_far pieces × (kept_by pieces ≡ kept_so_far)
-gone_on base pieces is kept_is = (record { base_is = is; kept_is = kept_is }, kept_is)
+has_state : (base : Base) (pieces : BufferDecoder) → base_of_lent pieces.encoding ≡ base
+    → pieces.kept ≡ kept_so_far → HasState base kept_so_far pieces × (kept_by pieces ≡ kept_so_far)
+has_state base pieces is kept_is = (record { base_is = is; kept_is = kept_is }, kept_is)
 
 -- a piece of no bytes changes nothing
 no_piece : (base : Base) → ReadsOn base kept_so_far kept_so_far [] []
@@ -407,28 +407,28 @@ encoded_by base text left written done = (
       ∙ ap (λ those. codes "> " ++ those) text,
 )
 
-encoded_told :
+encoded_text_is_written :
     Has base64_fields (λ base. (left written : List ℕ)
     → EncodesAll base (from_to (Some (codes "Hello")) (Some left))
     (from_to (Some (codes "> ")) (Some written))
     → (left ≡ []) × (written ≡ codes "> SGVsbG8="))
-encoded_told = encoded_by _ refl
+encoded_text_is_written = encoded_by _ refl
 
-text_told :
+written_text_is_whole :
     Has base64_fields (λ base. (left : Option (List ℕ)) (written : List ℕ)
     → WritesText base (from_to (Some (codes "Hello")) left)
     (from_to (Some (codes "> ")) (Some written)) → written ≡ codes "> SGVsbG8=")
-text_told left written done = done
+written_text_is_whole left written done = done
 
 -- what was read of `Hello` and nothing is left of; a prefix of its text was written, by what was
 -- read and by what the reader had
-front_encoded_told : (base : Base) (written : List ℕ)
+encoded_front_is_prefix : (base : Base) (written : List ℕ)
     → EncodesFront base (from_to (Some (codes "Hello")) (Some []))
     (from_to (Some []) (Some written))
     → (bytes : List ℕ) × (bytes ≡ codes "Hello")
     × AppendsFront (Some []) (Some written) (text_of base bytes)
     × AppendsFront (Some []) (Some written) (text_of base (codes "Hello"))
-front_encoded_told base written done = (
+encoded_front_is_prefix base written done = (
   done.bytes,
   all-read done.bytes (codes "Hello") [] done.read refl,
   done.written,
@@ -436,8 +436,8 @@ front_encoded_told base written done = (
 )
 
 -- four bytes are no more than four
-more_told : ReadsMore 4 (from_to (Some (codes "Hell")) (Some [])) → ⊥
-more_told done =
+four_are_not_more_than_four : ReadsMore 4 (from_to (Some (codes "Hell")) (Some [])) → ⊥
+four_are_not_more_than_four done =
     let four = ap length (all-read done.bytes (codes "Hell") [] done.read refl) in
     omega (arith, four, done.more)
 
@@ -455,22 +455,22 @@ decoded_by base none bytes fault left written done =
       done.written ∙ ap (sound_bytes base) text ∙ bytes,
     )
 
-decoded_told :
+decoded_data_is_written :
     Has base64_fields (λ base. (fault : Option DecodeError) (left written : List ℕ)
     → DecodesAll base fault (from_to (Some (codes "SGVsbG8=")) (Some left))
     (from_to (Some []) (Some written))
     → (left ≡ []) × (fault ≡ None) × (written ≡ codes "Hello"))
-decoded_told = decoded_by _ refl refl
+decoded_data_is_written = decoded_by _ refl refl
 
 -- what was read of a text that nothing is left of; a prefix of its bytes was written, by what was
 -- read and by what the reader had
-front_decoded_told : (base : Base) (written : List ℕ)
+decoded_front_is_prefix : (base : Base) (written : List ℕ)
     → DecodesFront base (from_to (Some (codes "SGVs")) (Some []))
     (from_to (Some []) (Some written))
     → (text : List ℕ) × (text ≡ codes "SGVs")
     × AppendsFront (Some []) (Some written) (sound_bytes base text)
     × AppendsFront (Some []) (Some written) (sound_bytes base (codes "SGVs"))
-front_decoded_told base written done = (
+decoded_front_is_prefix base written done = (
   done.text,
   all-read done.text (codes "SGVs") [] done.read refl,
   done.written,
@@ -478,59 +478,59 @@ front_decoded_told base written done = (
 )
 
 -- `Ok` is returned only if all was decoded, and a fault only if the text has it
-judged_told : (base : Base) (reader writer : Option (List ℕ))
+result_means_all_decoded : (base : Base) (reader writer : Option (List ℕ))
     → (DecodesJudged base (Ok tt) (from_to reader reader) (from_to writer writer)
     → DecodesAll base None (from_to reader reader) (from_to writer writer))
     × (DecodesJudged base (Err (Decode symbol_at_4)) (from_to reader reader)
     (from_to writer writer)
     → DecodesAll base (Some symbol_at_4) (from_to reader reader) (from_to writer writer))
-judged_told base reader writer = (λ judged. judged.whole, λ judged. judged.faulty _ refl)
+result_means_all_decoded base reader writer = (λ done. done.whole, λ done. done.faulty _ refl)
 
 -- a text without a fault is not refused
-text_judged_told :
+valid_text_is_ok :
     Has base64_fields (λ base. (result : Result (Unit {0}) StreamFault)
     → JudgesText base result (Some (codes "SGVsbG8=")) false false → result ≡ Ok tt)
-text_judged_told result judges = judges (lit≤ tt) refl refl
+valid_text_is_ok result judges = judges (lit≤ tt) refl refl
 
 -- a prefix cannot be written by taking bytes away
-front_told : (bytes : List ℕ) → AppendsFront (Some (codes "> ")) (Some []) bytes → ⊥
-front_told bytes done = absurd (cc done.1)
+front_never_shrinks : (bytes : List ℕ) → AppendsFront (Some (codes "> ")) (Some []) bytes → ⊥
+front_never_shrinks bytes done = absurd (cc done.1)
 
 -- after `Hel`, exactly `lo` was appended
-appended_told : (output : List ℕ)
+appended_is_rest : (output : List ℕ)
     → AppendsDecoded (codes "Hel") (codes "Hello") (codes "> ") output → output ≡ codes "> lo"
-appended_told output done =
+appended_is_rest output done =
     done.appended ∙ ap (λ bytes. codes "> " ++ bytes) (sym (ap (drop 3) done.decoded))
 
 -- no whole block is held
-written_told :
+no_whole_block_is_held :
     Has base64_fields (λ base. (bytes text : List ℕ)
     → HasWritten base (record data_so_far { count = 3 }) bytes text → ⊥)
-written_told bytes text has = omega (arith, has.is_short)
+no_whole_block_is_held bytes text has = omega (arith, has.is_short)
 
 -- after `hello`, of which `lo` is held, a piece goes on
-encoded_on_told :
+piece_continues_encoding :
     Has base64_fields (λ base. (new : KeptData) (text : List ℕ)
     → EncodesOn base data_so_far new (codes "w!") text
     → HasWritten base new (codes "hellow!") (codes "aGVs" ++ text))
-encoded_on_told new text on = on (codes "hello") (codes "aGVs") data_written
+piece_continues_encoding new text on = on (codes "hello") (codes "aGVs") data_written
 
 -- what is kept of a text has its length
-keeps_told : (base : Base) (text : List ℕ) → Keeps base kept_so_far text → length text ≡ 8
-keeps_told base text keeps = sym keeps.counted
+kept_len_is_text_len : (base : Base) (text : List ℕ) → Keeps base kept_so_far text → length text ≡ 8
+kept_len_is_text_len base text keeps = sym keeps.counted
 
-stands_told : (decoder : Decoder) (text : List ℕ) → HasConsumed decoder text
+decoder_len_is_text_len : (decoder : Decoder) (text : List ℕ) → HasConsumed decoder text
     → decoder_len decoder ≡ length text
-stands_told decoder text consumed = consumed.counted
+decoder_len_is_text_len decoder text consumed = consumed.counted
 
-gone_on_told : (base : Base) (pieces : BufferDecoder) → GoesOn base kept_so_far pieces
+state_is_given : (base : Base) (pieces : BufferDecoder) → HasState base kept_so_far pieces
     → (base_of_lent pieces.encoding ≡ base) × (pieces.kept ≡ kept_so_far)
-gone_on_told base pieces goes = (goes.base_is, goes.kept_is)
+state_is_given base pieces goes = (goes.base_is, goes.kept_is)
 
 -- a text that is built from its own specification
-built_told : (base : Base) → IsBuiltAgain base → fields_of base ≡ base64_fields
+built_from_own_fields : (base : Base) → IsBuiltAgain base → fields_of base ≡ base64_fields
     → base_of base64_fields ≡ Ok base
-built_told base built is = sym (ap base_of is) ∙ built.is_built
+built_from_own_fields base built is = sym (ap base_of is) ∙ built.is_built
 
 -- whatever follows `SGVs`, the text begins with the bytes of `Hel`
 front_kept :
@@ -539,11 +539,11 @@ front_kept :
 front_kept is law piece = law _ is (codes "SGVs") piece
 
 -- where the laws hold, so does each of them
-laws_told : HasLaws
+each_law_holds : HasLaws
     → HoldsPiece × ReadsGroup × KeepsFault × KeepsFront × TellsFault × TellsBytes × JudgesGroup
     × ReadsSound × ReadsFaulty × AreWhole × CountsGroups × JoinsUnpadded × EndsNowhere × TellsEnd
     × MeansWhole
-laws_told laws = (
+each_law_holds laws = (
   laws.held,
   laws.group,
   laws.faulty,
@@ -576,18 +576,18 @@ last_kept : Has base64_nopad_fields (λ base. Keeps base kept_last (codes "SGVsb
 last_kept = record { counted = refl; first = refl; holds = λ h. refl; ends = λ h. refl }
 
 -- its last group has the bytes `lo`, and these are written
-last_bytes_told :
+last_bytes_are_lo :
     Has base64_nopad_fields (λ base. (bytes : List ℕ) → HasLastBytes base kept_last bytes
     → bytes ≡ codes "lo")
-last_bytes_told bytes has = sym (ap (drop 3) (has _ last_kept))
+last_bytes_are_lo bytes has = sym (ap (drop 3) (has _ last_kept))
 
 -- `8=` ends the group that is held of `SGVsbG`, and means `lo` with it
-read_on_told :
+piece_completes_group :
     Has base64_mime_fields (λ base. (new : Kept) (bytes : List ℕ)
     → ReadsOn base kept_so_far new (codes "8=") bytes
     → Keeps base new (codes "SGVsbG" ++ 13 ∷ 10 ∷ codes "8=") × (bytes ≡ codes "lo")
     × (new.len ≡ 10) × (length bytes ≤ 3))
-read_on_told new bytes reads = (
+piece_completes_group new bytes reads = (
   reads.keeps _ kept_of_text.0,
   sym (ap (drop 3) (reads.decodes _ kept_of_text.0)),
   reads.counted,
@@ -598,19 +598,19 @@ three-of-five : ◌≡◌ {A = ℕ} 5 3 → ⊥
 three-of-five is = omega (arith, is)
 
 -- a whole group has bytes, and so has a last group
-bytes_told :
+groups_have_bytes :
     Has base64_fields (λ base. CompletesNothing base (codes "SGVs") (codes "bG8=") → ⊥)
     × Has base64_nopad_fields (λ base. HasNoLastBytes base (codes "SGVsbG8") → ⊥)
-bytes_told = (λ none. three-of-five (ap length none), λ none. three-of-five (ap length none))
+groups_have_bytes = (λ none. three-of-five (ap length none), λ none. three-of-five (ap length none))
 
 -- a fault is inside the text and of a whole group's kind; a final group has nothing after it
-possible_told :
+impossible_faults :
     Has base64_fields (λ base.
     (HasPossibleFault base (record kept_so_far { len = 4; fault = Some symbol_at_4; count = 0 })
     → ⊥)
     × (HasPossibleFault base (record kept_so_far { fault = Some length_at_4; count = 0 }) → ⊥)
     × (HasPossibleFault base (record kept_so_far { ended = true }) → ⊥))
-possible_told = (
+impossible_faults = (
   λ possible. omega (arith, possible.inside),
   λ possible. never (sym possible.kind),
   λ possible. never (possible.ends refl refl),
@@ -618,13 +618,13 @@ possible_told = (
 
 -- not more than the limit is kept, less than a group is held, no line end, and nothing after a
 -- fault
-may_be_kept_told :
+refused_states :
     Has base64_mime_fields (λ base.
     (MayBeKept base (record kept_so_far { len = 2305843009213693952 }) → ⊥)
     × (MayBeKept base (record kept_so_far { count = 4 }) → ⊥)
     × (MayBeKept base (record kept_so_far { bytes = 98 ∷ 13 ∷ replicate 6 0 }) → ⊥)
     × (MayBeKept base (record kept_so_far { fault = Some symbol_at_4 }) → ⊥))
-may_be_kept_told = (
+refused_states = (
   λ may. omega (arith, may.limit),
   λ may. omega (arith, may.short),
   λ may. none_held_ignored.2.1 may.none_ignored,
@@ -632,9 +632,9 @@ may_be_kept_told = (
 )
 
 -- what is kept has the length of its text, which is within the limit
-is_kept_told : (base : Base) (kept : Kept) (is : IsKept base kept)
+kept_len_within_limit : (base : Base) (kept : Kept) (is : IsKept base kept)
     → (kept.len ≡ length is.text) × (kept.len ≤ 2305843009213693951)
-is_kept_told base kept is = (is.keeps.counted, omega (arith, is.keeps.counted, is.limit))
+kept_len_within_limit base kept is = (is.keeps.counted, omega (arith, is.keeps.counted, is.limit))
 
 -- pushed first, `SGVs` appends `Hel`
 pushed_bytes : (decoder : Decoder) (output : List ℕ)
@@ -651,12 +651,12 @@ pushed_bytes decoder output none some consumed pushed =
           ∙ ap (λ bytes. codes "> " ++ bytes) some,
     )
 
-pushed_told :
+pushed_bytes_are_appended :
     Has base64_fields (λ base. (decoder : Decoder) (output : List ℕ)
     → base_of_decoder decoder ≡ base → HasConsumed decoder []
     → AppendsPushed decoder (codes "SGVs") (codes "> ") output
     → (output ≡ codes "> Hel") × (output ≡ codes "> Hel"))
-pushed_told decoder output is = pushed_bytes decoder output
+pushed_bytes_are_appended decoder output is = pushed_bytes decoder output
     (ap (λ base. whole_bytes base []) is) (ap (λ base. whole_bytes base (codes "SGVs")) is)
 
 -- at the end of `SGVsbG8`, `lo` is appended
@@ -675,11 +675,11 @@ finished_bytes decoder output whole sound consumed finished =
           ∙ ap (λ bytes. codes "> " ++ bytes) sound,
     )
 
-finished_told :
+finished_bytes_are_appended :
     Has base64_nopad_fields (λ base. (decoder : Decoder) (output : List ℕ)
     → base_of_decoder decoder ≡ base → HasConsumed decoder (codes "SGVsbG8")
     → AppendsFinished decoder (codes "> Hel") output
     → (output ≡ codes "> Hello") × (output ≡ codes "> Hello"))
-finished_told decoder output is = finished_bytes decoder output
+finished_bytes_are_appended decoder output is = finished_bytes decoder output
     (ap (λ base. whole_bytes base (codes "SGVsbG8")) is)
     (ap (λ base. sound_bytes base (codes "SGVsbG8")) is)

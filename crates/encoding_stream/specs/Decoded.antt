@@ -7,7 +7,7 @@ use Rattle.data_encoding.specs.Base.{Base}
 use Rattle.data_encoding.specs.Fault.{fault_of, sound_bytes}
 use Rattle.encoding_stream.specs.declared.error.StreamFault.{StreamFault}
 use Rattle.encoding_stream.specs.declared.error.StreamFault.TheVariants.{Decode}
-use Rattle.encoding_stream.specs.declared.pieces.Kept.{Kept}
+use Rattle.encoding_stream.specs.declared.buffer_decoder.Kept.{Kept}
 use Rattle.encoding_stream.specs.Reading.{HasLastBytes}
 use Rattle.encoding_stream.specs.Watch.{AppendsFront, Change}
 

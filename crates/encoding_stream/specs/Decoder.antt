@@ -6,7 +6,7 @@ use Rattle.data_encoding.specs.Fault.{sound_bytes}
 use Rattle.data_encoding.specs.Pieces.{whole_bytes, HasDecoded}
 use Rattle.encoding_stream.specs.declared.decoder.Decoder.{Decoder}
 use Rattle.encoding_stream.specs.Appending.{AppendsDecoded}
-use Rattle.encoding_stream.specs.Pieces.{base_of_pieces, Keeps}
+use Rattle.encoding_stream.specs.BufferDecoder.{base_of_pieces, Keeps}
 use Rattle.encoding_stream.specs.Reading.{HasVerdict}
 
 -- The encoding of a decoder.

@@ -1,10 +1,10 @@
 pub mod Watch
 pub mod Specified
 pub mod Printed
-pub mod Blocks
+pub mod BufferEncoder
 pub mod Encoded
-pub mod Judged
-pub mod Pieces
+pub mod Groups
+pub mod BufferDecoder
 pub mod Reading
 pub mod Decoder
 pub mod Appending

@@ -7,9 +7,9 @@ use Rattle.data_encoding.specs.Fault.{fault_of, sound_bytes}
 use Rattle.data_encoding.specs.Grammar.{Means, groups, is_final, kept}
 use Rattle.data_encoding.specs.Laws.{shifted}
 use Rattle.data_encoding.specs.Pieces.{whole_bytes, HasRead}
-use Rattle.encoding_stream.specs.declared.pieces.Kept.{Kept}
+use Rattle.encoding_stream.specs.declared.buffer_decoder.Kept.{Kept}
 use Rattle.encoding_stream.specs.Appending.{AppendsDecoded}
-use Rattle.encoding_stream.specs.Pieces.{most_completed, verdict_of, Keeps}
+use Rattle.encoding_stream.specs.BufferDecoder.{most_completed, verdict_of, Keeps}
 
 -- If `old` is the state after a text, `new` is the state after the text followed by `piece`. The
 -- groups that the piece completes have the bytes `bytes`, which leave room for the bytes of later
@@ -51,8 +51,8 @@ ReadsRun base piece bytes fault =
     → HasRead base (text ++ piece) (len + length piece) (shifted len fault) [] false
     × (whole_bytes base (text ++ piece) ≡ whole_bytes base text ++ bytes)
 
--- Like `ReadsRun`, for a piece in which a group may be final. If the piece has no fault, `ended` is
--- true if one is.
+-- Like `ReadsRun`, for a piece with a group that may be final. If the piece is valid, `ended` is
+-- true if one is final.
 abbrev pub ReadsRunTo : Base → List ℕ → List ℕ → Option DecodeError → Bool → Type 0
 ReadsRunTo base piece bytes fault ended =
     (text : List ℕ) (len : ℕ) → HasRead base text len None [] false

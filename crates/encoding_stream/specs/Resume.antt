@@ -4,8 +4,8 @@ use Rattle.data_encoding.specs.declared.decode.TheConstants.{DECODE_LIMIT}
 use Rattle.data_encoding.specs.declared.error.DecodeKind.{DecodeKind}
 use Rattle.data_encoding.specs.declared.error.DecodeKind.TheVariants.{Length, Symbol, Trailing, Padding}
 use Rattle.data_encoding.specs.Base.{Base, group_symbols, is_ignored, is_padded, meaning}
-use Rattle.encoding_stream.specs.declared.pieces.Kept.{Kept}
-use Rattle.encoding_stream.specs.Pieces.{Keeps}
+use Rattle.encoding_stream.specs.declared.buffer_decoder.Kept.{Kept}
+use Rattle.encoding_stream.specs.BufferDecoder.{Keeps}
 
 -- The positions ascend, are at least `start`, and are less than `end`.
 abbrev pub Ascend : ℕ → ℕ → List ℕ → Type 0
@@ -32,7 +32,7 @@ is_of_group base Symbol = true
 is_of_group base Trailing = base.checks_trailing_bits
 is_of_group base Padding = is_padded base
 
--- There is a fault in the text, and no byte is held. Or there is no fault, and a group was final
+-- There is a fault in the text, and no byte is held. Or the fault is `None`, and a group was final
 -- only if texts may not be concatenated.
 pub record HasPossibleFault (base : Base) (kept : Kept) : Type 0 where
   pub clear : IsSome kept.fault → kept.count ≡ 0

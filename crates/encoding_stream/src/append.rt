@@ -3,10 +3,10 @@
 ghost use Rattle.std.specs.Prelude.{◌≡◌, ℕ, ◌+◌, ◌≤◌, ◌⊎◌, List, length, vec_capacity, vec_len, IsOk, OnErr, OnOk};
 ghost use Rattle.data_encoding.specs.declared.decode.TheConstants.{DECODE_LIMIT};
 ghost use Rattle.encoding_stream.specs.Appending.{IsAsBefore};
-ghost use Rattle.encoding_stream.specs.Pieces.{base_of_pieces, most_completed, Keeps};
+ghost use Rattle.encoding_stream.specs.BufferDecoder.{base_of_pieces, most_completed, Keeps};
 ghost use Rattle.encoding_stream.specs.Reading.{AppendsPiece, CompletesNothing};
 
-use crate::pieces::BufferDecoder;
+use crate::buffer_decoder::BufferDecoder;
 use data_encoding::DECODE_LIMIT;
 use std::alloc::{AllocError, Allocator};
 
@@ -15,7 +15,7 @@ use std::alloc::{AllocError, Allocator};
 // smaller one long pieces.
 const CHUNK: usize = 512;
 
-// The room for what they decode to: at most seven bytes more.
+// The length of the buffer for their data: at most seven bytes more.
 const ROOM: usize = CHUNK + 8;
 
 /// Decodes a piece, and appends the bytes of the groups that it completes.
@@ -50,8 +50,10 @@ pub(crate) fn append_piece<A: Allocator + Copy>(
     Ok(())
 }
 
-// Decodes a part of a piece to a buffer, and appends the decoded bytes. If there are any, the
-// output first grows for the `rest` bytes of the piece that follow, too.
+/// Decodes a part of a piece to `buffer`, and appends the decoded bytes to `output`.
+///
+/// If there are any, `output` first grows for them and for the bytes that the next `rest` bytes of
+/// the piece may complete.
 fn append_chunk<A: Allocator + Copy>(
     pieces: &mut BufferDecoder<'_>,
     chunk: &[u8],

@@ -5,12 +5,12 @@ ghost use Rattle.std.specs.Io.KnownBytes.{IsAtEnd};
 ghost use Rattle.data_encoding.specs.Fault.{fault_of};
 ghost use Rattle.encoding_stream.specs.Decoded.{result_of, JudgesText, DecodesFront, DecodesJudged, EndsText};
 ghost use Rattle.encoding_stream.specs.Encoded.{ReadsMore};
-ghost use Rattle.encoding_stream.specs.Pieces.{base_of_pieces, Keeps};
+ghost use Rattle.encoding_stream.specs.BufferDecoder.{base_of_pieces, Keeps};
 ghost use Rattle.encoding_stream.specs.Watch.{has_failed, inner_of, seen};
 
+use crate::buffer_decoder::BufferDecoder;
 use crate::error::StreamFault;
 use crate::fill::fill;
-use crate::pieces::BufferDecoder;
 use crate::watch::Watch;
 use data_encoding::{DECODE_LIMIT, DecodeError, Encoding};
 use std::io::{Read, Write};
@@ -18,7 +18,7 @@ use std::io::{Read, Write};
 // The number of bytes of text that are decoded at a time.
 const CHUNK: usize = 32768;
 
-// The room for what they decode to.
+// The length of the buffer for their data.
 const ROOM: usize = CHUNK + 8;
 
 /// Reads a text to its end, writes its data, and flushes the writer once.
@@ -40,13 +40,12 @@ pub fn decode_stream<R: Read, W: Write>(
     requires reader_works { has_failed reader.old ≡ false }
     requires writer_works { has_failed writer.old ≡ false }
 
-    // If the result is Ok or the fault of the text, all was read, and what it decodes to was
-    // written.
+    // If the result is Ok or the fault of the text, all was read, and its sound bytes were written.
     ensures all_read { OnOk result (IsAtEnd (R.remaining (inner_of reader.new))) }
     ensures all { DecodesJudged encoding.now result
         (seen R.remaining reader.old reader.new) (seen W.contents writer.old writer.new) }
 
-    // In every case a prefix of it is written.
+    // In every case a prefix of the sound bytes is written.
     ensures begun { DecodesFront encoding.now
         (seen R.remaining reader.old reader.new) (seen W.contents writer.old writer.new) }
 
@@ -81,7 +80,7 @@ pub fn decode_stream<R: Read, W: Write>(
     }
 }
 
-// Writes what the last group decodes to, flushes, and returns the verdict.
+/// Writes the bytes of the last group, flushes the writer, and returns the verdict on the text.
 fn end<W: Write>(
     pieces: &BufferDecoder<'_>,
     output: &mut [u8],

@@ -2,11 +2,11 @@
 
 ghost use Rattle.std.specs.Prelude.{◌≡◌, ℕ, ◌+◌, ◌≤◌, List, ◌++◌, length, vec_capacity, IfOk, IsOk, OnErr, OnOk};
 ghost use Rattle.data_encoding.specs.declared.decode.TheConstants.{DECODE_LIMIT};
-ghost use Rattle.encoding_stream.specs.Pieces.{base_of_pieces, Keeps};
+ghost use Rattle.encoding_stream.specs.BufferDecoder.{base_of_pieces, Keeps};
 ghost use Rattle.encoding_stream.specs.Reading.{AppendsLast, HasNoLastBytes, HasVerdict};
 
 use crate::append::append_piece;
-use crate::pieces::BufferDecoder;
+use crate::buffer_decoder::BufferDecoder;
 use data_encoding::{DECODE_LIMIT, DecodeError, Encoding};
 use std::alloc::{AllocError, Allocator};
 
@@ -112,7 +112,7 @@ impl<'a> Decoder<'a> {
     }
 }
 
-// The same as `Decoder::finish`, with any allocator.
+/// Like [`Decoder::finish`], for any allocator.
 fn append_last<A: Allocator + Copy>(
     pieces: &BufferDecoder<'_>,
     output: &mut Vec<u8, A>,

@@ -81,7 +81,7 @@ pub fn encode_stream<R: Read, W: Write>(
     }
 }
 
-// How many bytes are asked for at a time: a piece, or one byte more than may still come.
+/// Returns the number of bytes to read next: `piece`, or `left + 1` if fewer may still come.
 fn asked_for(piece: usize, left: u64) -> usize
     requires { 0 < piece }
     ensures some { 0 < result }
@@ -96,7 +96,9 @@ fn asked_for(piece: usize, left: u64) -> usize
     }
 }
 
-// Writes the text of the data, which fits `output`, in one call of `write_all`.
+/// Writes the text of `input` in one call of `write_all`.
+///
+/// `output` must be at least as long as the text.
 fn write_text<W: Write>(
     encoding: &Encoding,
     input: &[u8],

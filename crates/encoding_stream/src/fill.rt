@@ -9,8 +9,8 @@ use crate::watch::Watch;
 use std::io;
 use std::io::Read;
 
-// The most bytes that one read asks for.
-const MOST_READ: usize = 8192;
+// The greatest number of bytes that one read asks for.
+const MAX_READ: usize = 8192;
 
 /// Reads until `buffer` is full or the reader is at its end, and returns the number of bytes read.
 ///
@@ -37,7 +37,7 @@ pub(crate) fn fill<R: Read>(reader: &mut Watch<R>, buffer: &mut [u8]) -> io::Res
     Ok(filled)
 }
 
-// Reads once, and asks for at most `MOST_READ` bytes.
+/// Reads once, and asks for at most `MAX_READ` bytes.
 fn read_once<R: Read>(reader: &mut Watch<R>, buf: &mut [u8]) -> io::Result<usize>
     ensures bound { ReadsAtMost result buf.new }
     ensures bytes { ReadConsumes (R.remaining (inner_of reader.old))
@@ -45,6 +45,6 @@ fn read_once<R: Read>(reader: &mut Watch<R>, buf: &mut [u8]) -> io::Result<usize
     ensures failed { has_failed reader.new ≡ (has_failed reader.old || is_err result) }
     ensures len { length buf.new ≡ length buf.old }
 {
-    let most = buf.len().min(MOST_READ);
-    reader.read(&mut buf[..most])
+    let len = buf.len().min(MAX_READ);
+    reader.read(&mut buf[..len])
 }

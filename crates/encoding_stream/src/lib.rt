@@ -5,24 +5,21 @@
 #![tactic(auto)]
 
 mod append;
-mod blocks;
-mod bytes;
+mod buffer_decoder;
+mod buffer_encoder;
 mod decode_reader;
 mod decoder;
 mod encode_reader;
 mod error;
 mod fill;
-mod judge;
-mod pieces;
 mod resume;
-mod runs;
 mod watch;
 
-pub use blocks::BufferEncoder;
+pub use buffer_decoder::{BufferDecoder, Kept};
+pub use buffer_encoder::BufferEncoder;
 pub use data_encoding::KeptData;
 pub use decode_reader::decode_stream;
 pub use decoder::{Decoder, Finished};
 pub use encode_reader::encode_stream;
 pub use error::StreamFault;
-pub use pieces::{BufferDecoder, Kept};
 pub use watch::Watch;

@@ -3,7 +3,7 @@
 ghost use Rattle.std.specs.Prelude.{◌≡◌, ◌≤◌, true, false};
 ghost use Rattle.encoding_stream.specs.Resume.{held_positions, is_of_group, Ascend, HasPossibleFault, HoldsNoIgnored};
 
-use crate::pieces::Kept;
+use crate::buffer_decoder::Kept;
 use data_encoding::{DecodeKind, EncodingRef};
 
 impl Kept {
@@ -48,7 +48,7 @@ impl Kept {
     }
 }
 
-// Whether a whole group may have a fault of this kind.
+/// Returns `true` if a whole group may have a fault of the given kind.
 fn is_of_group(encoding: &EncodingRef<'_>, kind: DecodeKind) -> bool
     ensures { result ≡ is_of_group encoding.now kind }
 {

@@ -109,6 +109,7 @@ impl Write for FakeWriter {
     }
 }
 
+/// Returns the words of a command line.
 fn words_of(alloc: Global, line: &str) -> Result<Vec<String>, AllocError> {
     let mut words = Vec::new(alloc);
     for word in line.split_whitespace() {
@@ -128,6 +129,7 @@ struct Outcome {
     line: Vec<u8>,
 }
 
+/// Does the request of a command line.
 fn outcome_of(
     alloc: Global,
     line: &str,
@@ -138,7 +140,7 @@ fn outcome_of(
     outcome_with(alloc, line, reader, writer, faults)
 }
 
-// The same, with lines about faults written to this writer.
+/// Like [`outcome_of`], but prints lines about faults to `faults`.
 fn outcome_with(
     alloc: Global,
     line: &str,
@@ -160,14 +162,14 @@ fn outcome_with(
     })
 }
 
-// What is done if no call fails, and the input comes byte by byte.
+/// Does the request of a command line with an input that comes byte by byte. No call fails.
 fn done(alloc: Global, line: &str, input: &[u8]) -> Result<Outcome, AllocError> {
     let writer = FakeWriter::new(alloc, Failure::Nothing, 0)?;
     outcome_of(alloc, line, FakeReader::new(input, 1), writer)
 }
 
 impl Outcome {
-    // The answer was written and flushed once, and no line was printed.
+    /// Returns `true` if the answer was written and flushed once, and no line was printed.
     fn is_answer(&self, answer: &[u8]) -> bool {
         self.status == 0
             && self.writer.bytes.as_slice() == answer
@@ -176,7 +178,8 @@ impl Outcome {
             && self.line.is_empty()
     }
 
-    // The line was printed, and the data before the fault was written and flushed once.
+    /// Returns `true` if the line was printed, and the data before the fault was written and
+    /// flushed once.
     fn is_refusal(&self, line: &str, written: &[u8]) -> bool {
         self.status == 1
             && self.line.as_slice() == line.as_bytes()
@@ -184,7 +187,7 @@ impl Outcome {
             && self.writer.flushes == 1
     }
 
-    // The line was printed, and nothing was written or flushed.
+    /// Returns `true` if the line was printed, and nothing was written or flushed.
     fn is_fault(&self, status: u8, line: &str) -> bool {
         self.status == status
             && self.line.as_slice() == line.as_bytes()

@@ -6,7 +6,7 @@ ghost use Rattle.data_encoding.specs.Fault.{fault_of, first_fault, sound_bytes};
 ghost use Rattle.data_encoding.specs.Grammar.{Means};
 ghost use Rattle.data_encoding.specs.Pieces.{whole_groups};
 ghost use Rattle.data_encoding.specs.Text.{text_of};
-ghost use Rattle.encoding_stream.specs.Pieces.{verdict_of};
+ghost use Rattle.encoding_stream.specs.BufferDecoder.{verdict_of};
 ghost use Rattle.conformance.specs.Results.{bytes_filled};
 ghost use Rattle.conformance.specs.Texts.{IsFaultOfAll};
 

@@ -7,8 +7,8 @@ ghost use Rattle.data_encoding.specs.Lengths.{alignment, decoded_len};
 ghost use Rattle.data_encoding.specs.Pieces.{whole_bytes};
 ghost use Rattle.data_encoding.specs.Text.{text_of};
 ghost use Rattle.data_encoding.specs.KeptData.{piece_text, text_of_blocks};
-ghost use Rattle.encoding_stream.specs.Blocks.{EncodesOn, HasWritten};
-ghost use Rattle.encoding_stream.specs.Pieces.{Keeps};
+ghost use Rattle.encoding_stream.specs.BufferEncoder.{EncodesOn, HasWritten};
+ghost use Rattle.encoding_stream.specs.BufferDecoder.{Keeps};
 ghost use Rattle.encoding_stream.specs.Resume.{IsKept};
 ghost use Rattle.conformance.specs.Texts.{IsFaultOfAll, MeansSome};
 

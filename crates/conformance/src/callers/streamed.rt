@@ -8,7 +8,7 @@ ghost use Rattle.data_encoding.specs.Grammar.{Means};
 ghost use Rattle.data_encoding.specs.Laws.{Resumes};
 ghost use Rattle.data_encoding.specs.Predefined.{base64_fields, base64_mime_fields};
 ghost use Rattle.data_encoding.specs.Text.{text_of};
-ghost use Rattle.encoding_stream.specs.Pieces.{verdict_of};
+ghost use Rattle.encoding_stream.specs.BufferDecoder.{verdict_of};
 ghost use Rattle.conformance.specs.Results.{IsFault};
 ghost use Rattle.conformance.specs.Texts.{IsFaultOfAll, MeansSound};
 

@@ -1,9 +1,9 @@
 use Rattle.std.proofs.Common.{◌≡◌, ◌∙◌, [], ◌∷◌, codes, rules, arith, sym, ap}
 use Rattle.std.proofs.lemmas.Slice.Eq.{bytes_eq-Decides}
-use Rattle.basecode.specs.Run.{TellsCanonical}
-use Rattle.basecode.specs.Words.{texts}
+use Rattle.basecode.specs.Run.{IsCanonicalLine}
+use Rattle.basecode.specs.Arguments.{texts}
 use Rattle.encoding_stream.specs.Watch.{inner_of}
-use Rattle.basecode.proofs.WordLemmas.{canonical_answered, line_read}
+use Rattle.basecode.proofs.ArgumentLemmas.{canonical_answered, line_read}
 use Rattle.basecode.proofs.callers.canonical.Goals as goal
 
 pub returns : goal.returns
@@ -15,7 +15,7 @@ returns c = λ base known.
     let nothing : (inner_of c.new-writer.result).items ≡ [] = search rules in
     let same : (inner_of c.run-status.new.writer).items ≡ line = search rules in
     let done = rw (words, nothing, same) at (c.run-status.ensures.done ends) in
-    let answered : TellsCanonical base line = canonical_answered _ base known _ _ line done in
+    let answered : IsCanonicalLine base line = canonical_answered _ base known _ _ line done in
     let read = line_read base line answered in
     let first = c.as_slice-2.ensures.value in
     let second = c.as_slice-3.ensures in

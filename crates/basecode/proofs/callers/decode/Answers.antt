@@ -3,7 +3,7 @@ use Rattle.encoding_stream.specs.Watch.{from_to}
 use Rattle.basecode.specs.Run.{Begun, Done, Refused}
 use Rattle.basecode.proofs.ConversionLemmas.{decoded, decoded_front, not_decoded, refused_whole, sound}
 use Rattle.basecode.specs.declared.command.Verb.TheVariants.{Decode}
-use Rattle.basecode.proofs.WordLemmas.{fulfilled_whole}
+use Rattle.basecode.proofs.ArgumentLemmas.{fulfilled_whole}
 use Rattle.basecode.proofs.callers.decode.Goals as goal
 
 pub returns-clause-whole : goal.returns-clause-whole

@@ -3,7 +3,7 @@ use Rattle.std.proofs.lemmas.Option.{none-some}
 use Rattle.std.specs.Io.KnownBytes.{Keeps}
 use Rattle.encoding_stream.specs.Watch.{Change}
 use Rattle.basecode.specs.Run.{Begun, OfNames, OfQuestion}
-use Rattle.basecode.specs.Words.{texts}
+use Rattle.basecode.specs.Arguments.{texts}
 use Rattle.basecode.proofs.callers.list.Goals as goal
 
 -- a run of `list` reads nothing

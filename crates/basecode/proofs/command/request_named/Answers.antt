@@ -2,8 +2,8 @@ use Rattle.std.proofs.Common.{◌≡◌, ◌↔◌, [], ◌∷◌, ◌∙◌, Bo
 use Rattle.std.proofs.lemmas.Bool.{false≢true}
 use Rattle.std.proofs.lemmas.Grind.{common_steps}
 use Rattle.std.proofs.lemmas.Option.{none-some}
-use Rattle.basecode.specs.Words.{Asks, IsWrong, Names, request_of, texts}
-use Rattle.basecode.proofs.WordLemmas.{texts_of_one, texts_of_two}
+use Rattle.basecode.specs.Arguments.{Asks, IsWrong, Names, request_of, texts}
+use Rattle.basecode.proofs.ArgumentLemmas.{texts_of_one, texts_of_two}
 use Rattle.basecode.proofs.command.request_named.Goals.{After-as_str-in-len2-2}
 use Rattle.basecode.proofs.command.request_named.Goals as goal
 

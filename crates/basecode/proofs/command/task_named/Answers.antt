@@ -1,5 +1,5 @@
 use Rattle.std.proofs.Common.{get_or, ap, sym, ◌∙◌}
-use Rattle.basecode.specs.Words.{ask_of}
+use Rattle.basecode.specs.Arguments.{ask_of}
 use Rattle.basecode.proofs.command.task_named.Goals as goal
 
 pub returns-in_default-clause-fault : goal.returns-in_default-clause-fault

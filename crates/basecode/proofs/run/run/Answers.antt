@@ -1,12 +1,12 @@
 use Rattle.std.proofs.Common.{arith, ◌≡◌, ◌∙◌, refl, subst, sym, Some, IfErr, inl, inr}
 use Rattle.std.proofs.KnownBytes.{Keeps-refl}
 use Rattle.data_encoding.specs.Named.{listing}
-use Rattle.basecode.specs.Run.{Begins, ByReply, Converts, Explains, OfNames, OfQuestion, Replies, TellsCanonical}
+use Rattle.basecode.specs.Run.{Begins, ByReply, Converts, CausesFault, OfNames, OfQuestion, Replies, IsCanonicalLine}
 use Rattle.encoding_stream.specs.Watch.{inner_of, seen}
-use Rattle.basecode.specs.Words.{AreRequest, Asks, Names, request_of, texts}
+use Rattle.basecode.specs.Arguments.{AreRequest, Asks, Names, request_of, texts}
 use Rattle.basecode.specs.declared.command.Ask.TheVariants.{Conversion, Question}
 use Rattle.basecode.proofs.ConversionLemmas.{done_conversion, ended, failed_conversion, refused_conversion}
-use Rattle.basecode.proofs.WordLemmas.{Asks-request}
+use Rattle.basecode.proofs.ArgumentLemmas.{Asks-request}
 use Rattle.basecode.proofs.run.run.Given.{Over}
 use Rattle.basecode.proofs.run.run.Goals as goal
 
@@ -50,7 +50,7 @@ reply g c =
     let asked : Asks (texts c.args.words.now) Question c.in-Ok-Of.task.encoding =
     Asks-request _ c.in-Ok-Of.field-0 c.in-Ok-Of.task Question
     c.in-Ok-Of.field-0-is asks c.in-Ok-Of.ensures.asked in
-    let shown : TellsCanonical c.in-Ok-Of.task.encoding c.truth_of.result.now =
+    let shown : IsCanonicalLine c.in-Ok-Of.task.encoding c.truth_of.result.now =
     (rw c.in-Ok-Of.field-0-is at c.truth_of.ensures) in
     let kept = Keeps-refl (g.R.Read.remaining (inner_of c.args.reader.now)) in
     OfQuestion c.in-Ok-Of.task.encoding asked kept shown
@@ -91,7 +91,7 @@ returns-in-Conversion-clause-done g c = λ ends.
 
 pub returns-in-Conversion-clause-refused : goal.returns-in-Conversion-clause-refused
 returns-in-Conversion-clause-refused g c = λ ends.
-    let explains : IfErr c.convert.result (Explains c.in-Conversion.verb c.in-Ok-Of.task.encoding
+    let explains : IfErr c.convert.result (CausesFault c.in-Conversion.verb c.in-Ok-Of.task.encoding
     (seen g.R.Read.remaining c.args.reader.now c.convert.new.reader)
     (seen g.W.Write.contents c.args.writer.now c.convert.new.writer)) =
     (rw c.in-Ok-Of.field-0-is at c.convert.ensures.fault) in

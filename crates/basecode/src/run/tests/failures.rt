@@ -6,7 +6,7 @@ use super::*;
 #[test]
 fn an_interrupted_read_fails(rt: HostRuntime) -> Result<(), Fail> {
     for (words, input) in [("encode HEXLOWER", "Hello"), ("decode HEXLOWER", "48656")] {
-        // Five bytes take four reads, the last of which finds the end.
+        // Five bytes take four reads. The last one finds the end.
         for good_calls in 0..4usize {
             let mut reader = FakeReader::new(input.as_bytes(), 2);
             reader.good_calls = good_calls;
@@ -26,8 +26,8 @@ fn an_interrupted_read_fails(rt: HostRuntime) -> Result<(), Fail> {
     Ok(())
 }
 
-// Whether a run ends at the failing call of its writer, after these numbers of writes and flushes,
-// with these bytes written.
+/// Returns `true` if a run ends at the failing call of its writer, after the given numbers of
+/// writes and flushes, and `written` was written.
 fn is_end(
     alloc: Global,
     (words, input): (&str, &str),
@@ -49,8 +49,8 @@ fn is_end(
     )
 }
 
-// Whether each write of the run ends it, if that one alone fails: the first, the second, and so on
-// until a run makes fewer. What the writes before took, three bytes each, is written.
+/// Returns `true` if each write of a run ends it if only that write fails. The writes before take
+/// three bytes each.
 fn each_write_ends(
     alloc: Global,
     run: (&str, &str),
@@ -117,7 +117,7 @@ fn an_interrupted_flush_fails(rt: HostRuntime) -> Result<(), Fail> {
     Ok(())
 }
 
-// The status is that of the failed read, although the line about it can't be printed.
+// The status shows the failed read, although the line about it can't be printed.
 #[test]
 fn a_failed_read_fails_unseen(rt: HostRuntime) -> Result<(), Fail> {
     let mut reader = FakeReader::new(b"Hello", 2);

@@ -1,4 +1,4 @@
-//! Inputs and arguments that have no answer.
+//! Inputs and arguments without an answer.
 
 use super::*;
 

@@ -1,6 +1,6 @@
 use Rattle.std.proofs.Common.{◌≡◌, ◌++◌, ℕ, length, take, ◌∙◌, refl, sym, ap, subst, arith}
 use Rattle.data_encoding.specs.KeptData.{after_blocks, held_data, piece_text}
-use Rattle.encoding_stream.specs.Blocks.{EncodesOn}
+use Rattle.encoding_stream.specs.BufferEncoder.{EncodesOn}
 use Rattle.data_encoding_calls.specs.Blocks.{if_kept, piece_status}
 use Rattle.data_encoding_calls.specs.Calls.{front_status}
 use Rattle.data_encoding_calls.specs.Status.{ok, short_buffer}

@@ -1,5 +1,5 @@
 use Rattle.std.proofs.Common.{None, false, lit≤, refl, replicate}
-use Rattle.encoding_stream.specs.declared.pieces.Kept.{Kept}
+use Rattle.encoding_stream.specs.declared.buffer_decoder.Kept.{Kept}
 use Rattle.data_encoding_calls.proofs.decoder.plain_decoder_new.Goals as goal
 
 abbrev of_nothing : Kept

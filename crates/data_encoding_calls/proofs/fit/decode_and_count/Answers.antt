@@ -2,7 +2,7 @@ use Rattle.std.proofs.Common.{◌≡◌, ◌+◌, ◌≤◌, ◌++◌, length, t
 use Rattle.std.proofs.lemmas.List.{length-append, length-take, take-append-le, take_all}
 use Rattle.data_encoding.specs.Fault.{sound_bytes}
 use Rattle.data_encoding.specs.Pieces.{whole_bytes}
-use Rattle.encoding_stream.specs.Pieces.{kept_by, Keeps}
+use Rattle.encoding_stream.specs.BufferDecoder.{kept_by, Keeps}
 use Rattle.data_encoding_calls.proofs.FitLemmas.{Copied, copied-more, reads-part}
 use Rattle.data_encoding_calls.proofs.fit.decode_and_count.Goals as goal
 

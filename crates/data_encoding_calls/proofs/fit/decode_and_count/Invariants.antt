@@ -1,6 +1,6 @@
 use Rattle.std.proofs.Common.{◌≡◌, ◌-◌, ◌*◌, ◌≤◌, length, take}
 use Rattle.data_encoding.specs.Pieces.{whole_bytes}
-use Rattle.encoding_stream.specs.Pieces.{base_of_pieces, kept_by, Keeps}
+use Rattle.encoding_stream.specs.BufferDecoder.{base_of_pieces, kept_by, Keeps}
 use Rattle.data_encoding_calls.proofs.FitLemmas.{Copied}
 use Rattle.data_encoding_calls.proofs.fit.decode_and_count.Given as goal
 

@@ -1,6 +1,6 @@
 use Rattle.std.proofs.Common.{◌≡◌, ◌⊎◌, ◌++◌, List, ℕ, ◌<◌, None, Some, is_some, drop, refl, sym, ap, subst, ◌∙◌, arith, inl, inr}
 use Rattle.data_encoding.specs.Fault.{fault_of}
-use Rattle.encoding_stream.specs.Pieces.{kept_by}
+use Rattle.encoding_stream.specs.BufferDecoder.{kept_by}
 use Rattle.data_encoding_calls.specs.Pieces.{HasConsumed}
 use Rattle.data_encoding_calls.specs.Status.{status_of_fault}
 use Rattle.data_encoding_calls.proofs.PieceLemmas.{EndsKept, ended, fault-inside, fault-none, fault-some, kept-len, kind-faulty, kind-own, no-error, none-consumed, one-error}

@@ -2,7 +2,7 @@ use Rattle.std.proofs.Common.{◌≡◌, List, ◌++◌, ℕ, ◌≤◌, length,
 use Rattle.std.proofs.lemmas.List.{length-append, length-drop, take-append-le}
 use Rattle.std.proofs.lemmas.Slice.{drop-append-drop}
 use Rattle.data_encoding.specs.Pieces.{whole_bytes}
-use Rattle.encoding_stream.specs.Pieces.{kept_by, most_completed, Keeps}
+use Rattle.encoding_stream.specs.BufferDecoder.{kept_by, most_completed, Keeps}
 use Rattle.encoding_stream.specs.Reading.{ReadsOn}
 use Rattle.data_encoding_calls.specs.Pieces.{piece_status, HasConsumed}
 use Rattle.data_encoding_calls.specs.Status.{ok}

@@ -2,10 +2,10 @@ use Rattle.std.proofs.Common.{◌≡◌, ◌+◌, ◌-◌, ◌≤◌, ◌++◌, 
 use Rattle.std.proofs.lemmas.Bool.{false≢true}
 use Rattle.std.proofs.lemmas.List.{take_all}
 use Rattle.std.specs.Prelude.{OnErr}
-use Rattle.encoding_stream.specs.Pieces.{base_of_pieces, most_completed}
+use Rattle.encoding_stream.specs.BufferDecoder.{base_of_pieces, most_completed}
 use Rattle.encoding_stream.specs.Reading.{AppendsPiece}
 use Rattle.encoding_stream.proofs.DecoderLemmas.{appends-next, appends-nothing, part-adds-none, room-both}
-use Rattle.encoding_stream.proofs.PieceLemmas.{is-specified, keeps-bytes}
+use Rattle.encoding_stream.proofs.ReadByteLemmas.{is-specified, keeps-bytes}
 use Rattle.encoding_stream.proofs.append.append_piece.Goals as goal
 
 pub loop-read-init : goal.loop-read-init

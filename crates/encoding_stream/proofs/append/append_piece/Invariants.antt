@@ -1,6 +1,6 @@
 use Rattle.std.proofs.Common.{◌≡◌, ◌+◌, ◌-◌, ◌≤◌, ◌⊎◌, length, take, vec_capacity, vec_len}
 use Rattle.encoding_stream.specs.Appending.{IsAsBefore}
-use Rattle.encoding_stream.specs.Pieces.{base_of_pieces, most_completed}
+use Rattle.encoding_stream.specs.BufferDecoder.{base_of_pieces, most_completed}
 use Rattle.encoding_stream.specs.Reading.{AppendsPiece}
 use Rattle.encoding_stream.proofs.append.append_piece.Given as goal
 

@@ -5,10 +5,10 @@ use Rattle.std.specs.Io.KnownBytes.{IsAtEnd}
 use Rattle.std.proofs.KnownBytes.{Consumes-whole}
 use Rattle.data_encoding.specs.Fault.{fault_of}
 use Rattle.encoding_stream.specs.Decoded.{result_of, EndsText}
-use Rattle.encoding_stream.specs.Pieces.{base_of_pieces, Keeps}
+use Rattle.encoding_stream.specs.BufferDecoder.{base_of_pieces, Keeps}
 use Rattle.encoding_stream.specs.Watch.{has_failed, inner_of}
 use Rattle.encoding_stream.proofs.DecodedLemmas.{decoded-front, decoded-more, decoded-nothing, decoded-only, decoded-past, each_some, end-error, end-ok, end-other, end-write, ended-all, ended-front, front-all, not-both, on-works, past-few, reads-buffer}
-use Rattle.encoding_stream.proofs.PieceLemmas.{keeps-bytes}
+use Rattle.encoding_stream.proofs.ReadByteLemmas.{keeps-bytes}
 use Rattle.encoding_stream.proofs.ReadPieceLemmas.{most-short}
 use Rattle.encoding_stream.proofs.SizeLemmas.{symbols-few}
 use Rattle.encoding_stream.proofs.decode_reader.decode_stream.Goals as goal

@@ -2,7 +2,7 @@ use Rattle.std.proofs.Common.{take, sym, subst, ◌∙◌}
 use Rattle.std.proofs.KnownBytes.{Appends-kept}
 use Rattle.data_encoding.specs.Fault.{fault_of}
 use Rattle.encoding_stream.specs.Decoded.{EndsText}
-use Rattle.encoding_stream.specs.Pieces.{base_of_pieces}
+use Rattle.encoding_stream.specs.BufferDecoder.{base_of_pieces}
 use Rattle.encoding_stream.specs.Watch.{has_failed, inner_of}
 use Rattle.encoding_stream.proofs.DecodedLemmas.{answers-error, answers-ok, ends-all, has-failed, not-both, on-works}
 use Rattle.encoding_stream.proofs.decode_reader.end.Goals.{then-is_err-via-then-is_err, then-is_err-via-else-is_err+then-is_err-2}

@@ -1,8 +1,8 @@
 use Rattle.std.proofs.Common.{◌≡◌, ℕ, ◌≤◌, List, [], ◌++◌, length, take, refl, sym, ap, subst, ◌∙◌, append-nil, arith, length-append, length-take-le}
 use Rattle.data_encoding.specs.Base.{Base}
 use Rattle.data_encoding.specs.Pieces.{whole_bytes}
-use Rattle.encoding_stream.specs.declared.pieces.Kept.{Kept}
-use Rattle.encoding_stream.specs.Pieces.{base_of_pieces, Keeps}
+use Rattle.encoding_stream.specs.declared.buffer_decoder.Kept.{Kept}
+use Rattle.encoding_stream.specs.BufferDecoder.{base_of_pieces, Keeps}
 use Rattle.encoding_stream.specs.Reading.{AppendsLast, HasLastBytes, HasNoLastBytes}
 use Rattle.encoding_stream.proofs.decoder.append_last.Goals as goal
 

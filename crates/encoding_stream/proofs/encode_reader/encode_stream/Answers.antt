@@ -8,7 +8,7 @@ use Rattle.data_encoding.specs.Base.{Base}
 use Rattle.data_encoding.specs.Lengths.{alignment}
 use Rattle.encoding_stream.specs.Watch.{inner_of}
 use Rattle.encoding_stream.proofs.WriteLemmas.{AppendsFront-nothing}
-use Rattle.encoding_stream.proofs.EncodedLemmas.{all-front, all-known, encoded-all, encoded-front, encoded-more, encoded-nothing, encoded-past, front-nothing, front-of_rest}
+use Rattle.encoding_stream.proofs.EncodedLemmas.{all-front, all-known, encoded-all, encoded-front, encoded-more, encoded-nothing, encoded-past, filled-len, front-nothing, front-of_rest}
 use Rattle.encoding_stream.proofs.DecodedLemmas.{each_some, not-both, past-few}
 use Rattle.encoding_stream.proofs.encode_reader.encode_stream.Goals as goal
 
@@ -66,14 +66,9 @@ returns-in_default-clause-begun g c =
     take-append-le count c.fill.new.buffer (drop asked c.loop-count.buffer)
     c.in-Ok.ensures.bound in
     let filled =
-    c.fill.auto.buffer
-    ∙ length-take-le asked c.loop-count.buffer
-    (omega (
-      arith,
-      c.asked_for-asked.ensures.few,
-      c.encode_piece_len-piece.ensures.few,
-      c.loop-count.invariant.chunk,
-    )) in
+    filled-len c.loop-count.buffer c.fill.new.buffer c.fill.auto.buffer
+    c.asked_for-asked.ensures.few c.encode_piece_len-piece.ensures.few c.loop-count.invariant.chunk
+    in
     let ends : IsAtEnd (g.R.Read.remaining (inner_of c.fill.new.reader))
     ⊎ (length more % alignment base ≡ 0) =
     ⊎_elim
@@ -97,14 +92,9 @@ returns-in-Ok-flush-clause-whole g c =
     take-append-le count c.fill.new.buffer (drop asked c.loop-count.buffer)
     c.in-Ok.ensures.bound in
     let filled =
-    c.fill.auto.buffer
-    ∙ length-take-le asked c.loop-count.buffer
-    (omega (
-      arith,
-      c.asked_for-asked.ensures.few,
-      c.encode_piece_len-piece.ensures.few,
-      c.loop-count.invariant.chunk,
-    )) in
+    filled-len c.loop-count.buffer c.fill.new.buffer c.fill.auto.buffer
+    c.asked_for-asked.ensures.few c.encode_piece_len-piece.ensures.few c.loop-count.invariant.chunk
+    in
     encoded-all c.args.encoding.now c.encode_piece_len-piece.ensures.base c.join_encode.ensures.join
     _ _ _ _ _ c.loop-count.total c.loop-count.invariant.encoded _ c.in-Ok.ensures.bytes _
     (c.in-Ok.ensures.at_end (omega (arith, filled, c.if-count-asked.true)))
@@ -127,14 +117,9 @@ returns-in-Err-flush-clause-begun g c =
     take-append-le count c.fill.new.buffer (drop asked c.loop-count.buffer)
     c.in-Ok.ensures.bound in
     let filled =
-    c.fill.auto.buffer
-    ∙ length-take-le asked c.loop-count.buffer
-    (omega (
-      arith,
-      c.asked_for-asked.ensures.few,
-      c.encode_piece_len-piece.ensures.few,
-      c.loop-count.invariant.chunk,
-    )) in
+    filled-len c.loop-count.buffer c.fill.new.buffer c.fill.auto.buffer
+    c.asked_for-asked.ensures.few c.encode_piece_len-piece.ensures.few c.loop-count.invariant.chunk
+    in
     all-front c.args.encoding.now _ _ _ _
     (encoded-all c.args.encoding.now c.encode_piece_len-piece.ensures.base
     c.join_encode.ensures.join _ _ _ _ _ c.loop-count.total c.loop-count.invariant.encoded _
@@ -151,14 +136,9 @@ loop-count-preserved g c =
     take-append-le count c.fill.new.buffer (drop asked c.loop-count.buffer)
     c.in-Ok.ensures.bound in
     let filled =
-    c.fill.auto.buffer
-    ∙ length-take-le asked c.loop-count.buffer
-    (omega (
-      arith,
-      c.asked_for-asked.ensures.few,
-      c.encode_piece_len-piece.ensures.few,
-      c.loop-count.invariant.chunk,
-    )) in
+    filled-len c.loop-count.buffer c.fill.new.buffer c.fill.auto.buffer
+    c.asked_for-asked.ensures.few c.encode_piece_len-piece.ensures.few c.loop-count.invariant.chunk
+    in
     let more = take count c.fill.new.buffer in
     let taken : length more ≡ count =
     length-take-le count c.fill.new.buffer c.in-Ok.ensures.bound in

@@ -1,8 +1,8 @@
 use Rattle.std.proofs.Common.{◌≡◌, [], ◌++◌, take, sym, ap, ◌∙◌, subst, arith, None, IsSome}
-use Rattle.encoding_stream.specs.declared.pieces.BufferDecoder.{BufferDecoder}
+use Rattle.encoding_stream.specs.declared.buffer_decoder.BufferDecoder.{BufferDecoder}
 use Rattle.data_encoding.specs.Fault.{fault_of, sound_bytes}
 use Rattle.data_encoding.specs.Grammar.{Means}
-use Rattle.encoding_stream.specs.Pieces.{kept_by, verdict_of, Keeps}
+use Rattle.encoding_stream.specs.BufferDecoder.{kept_by, verdict_of, Keeps}
 use Rattle.encoding_stream.specs.Reading.{ReadsOn}
 use Rattle.conformance.proofs.StreamedLemmas.{no-fault-ok}
 use Rattle.conformance.proofs.callers.buffers.decode_kept.Goals as goal

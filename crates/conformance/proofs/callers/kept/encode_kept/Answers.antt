@@ -1,6 +1,6 @@
 use Rattle.std.proofs.Common.{◌≡◌, [], ◌++◌, length, take, length-take-le, sym, ◌∙◌, subst, arith}
 use Rattle.data_encoding.specs.KeptData.{held_data}
-use Rattle.encoding_stream.specs.Blocks.{data_kept, HasWritten}
+use Rattle.encoding_stream.specs.BufferEncoder.{data_kept, HasWritten}
 use Rattle.conformance.proofs.callers.kept.encode_kept.Goals as goal
 
 pub finish-in_last-requires : goal.finish-in_last-requires

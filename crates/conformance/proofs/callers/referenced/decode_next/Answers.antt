@@ -1,5 +1,5 @@
 use Rattle.std.proofs.Common.{◌++◌, take, sym, subst}
-use Rattle.encoding_stream.specs.Pieces.{kept_by, Keeps}
+use Rattle.encoding_stream.specs.BufferDecoder.{kept_by, Keeps}
 use Rattle.encoding_stream.specs.Reading.{ReadsOn}
 use Rattle.conformance.proofs.callers.referenced.decode_next.Goals as goal
 

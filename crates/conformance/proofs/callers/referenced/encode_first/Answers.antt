@@ -3,7 +3,7 @@ use Rattle.std.proofs.lemmas.Bool.{false≢true}
 use Rattle.data_encoding.specs.Base.{Base}
 use Rattle.data_encoding.specs.declared.encode.kept_data.KeptData.{KeptData}
 use Rattle.data_encoding.specs.KeptData.{held_data, piece_text, text_of_blocks}
-use Rattle.encoding_stream.specs.Blocks.{data_kept, HasWritten}
+use Rattle.encoding_stream.specs.BufferEncoder.{data_kept, HasWritten}
 use Rattle.conformance.proofs.callers.referenced.encode_first.Goals as goal
 
 -- of no data, nothing is held

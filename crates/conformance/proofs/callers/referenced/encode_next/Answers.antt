@@ -1,5 +1,5 @@
 use Rattle.std.proofs.Common.{take, sym, subst}
-use Rattle.encoding_stream.specs.Blocks.{EncodesOn}
+use Rattle.encoding_stream.specs.BufferEncoder.{EncodesOn}
 use Rattle.conformance.proofs.callers.referenced.encode_next.Goals as goal
 
 pub returns-clause-encodes : goal.returns-clause-encodes

@@ -1,10 +1,10 @@
 use Rattle.std.proofs.Common.{ℕ, List, ◌++◌, sym, subst}
 use Rattle.std.proofs.lemmas.Bool.{false≢true}
 use Rattle.encoding_stream.specs.Decoder.{AppendsPushed, HasConsumed}
-use Rattle.encoding_stream.specs.Pieces.{base_of_pieces, Keeps}
+use Rattle.encoding_stream.specs.BufferDecoder.{base_of_pieces, Keeps}
 use Rattle.encoding_stream.specs.Reading.{AppendsPiece}
 use Rattle.encoding_stream.specs.declared.decoder.Decoder.{Decoder}
-use Rattle.encoding_stream.specs.declared.pieces.Kept.{Kept}
+use Rattle.encoding_stream.specs.declared.buffer_decoder.Kept.{Kept}
 use Rattle.encoding_stream.proofs.DecoderLemmas.{appended-after, piece-appended}
 use Rattle.encoding_stream.proofs.decoder.Decoder.push.Goals as goal
 
