@@ -7,8 +7,8 @@ from setuptools import Extension, setup
 from setuptools.command.build_ext import build_ext
 
 ARCHIVE = "libdata_encoding.a"
-# From Python 3.11 on the stable interface has what reads a buffer. A module that is built with an
-# older Python is for that one.
+# From Python 3.11 on the stable interface has the buffer protocol. A module that is built with an
+# older Python is for that version.
 STABLE = sys.version_info >= (3, 11)
 ABI = "cp311"
 

@@ -18,8 +18,8 @@ export const FIRST = Object.freeze({
 
 const RULES = ["order", "check", "concatenate"];
 
-/** What an address says: the name of an encoding, or the fields of the form; undefined if it says
- * neither. */
+/** Returns the name of an encoding or the fields of the form that an address has, or undefined if
+ * it has neither. */
 export function read(hash) {
   const words = hash.replace(/^#/, "");
   if (Encoding.names().includes(words)) {

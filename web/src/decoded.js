@@ -1,4 +1,4 @@
-// What a text means, or as much of it as comes before its fault.
+// The data of a text, up to its fault.
 
 import { DecodeError, Decoder } from "../../bindings/javascript/src/index.js";
 

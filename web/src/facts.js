@@ -1,4 +1,4 @@
-// What is said of the eighteen.
+// The facts of the eighteen.
 
 /** The groups, and the document that states each encoding. */
 export const GROUPS = [
@@ -46,15 +46,15 @@ export function ranges(symbols) {
 
 const yesOrNo = (holds) => (holds ? "yes" : "no");
 
-/** Whether texts without lines sort as their data do: the symbols ascend, padding comes before
- * each, and the most significant bit comes first. */
+/** Returns true if texts without lines sort as their data do: the symbols ascend, padding comes
+ * before each, and the most significant bit comes first. */
 function isOrdered({ symbols, padding, bitOrder }) {
   const row = [...(padding ?? ""), ...symbols];
   const ascends = row.every((it, at) => at === 0 || row[at - 1] < it);
   return ascends && bitOrder === "most-significant-first";
 }
 
-/** The facts of an encoding, as terms with what is said: a code where the last is true. */
+/** Returns the facts of an encoding as terms with texts. A text is code if the last is true. */
 export function factsOf(encoding) {
   const asked = encoding.specification();
   const { symbols, padding, ignore, wrap, translate } = asked;

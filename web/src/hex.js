@@ -2,7 +2,7 @@
 
 import { Encoding, HEXLOWER } from "../../bindings/javascript/src/index.js";
 
-/** What a field of hexadecimal digits is read by. */
+/** The encoding of a field of hexadecimal digits. */
 export const DIGITS = new Encoding({
   symbols: "0123456789abcdef",
   ignore: " \n\t\r",
@@ -11,7 +11,7 @@ export const DIGITS = new Encoding({
 
 const PAIR = /../g;
 
-/** The bytes in lines of so many pairs. */
+/** Returns the bytes in lines of `width` pairs. */
 export function linesOf(bytes, width) {
   const lines = [];
   for (let at = 0; at < bytes.length; at += width) {

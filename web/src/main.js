@@ -154,7 +154,7 @@ function take(other) {
   convert();
 }
 
-/** Shows the sides and the facts, or not if there is no encoding. */
+/** Shows the sides and the facts if there is an encoding. */
 function setUsable(isUsable) {
   find("#sides").inert = !isUsable;
   find("#facts").hidden = !isUsable;

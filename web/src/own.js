@@ -5,14 +5,14 @@ import { FIRST } from "./address.js";
 
 const ESCAPES = { n: "\n", r: "\r", t: "\t", "\\": "\\" };
 
-/** What a field means, in which `\n`, `\r`, `\t`, `\\` and `\x7f` are characters. */
+/** Returns the characters of a field, where `\n`, `\r`, `\t`, `\\` and `\x7f` are escapes. */
 export function unescaped(value) {
   return value.replace(/\\(?:x([0-9a-f]{2})|([nrt\\]))/gi, (whole, hex, letter) =>
     hex !== undefined ? String.fromCharCode(parseInt(hex, 16)) : (ESCAPES[letter] ?? whole),
   );
 }
 
-/** A field that has a fault of its own, before it is judged with the others. */
+/** A field with a fault of its own, before it is checked with the others. */
 class FieldError extends Error {
   constructor(field, message) {
     super(message);
@@ -63,7 +63,7 @@ const REFUSALS = {
   undefined: (character) => `${named(character)} has no meaning.`,
 };
 
-/** The encoding of the fields, or the field that has a fault, and what that is. */
+/** Returns the encoding of the fields, or the field with a fault, and the fault. */
 export function encodingOf(fields) {
   try {
     const specification = specificationOf(fields);

@@ -1,11 +1,11 @@
-// The shades of a field: a copy of its text lies below it, whose runs have a ground each.
+// The shades of a field: a copy of its text lies below it, and each run has a ground.
 
 import { meant } from "./words.js";
 
-/** Beyond so many runs the rest has no shade. */
+/** The most runs with a shade. */
 const MOST_RUNS = 5000;
 
-/** What the shades of an encoding's texts go by. */
+/** Returns the rules for the shades of an encoding's texts. */
 export function shadesOf({ ignore, padding, wrap }) {
   const ends = new Set(`\r\n${wrap?.separator ?? ""}`);
   const ignored = new Set(ignore);

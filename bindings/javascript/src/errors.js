@@ -1,4 +1,4 @@
-// What a text or a specification that is refused is reported by.
+// The errors of invalid texts and specifications.
 
 const FAULTS = {
   length: "invalid length",
@@ -11,9 +11,9 @@ const FAULTS = {
 export class DecodeError extends Error {
   /**
    * @param {"length" | "symbol" | "trailing" | "padding"} kind
-   * @param {number} position That of the faulty character, from 0; for an invalid length where no
-   *   character is ignored, the greatest valid length below it.
-   * @param {Uint8Array} data What the call decoded before the fault.
+   * @param {number} position The index of the invalid character. For an invalid length in an
+   *   encoding that ignores no character: the longest valid length below it.
+   * @param {Uint8Array} data The data that the call decoded before the fault.
    */
   constructor(kind, position, data = new Uint8Array()) {
     super(`${FAULTS[kind] ?? kind} at ${position}`);
@@ -49,13 +49,13 @@ const REFUSALS = {
   undefined: (character) => `${quoted(character)} is undefined`,
 };
 
-/** There is no encoding as it is asked for. */
+/** Thrown if a specification is invalid. */
 export class SpecificationError extends Error {
   /**
-   * @param {string} kind Why not, as `REFUSALS` names it.
-   * @param {string} field The field at which the specification is refused.
-   * @param {string | number} [detail] The character that a refusal names, or the number of which
-   *   the width of lines is no multiple.
+   * @param {string} kind The reason, as `REFUSALS` names it.
+   * @param {string} field The invalid field.
+   * @param {string | number} [detail] The character that is the cause, or the number that does not
+   *   divide the width of lines.
    */
   constructor(kind, field, detail) {
     super(REFUSALS[kind]?.(detail) ?? kind);

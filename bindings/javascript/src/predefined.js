@@ -1,5 +1,5 @@
-// The eighteen, in the order of their numbers. The calls of each are by its number; what is said
-// here is for its layout and its specification, and tests compare both.
+// The eighteen, in the order of their numbers. Each is called by its number. The fields here are
+// for its layout and its specification, and tests compare both.
 
 import { predefined } from "./encoding.js";
 
@@ -16,7 +16,7 @@ const SYMBOLS_CURVE = `${DIGITS}bcdfghjklmnpqrstuvwxyz`;
 const PADDING = "=";
 const LINES = { width: 76, separator: "\r\n" };
 
-/** What reads the letters of a text as those of the other case. */
+/** The translation of letters to the other case. */
 const readAs = (to, from) => ({ from, to });
 
 /** Hexadecimal with the letters a to f. */

@@ -29,7 +29,7 @@ const DEFAULTS = Object.freeze({
   concatenate: true,
 });
 
-/** The fields in the order in which they are judged. */
+/** The fields in the order of their checks. */
 const JUDGED = ["symbols", "padding", "ignore", "wrap", "translate"];
 
 const KINDS = {
@@ -128,7 +128,7 @@ function placed(texts) {
   });
 }
 
-/** The status of what is made of the parts, on the desk. */
+/** Makes an encoding of the parts on the desk, and returns the status. */
 function statusOf(parts) {
   machine.putNumber(FORM, parts.width);
   machine.put(FORM + 8, [
@@ -144,14 +144,14 @@ function statusOf(parts) {
 
 const tables = () => machine.copyOf(MADE + 16, TABLES_SIZE);
 
-/** What a refusal names: a character, or a number. */
+/** Returns the cause of a refusal: a character, or a number. */
 function detailOf(status) {
   const detail = machine.numberIn(MADE + 8);
   const namesCharacter = ["duplicate", "undefined"].includes(KINDS[status]);
   return namesCharacter ? String.fromCharCode(detail) : status === WRAP_WIDTH ? detail : undefined;
 }
 
-/** The field at which a specification is refused: the first with which it is. */
+/** Returns the first field that makes the specification invalid. */
 function refusedField(asked) {
   const given = { ...asked };
   const later = [...JUDGED];
@@ -184,8 +184,8 @@ export function keyOfLayout(layout) {
   return machine.smallNumberIn(MADE) === OK ? new Key(tables()) : undefined;
 }
 
-// A layout has 256 symbols, repeated; what each byte means; the padding; the bits of a
-// symbol and flags; and the lines.
+// A layout has 256 symbols, repeated, then the meaning of each byte, the padding, the bits of a
+// symbol with flags, and the lines.
 const MEANINGS = 256;
 const PADDING = 512;
 const FLAGS = 513;
@@ -198,7 +198,7 @@ const MOST_SIGNIFICANT = 8;
 const CHECKS = 16;
 const ONE_TEXT = 32;
 
-/** The bytes that are ignored, and those that mean what others do. */
+/** Returns the ignored bytes, and the bytes with the meaning of others. */
 function meaningsOf(layout, symbols, padding) {
   let ignore = "";
   let from = "";
@@ -233,7 +233,7 @@ export function specificationOf(layout) {
   };
 }
 
-/** Data may be cut at multiples of this many bytes. */
+/** Returns the length of a block: data may be cut at its multiples. */
 export function alignmentOf(layout) {
   const bits = layout[FLAGS] & BIT_WIDTH;
   const width = layout[LINES] ?? 0;

@@ -1,4 +1,4 @@
-// What the tests share.
+// Helpers of the tests.
 
 import * as library from "../src/index.js";
 

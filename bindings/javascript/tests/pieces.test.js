@@ -88,7 +88,7 @@ test("data in pieces", () => {
   assert.throws(() => new Encoder(BASE64).push("text"), TypeError);
 });
 
-/** What comes out of the stream, if these go in. */
+/** Returns the output of the stream for these pieces. */
 async function through(stream, pieces) {
   const found = [];
   for await (const piece of ReadableStream.from(pieces).pipeThrough(stream)) {

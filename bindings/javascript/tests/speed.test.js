@@ -26,8 +26,8 @@ function timeOf(call) {
 
 const medianOf = (times) => times.sort((one, other) => one - other)[times.length >> 1];
 
-/** The median time of a call, divided by that of the other. They take turns, so that both meet what
- * else there is to do. */
+/** Returns the median time of a call, divided by the other's. The calls alternate, so that other
+ * processes slow both down. */
 function ratioOf(call, other) {
   const times = Array.from({ length: ROUNDS }, () => [timeOf(call), timeOf(other)]);
   return medianOf(times.map(([here]) => here)) / medianOf(times.map(([, there]) => there));

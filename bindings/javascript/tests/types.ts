@@ -1,4 +1,4 @@
-// What the declarations say, for a compiler: nothing of this is run.
+// Uses of the declarations, for a compiler: nothing of this is run.
 
 import {
   BASE64,
@@ -31,7 +31,7 @@ const bytes: Uint8Array = new Decoder(octal).push(piece);
 const texts: ReadableStream<string> = new EncoderStream(octal).readable;
 const parts: ReadableStream<Uint8Array> = texts.pipeThrough(new DecoderStream(octal));
 
-// @ts-expect-error: a text is no data.
+// @ts-expect-error: a text is not data.
 BASE64.encode("text");
 // @ts-expect-error: there are no such fields.
 new Encoding({ symbols: "01", ingore: " " });

@@ -12,7 +12,7 @@ from data_encoding import BASE64, HEXLOWER, Encoding
 
 SIZES = (16, 64, 1024, 65536, 1 << 20, 1 << 22)
 
-# What is compared: here, and there.
+# The calls that are compared.
 PAIRS = (
     ("BASE64.encode(data)", "base64.b64encode(data)"),
     ("BASE64.decode(text)", "base64.b64decode(text)"),

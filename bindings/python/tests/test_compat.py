@@ -18,7 +18,7 @@ from typing import Any, Callable, Dict, List, Tuple
 
 from data_encoding import DecodeError, compat
 
-# Tests of what compat has not: encodings of 85 symbols, and the calls over files and lines.
+# Tests of calls that compat lacks: encodings of 85 symbols, and the calls over files and lines.
 OTHERS = ("85", "LegacyBase64TestCase", "TestMain")
 
 # The tests that fail, and why.

@@ -1,7 +1,7 @@
 //! Times of calls in nanoseconds: of the library for C, of this crate, and of the original.
 //!
 //! The calls of a row are made in turns, each for some microseconds. Of a call's times, the second
-//! percentile is taken: what it takes when nothing else runs on the core.
+//! percentile is taken: the time when nothing else runs on the core.
 
 use std::hint::black_box;
 use std::time::Instant;

@@ -198,7 +198,7 @@ pub(crate) fn encode<'a>(encoding: Handle<'_>, input: &[u8], output: &'a mut [u8
 #[cfg(feature = "alloc")]
 #[inline]
 pub(crate) fn encode_append(encoding: Handle<'_>, input: &[u8], len: usize, output: &mut String) {
-    // SAFETY: What is appended is ASCII, as in `encode`.
+    // SAFETY: The appended bytes are ASCII, as in `encode`.
     let output = unsafe { output.as_mut_vec() };
     output.reserve(len);
     let room = output.spare_capacity_mut();
@@ -209,8 +209,8 @@ pub(crate) fn encode_append(encoding: Handle<'_>, input: &[u8], len: usize, outp
     }
 }
 
-/// Writes the text of the data to the start of the output, and returns its length: that many bytes
-/// of the output are then initialized.
+/// Writes the text of the data to the start of the output, and returns its length. These bytes of
+/// the output are then initialized.
 ///
 /// # Safety
 ///
@@ -399,7 +399,7 @@ pub(crate) fn build(specification: &Specification) -> Result<Tables, Specificati
     }
 }
 
-/// Why there is no encoding, of a status and the byte or number that it is about.
+/// Returns the reason of a refusal, by a status and the byte or number that is the cause.
 #[cfg(feature = "alloc")]
 fn refusal(status: u32, detail: u8) -> Refusal {
     match status {

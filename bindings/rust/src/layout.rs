@@ -3,7 +3,7 @@
 //! | Bytes | Hold |
 //! |---|---|
 //! | 0 to 255 | the symbols in order of value, repeated |
-//! | 256 to 511 | what each byte means: the value of a symbol, or one of the constants below |
+//! | 256 to 511 | the meaning of each byte: the value of a symbol, or one of the constants below |
 //! | 512 | the padding character, or `INVALID` |
 //! | 513 | the bits of a symbol, and flags |
 //! | from 514 | the characters of a line, and its separator; one 0 if there are no lines, but a byte is ignored |
@@ -73,8 +73,8 @@ impl<'a> Layout<'a> {
     }
 }
 
-/// How many bytes a text means at most: with padding, those of its whole groups, and without, those
-/// of its bits.
+/// Returns the most bytes that a text means: with padding the bytes of its whole groups, and
+/// without padding the bytes of its bits.
 #[derive(Clone, Copy)]
 pub(crate) struct Due {
     /// A group has two to the power of this symbols; 0 where symbols are counted.
@@ -113,13 +113,13 @@ impl<'a> Layout<'a> {
     }
 }
 
-/// What the layout of a predefined encoding is made of.
+/// The parts of the layout of a predefined encoding.
 pub(crate) struct Form {
     pub(crate) symbols: &'static [u8],
     pub(crate) padding: Option<u8>,
     /// The characters of a line, and its separator.
     pub(crate) lines: Option<(u8, &'static [u8])>,
-    /// The bytes of the first mean what the symbols of the second at the same position mean.
+    /// Each byte of the first has the meaning of the symbol of the second at its position.
     pub(crate) translate: (&'static [u8], &'static [u8]),
     pub(crate) most_significant_first: bool,
     pub(crate) check_trailing_bits: bool,
@@ -164,7 +164,7 @@ impl Form {
         layout
     }
 
-    /// A layout with the symbols, in which any other byte means nothing.
+    /// Returns a layout with the symbols. Any other byte is invalid.
     const fn symbols_and_meanings<const LEN: usize>(&self) -> [u8; LEN] {
         let mut layout = [INVALID; LEN];
         let mut index = 0;

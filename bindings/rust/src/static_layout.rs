@@ -1,5 +1,5 @@
-//! Encodings whose layouts are in the program: a constant is such a layout, which is judged when
-//! the program runs.
+//! Encodings with layouts in the program: a constant is such a layout, which is checked when the
+//! program runs.
 
 use crate::ffi::{self, Tables};
 
@@ -7,7 +7,7 @@ use crate::ffi::{self, Tables};
 ///
 /// # Panics
 ///
-/// Panics if the bytes are no layout.
+/// Panics if the bytes are not a layout.
 #[cold]
 pub(crate) fn read(layout: &[u8]) -> Tables {
     ffi::read(layout).expect("the bytes are no layout of an encoding")
@@ -22,8 +22,8 @@ pub(crate) fn kept(_: &'static [u8]) -> Option<&'static Tables> {
 #[cfg(feature = "std")]
 pub(crate) use kept::kept;
 
-/// What was read is kept for as long as the program runs. A constant is a value of its own in each
-/// use, so that nothing can be kept in it: it is found by the address of its layout.
+/// Each encoding is kept as long as the program runs, and is found by the address of its layout. A
+/// constant can't keep it, since each use of a constant is a value of its own.
 #[cfg(feature = "std")]
 mod kept {
     use std::boxed::Box;
@@ -41,12 +41,12 @@ mod kept {
         tables: Tables,
     }
 
-    /// Returns the encoding of the layout, which is read if it was not before; or nothing if other
+    /// Returns the encoding of the layout, which is read at the first call. Returns `None` if other
     /// layouts have all the places.
     ///
     /// # Panics
     ///
-    /// Panics if the bytes are no layout.
+    /// Panics if the bytes are not a layout.
     pub(crate) fn kept(layout: &'static [u8]) -> Option<&'static Tables> {
         let first = first_place(layout);
         KEPT[first..]

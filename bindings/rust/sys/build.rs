@@ -1,8 +1,8 @@
-//! Links the library for C: that of lib/TARGET, which a release has, or the one in the folder that
+//! Links the library for C: the one in lib/TARGET, which a release has, or in the folder that
 //! `DATA_ENCODING_DIR` names.
 //!
-//! Where there is none, `cargo check` and `cargo doc` need none, and what is built refers to a
-//! library whose name says the target that it lacks, so that only linking fails.
+//! Without one, `cargo check` and `cargo doc` work. A build then refers to a library with the name
+//! of the missing target, so that only linking fails.
 
 use std::path::{Path, PathBuf};
 use std::{env, fs, process};

@@ -61,7 +61,7 @@ fn concatenated() {
     assert_eq!(BASE64_MIME.decode(b"Zm\r\n9v\r\n"), Ok(b"foo".to_vec()));
 }
 
-/// What was read before a fault means what was written.
+/// The text that was read before a fault means the bytes that were written.
 #[test]
 fn written() {
     let mut output = [0xff; 6];

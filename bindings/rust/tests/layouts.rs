@@ -1,4 +1,4 @@
-//! Encodings whose layouts are in the program, as `data-encoding-macro` writes them.
+//! Encodings with layouts in the program, as `data-encoding-macro` writes them.
 #![cfg(feature = "alloc")]
 
 use std::panic::catch_unwind;
@@ -67,7 +67,7 @@ fn many() {
     check();
 }
 
-/// Bytes that are no layout make an encoding, whose calls panic.
+/// Bytes that are not a layout make an encoding that panics at each call.
 #[test]
 fn no_layouts() {
     let mut swapped = BASE64.internal_implementation().to_vec();

@@ -27,7 +27,7 @@ de_status de_numbered_is_canonical(de_number number, bool *canonical);
 de_status de_numbered_name(de_number number, byte *output, size_t output_len, size_t *written);
 de_status de_named_number(const byte *name, size_t name_len, de_number *number);
 
-/* What the library returns for an encoding that is asked for. */
+/* The result of a call that makes an encoding. */
 struct made {
     de_status status;
     size_t detail;
@@ -91,15 +91,15 @@ de_status de_custom_encoder_finish(const byte *held, const de_encoder *encoder, 
 #include "bytes.h"
 #undef CALL
 
-/* Whether they run on this processor, and DE_CPU does not ask for the others. */
+/* True if they run on this processor, and DE_CPU does not ask for the others. */
 static bool is_wide;
 
-/* From this many bytes on they take less time. */
+/* The least length in bytes from which they take less time. */
 enum { WIDE_FROM = 64 };
 
 #define BY_PROCESSOR(name, len) (is_wide && (len) >= WIDE_FROM ? de_wide_##name : de_##name)
 
-/* Whether the processor has the features of x86-64-v3, and the system saves the wide registers. */
+/* Returns true if the processor has x86-64-v3, and the system saves the wide registers. */
 static bool has_wide(void) {
     unsigned a, b, c = 0, d, more = 0;
     __builtin_cpu_init();
@@ -220,7 +220,7 @@ de_status de_decode(de_number number, const char *input, size_t input_len, void 
     return BY_PROCESSOR(numbered_decode, input_len)(number, from, input_len, to, output_len, decoded);
 }
 
-/* What a caller's bool has before the call may be no bool: the answer is taken in one that is. */
+/* A caller's bool may be invalid before the call: the answer is written to another one first. */
 de_status de_is_canonical(de_number number, bool *canonical) {
     bool answer = false;
     de_status status;

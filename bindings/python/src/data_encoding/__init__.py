@@ -422,8 +422,8 @@ class Encoding(_native.Calls):
 
 Encoding._adopt()
 
-# The fields of a layout: 256 symbols, repeated; what each byte means; the padding; the bits
-# of a symbol and flags; and the lines.
+# A layout has 256 symbols, repeated, then the meaning of each byte, the padding, the bits of a
+# symbol with flags, and the lines.
 _MEANINGS = 256
 _PADDING = 512
 _FLAGS = 513

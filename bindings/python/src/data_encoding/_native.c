@@ -3,7 +3,7 @@
  * Only `decode_unpadded` decides anything about a text: its padding. An object of Python is made an
  * array, a call of the library is made, and its output is made an object. With Py_LIMITED_API,
  * which setup.py defines from Python 3.11 on, the interface is the stable one, so that one build
- * serves what comes after.
+ * serves all later versions.
  */
 #define PY_SSIZE_T_CLEAN
 #include <Python.h>
@@ -14,7 +14,7 @@
 #include <stdio.h>
 #include <string.h>
 
-/* What is written up to this length is written on the stack first. */
+/* Output up to this length is written on the stack first. */
 #define SMALL 512
 
 /* At most this far from the front of a str are its characters, if it has them itself. The tests
@@ -23,7 +23,7 @@
 #define HEADER_LIMIT 128
 #endif
 
-/* From this length on other threads run during a call, if nothing can change what it reads. */
+/* From this length on other threads run during a call, if nothing can change its input. */
 #define THREADED 8192
 
 /* A predefined encoding by its number, with its tables for its layout; or one by its tables. */
@@ -62,7 +62,7 @@ static de_status text_of_piece(const encoding *it, const de_encoder *encoder, si
                              : de_encoding_encoder_most(&it->tables, encoder, len, result);
 }
 
-/* Bytes that are read: those of an object, or of a copy of what it has. */
+/* The bytes of an object, or of a copy. */
 struct input {
     const char *start;
     size_t len;
@@ -112,7 +112,7 @@ static bool take_data(struct input *input, PyObject *object) {
     return take_copy(input, PyBytes_FromObject(object));
 }
 
-/* A byte for each character: a character that is not ASCII is no symbol, and has one position. */
+/* Returns a byte for each character: one that is not ASCII is invalid, and has one position. */
 static PyObject *bytes_of_characters(PyObject *text) {
     Py_ssize_t len = PyUnicode_GetLength(text);
     PyObject *bytes = PyBytes_FromStringAndSize(NULL, len);
@@ -129,7 +129,7 @@ static PyObject *bytes_of_characters(PyObject *text) {
     return bytes;
 }
 
-/* Takes a string, or what `take_data` takes. */
+/* Takes a string, or an object that `take_data` takes. */
 static bool take_text(struct input *input, PyObject *object) {
     Py_ssize_t len = 0;
     if (!PyUnicode_Check(object)) {
@@ -252,8 +252,8 @@ struct text {
     bool is_copied;
 };
 
-/* A str whose characters are still to be written, or NULL. What made it refers to it alone, and len
- * is above 2: no other str is changed by that. */
+/* Returns a str with unwritten characters, or NULL. The caller has the only reference, and len is
+ * above 2: so no other str is changed. */
 static PyObject *unwritten_text(size_t len, char **output) {
     Py_ssize_t size;
     const char *start;
@@ -403,7 +403,7 @@ static bool take_output(Py_buffer *output, const char *call, PyObject *const *ar
     return false;
 }
 
-/* Raises a ValueError if the call would read what it writes. */
+/* Raises a ValueError if the input and the output overlap. */
 static bool overlap(const struct input *input, const Py_buffer *output, const char *what) {
     uintptr_t from = (uintptr_t)input->start;
     uintptr_t to = (uintptr_t)output->buf;
@@ -444,8 +444,8 @@ static PyObject *encode_into(PyObject *self, PyObject *const *arguments, Py_ssiz
     return len;
 }
 
-/* The bytes object, made as long as what was written; or another of the front of it, where more
- * than an eighth of its memory would be unused. */
+/* Cuts the bytes object to the written length. Returns a copy instead, if more than an eighth of
+ * its memory would be unused. */
 static PyObject *shortened(PyObject *bytes, size_t room, size_t written) {
     char *start = PyBytes_AsString(bytes);
     PyObject *front;
@@ -601,7 +601,7 @@ static PyObject *decode_into(PyObject *self, PyObject *const *arguments, Py_ssiz
     return len;
 }
 
-/* Takes a length, which is no less than 0. */
+/* Takes a length of at least 0. */
 static bool take_len(PyObject *object, size_t *len) {
     Py_ssize_t given = PyNumber_AsSsize_t(object, NULL);
     if (given == -1 && PyErr_Occurred()) {
@@ -666,7 +666,7 @@ static PyObject *layout(PyObject *self, PyObject *unused) {
                            : refused(status);
 }
 
-/* What a decoder keeps is a bytes object, as long as a de_decoder. */
+/* The state of a decoder is a bytes object, as long as a de_decoder. */
 
 static PyObject *bytes_of_decoder(const de_decoder *decoder) {
     return PyBytes_FromStringAndSize((const char *)decoder, sizeof *decoder);
@@ -690,7 +690,7 @@ static PyObject *new_decoder(PyObject *module, PyObject *unused) {
     return bytes_of_decoder(&decoder);
 }
 
-/* The characters that are held: those of an unfinished group. Refuses what the library refuses. */
+/* Returns the held characters of an unfinished group. Refuses a state that the library refuses. */
 static PyObject *decoder_held(PyObject *self, PyObject *kept) {
     de_decoder decoder;
     size_t most;
@@ -705,7 +705,7 @@ static PyObject *decoder_held(PyObject *self, PyObject *kept) {
     return PyBytes_FromStringAndSize((const char *)decoder.bytes, (Py_ssize_t)decoder.count);
 }
 
-/* The data of the groups that the piece completes, and what is kept then. */
+/* Returns the data of the groups that the piece completes, and the new state. */
 static PyObject *read_piece(const encoding *it, de_decoder *decoder, const struct input *input) {
     size_t most;
     size_t written = 0;
@@ -763,7 +763,7 @@ static PyObject *decoder_finish(PyObject *self, PyObject *kept) {
                          (Py_ssize_t)decoded.position);
 }
 
-/* What an encoder keeps is a bytes object: those of an unfinished block. */
+/* The state of an encoder is a bytes object: the bytes of an unfinished block. */
 
 static bool take_encoder(de_encoder *encoder, PyObject *held) {
     Py_ssize_t count = PyBytes_Check(held) ? PyBytes_Size(held) : -1;
@@ -807,7 +807,7 @@ static PyObject *read_data(const encoding *it, de_encoder *encoder, const struct
                                         (Py_ssize_t)encoder->count);
 }
 
-/* Refuses what the library refuses. */
+/* Refuses a state that the library refuses. */
 static PyObject *encoder_read(PyObject *self, PyObject *arguments) {
     struct input input;
     de_encoder encoder;
@@ -857,7 +857,7 @@ static void quote(char quoted[QUOTED], unsigned char character) {
     }
 }
 
-/* Raises why there is no such encoding. */
+/* Raises the error of an invalid specification. */
 static PyObject *refused_specification(de_status status, size_t detail) {
     char name[QUOTED];
     quote(name, (unsigned char)detail);
@@ -1013,7 +1013,7 @@ static PyType_Slot encoding_slots[] = {
     {0, NULL},
 };
 
-/* Before Python 3.10 `add_calls` does what this flag does. */
+/* Before Python 3.10 `add_calls` has the effect of this flag. */
 #ifndef Py_TPFLAGS_DISALLOW_INSTANTIATION
 #define Py_TPFLAGS_DISALLOW_INSTANTIATION 0
 #define REMOVES_NEW
@@ -1072,7 +1072,7 @@ static struct PyModuleDef definition_before_3_12 = {
     NULL, NULL,
 };
 
-/* The version of the Python that runs, which may be newer than that of its header. */
+/* Returns the version of the running Python, which may be newer than its header. */
 static unsigned long running_version(void) {
 #if PY_VERSION_HEX >= 0x030B0000
     return Py_Version;
