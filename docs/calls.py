@@ -15,6 +15,9 @@ PASSED_ON = {"data_encoding": ("data_encoding_meaning", "data_encoding_kernel")}
 # The callers of this crate are examples, whose contracts are read with their code.
 EXAMPLES = {"conformance"}
 
+# Only exports call the functions of this crate, and have its definitions in their clauses.
+BELOW_EXPORTS = {"data_encoding_calls"}
+
 # The functions of these modules have one entry, except those of the modules of APART.
 TOGETHER = {("specification", "predefined"): "The predefined encodings"}
 APART = {("specification", "predefined", "named")}
@@ -207,6 +210,8 @@ def of_file(path, module, names, modules):
             calls += of_impl(lines, at, names)
         elif line.startswith("pub trait "):
             calls += of_trait(lines, at, names)
+        elif line.startswith('pub extern "C" fn '):
+            calls.append(Call(f"`{name_of(line)}`", summary(lines, at), header(lines, at)))
         elif line.startswith("pub fn ") and (module in modules or name_of(line) in names):
             prefix = f"{module}::" if module in modules else ""
             calls.append(Call(f"`{prefix}{name_of(line)}`", summary(lines, at), header(lines, at)))
@@ -266,7 +271,7 @@ def all_calls():
     """The public calls of each crate that has some, by its name, in the order of crates.txt."""
     lines = (TOP / "crates.txt").read_text().split("\n")
     crates = [line.split(":")[0].split(" ")[0].strip() for line in lines]
-    left_out = EXAMPLES.union(*PASSED_ON.values())
+    left_out = EXAMPLES.union(BELOW_EXPORTS, *PASSED_ON.values())
     found = {crate: of_crate(TOP / "crates" / crate)
              for crate in crates if crate and not crate.startswith("#") and crate not in left_out}
     return {crate: calls for crate, calls in found.items() if calls}

@@ -31,7 +31,7 @@ TWINS = (("`EncodingRef::", "`Encoding::"), ("_by_ref`", "`"))
 
 def page_of(crate, call):
     """The name of the page that has a call."""
-    if crate == "data_encoding_calls":
+    if crate == "data_encoding_c":
         return "CONTRACTS_CALLS.md"
     return "CONTRACTS_STEPS.md" if call.group == "laws::steps" else "CONTRACTS.md"
 

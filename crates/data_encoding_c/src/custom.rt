@@ -1,18 +1,21 @@
-//! Calls with an encoding of the caller, as plain data.
+//! Calls with an encoding of the caller, as plain data. A call neither builds nor copies its
+//! tables.
 
 ghost use Rattle.data_encoding.specs.Fields.{base_of};
 ghost use Rattle.data_encoding.specs.Plain.{base_of_plain};
 ghost use Rattle.data_encoding_calls.specs.Custom.{Makes, MakesOfLayout, fields_asked};
-ghost use Rattle.data_encoding_calls.specs.Calls.{Decodes, Encodes, TellsCanonical, TellsMost, TellsTextLength, WritesFront};
+ghost use Rattle.data_encoding_calls.specs.Calls.{Decodes, Encodes, TellsIfCanonical, TellsMost, TellsTextLength, WritesFront};
 ghost use Rattle.data_encoding.specs.Layout.{layout};
 
 use data_encoding::PlainEncoding;
 use data_encoding_calls::{
-    Decoded, Form, Made, custom_decode, custom_decode_len, custom_encode, custom_encode_len,
-    custom_is_canonical, custom_layout, custom_new, custom_read,
+    Decoded, Form, Made, custom_layout, custom_new, custom_read, decode, decode_len, encode,
+    encode_len, is_canonical,
 };
 
-/// Exports [`custom_new`].
+/// Returns the encoding that the specification describes, or the first reason to refuse it.
+///
+/// The specification is `form` and the texts `symbols`, `ignore`, `separator`, `from` and `to`.
 #[unsafe(no_mangle)]
 pub extern "C" fn de_custom_new(
     form: &Form,
@@ -28,7 +31,7 @@ pub extern "C" fn de_custom_new(
     custom_new(form, symbols, ignore, separator, from, to)
 }
 
-/// Exports [`custom_encode_len`].
+/// Like `de_numbered_encode_len`, for an encoding of the caller.
 #[unsafe(no_mangle)]
 pub extern "C" fn de_custom_encode_len(
     held: &PlainEncoding,
@@ -37,10 +40,10 @@ pub extern "C" fn de_custom_encode_len(
 ) -> u32
     ensures { TellsTextLength (base_of_plain held.now) len text_len.old text_len.new result }
 {
-    custom_encode_len(held, len, text_len)
+    encode_len(&held.by_ref(), len, text_len)
 }
 
-/// Exports [`custom_encode`].
+/// Like `de_numbered_encode`, for an encoding of the caller.
 #[unsafe(no_mangle)]
 pub extern "C" fn de_custom_encode(
     held: &PlainEncoding,
@@ -51,18 +54,18 @@ pub extern "C" fn de_custom_encode(
     ensures { Encodes (base_of_plain held.now) input.now output.old output.new written.old
         written.new result }
 {
-    custom_encode(held, input, output, written)
+    encode(&held.by_ref(), input, output, written)
 }
 
-/// Exports [`custom_decode_len`].
+/// Like `de_numbered_decode_len`, for an encoding of the caller.
 #[unsafe(no_mangle)]
 pub extern "C" fn de_custom_decode_len(held: &PlainEncoding, len: usize, most: &mut usize) -> u32
     ensures { TellsMost (base_of_plain held.now) len most.old most.new result }
 {
-    custom_decode_len(held, len, most)
+    decode_len(&held.by_ref(), len, most)
 }
 
-/// Exports [`custom_decode`].
+/// Like `de_numbered_decode`, for an encoding of the caller.
 #[unsafe(no_mangle)]
 pub extern "C" fn de_custom_decode(
     held: &PlainEncoding,
@@ -73,18 +76,21 @@ pub extern "C" fn de_custom_decode(
     ensures { Decodes (base_of_plain held.now) input.now output.old output.new decoded.old
         decoded.new result }
 {
-    custom_decode(held, input, output, decoded)
+    decode(&held.by_ref(), input, output, decoded)
 }
 
-/// Exports [`custom_is_canonical`].
+/// Like `de_numbered_is_canonical`, for an encoding of the caller.
 #[unsafe(no_mangle)]
 pub extern "C" fn de_custom_is_canonical(held: &PlainEncoding, answer: &mut bool) -> u32
-    ensures { TellsCanonical (base_of_plain held.now) answer.new result }
+    ensures { TellsIfCanonical (base_of_plain held.now) answer.new result }
 {
-    custom_is_canonical(held, answer)
+    is_canonical(&held.by_ref(), answer)
 }
 
-/// Exports [`custom_layout`].
+/// Writes the layout of the encoding to the start of `output`, and its length, at most 770, to
+/// `written`.
+///
+/// If `output` is too short, `output` and `written` are unchanged.
 #[unsafe(no_mangle)]
 pub extern "C" fn de_custom_layout(
     held: &PlainEncoding,
@@ -97,7 +103,7 @@ pub extern "C" fn de_custom_layout(
     custom_layout(held, output, written)
 }
 
-/// Exports [`custom_read`].
+/// Returns the encoding with the layout `bytes`, or a status if there is none.
 #[unsafe(no_mangle)]
 pub extern "C" fn de_custom_read(bytes: &[u8]) -> Made
     ensures { MakesOfLayout bytes.now result }

@@ -6,24 +6,26 @@ ghost use Rattle.data_encoding.specs.Base.{Base};
 ghost use Rattle.data_encoding.specs.Fields.{IsSpecified};
 ghost use Rattle.data_encoding.specs.Plain.{base_of_plain};
 ghost use Rattle.data_encoding_calls.specs.Calls.{ByNumber};
-ghost use Rattle.data_encoding_calls.specs.Pieces.{EndsText, HasConsumed, TellsRoom};
-ghost use Rattle.data_encoding_calls.specs.Numbered.{EndsTextByNumber, ReadsPieceByCustom, ReadsPieceByNumber};
+ghost use Rattle.data_encoding_calls.specs.DecoderState.{FinishesText, TellsRoom, WasGiven};
+ghost use Rattle.data_encoding_calls.specs.Numbered.{FinishesTextByNumber, ReadsPieceByCustom, ReadsPieceByNumber};
 
-use data_encoding::PlainEncoding;
+use data_encoding::{PlainEncoding, predefined_numbered};
 use data_encoding_calls::{
-    Decoded, PlainKept, custom_decoder_finish, custom_decoder_most, custom_decoder_read,
-    numbered_decoder_finish, numbered_decoder_most, numbered_decoder_read, plain_decoder_new,
+    Decoded, PlainKept, UNKNOWN_ENCODING, decoder_finish, decoder_most, decoder_read,
+    plain_decoder_new,
 };
 
-/// Exports [`plain_decoder_new`].
+/// Sets `decoder` to the state after the empty text, for every encoding.
 #[unsafe(no_mangle)]
 pub extern "C" fn de_plain_decoder_new(decoder: &mut PlainKept)
-    ensures { (base : Base) → IsSpecified base → HasConsumed base decoder.new [] }
+    ensures { (base : Base) → IsSpecified base → WasGiven base decoder.new [] }
 {
     plain_decoder_new(decoder);
 }
 
-/// Exports [`numbered_decoder_most`].
+/// Writes the greatest number of bytes that `len` more bytes of the text may complete to `most`.
+///
+/// If the status is not 0, `most` is unchanged.
 #[unsafe(no_mangle)]
 pub extern "C" fn de_numbered_decoder_most(
     number: u32,
@@ -34,10 +36,16 @@ pub extern "C" fn de_numbered_decoder_most(
     ensures { ByNumber number result (most.new ≡ most.old)
         (λ base. TellsRoom base decoder.now len most.old most.new result) }
 {
-    numbered_decoder_most(number, decoder, len, most)
+    let Some(encoding) = predefined_numbered(number) else {
+        return UNKNOWN_ENCODING;
+    };
+    decoder_most(&encoding, decoder, len, most)
 }
 
-/// Exports [`numbered_decoder_read`].
+/// Decodes `piece`: writes the bytes of the groups that it completes to the start of `output`, and
+/// their number to `written`.
+///
+/// If the status is not 0, `decoder`, `output` and `written` are unchanged.
 #[unsafe(no_mangle)]
 pub extern "C" fn de_numbered_decoder_read(
     number: u32,
@@ -49,10 +57,18 @@ pub extern "C" fn de_numbered_decoder_read(
     ensures { ReadsPieceByNumber number piece.now decoder.old decoder.new output.old output.new
         written.old written.new result }
 {
-    numbered_decoder_read(number, decoder, piece, output, written)
+    let Some(encoding) = predefined_numbered(number) else {
+        return UNKNOWN_ENCODING;
+    };
+    decoder_read(&encoding, decoder, piece, output, written)
 }
 
-/// Exports [`numbered_decoder_finish`].
+/// Ends the text: writes the bytes of its last group to the start of `output`, and returns the
+/// status of the whole text.
+///
+/// `decoded` gets the length of the text, the number of bytes written, and the position of the
+/// fault. If `number` is unknown, `decoder` is not a state of a decoder, or `output` is too short,
+/// `output` and `decoded` are unchanged.
 #[unsafe(no_mangle)]
 pub extern "C" fn de_numbered_decoder_finish(
     number: u32,
@@ -60,13 +76,16 @@ pub extern "C" fn de_numbered_decoder_finish(
     output: &mut [u8],
     decoded: &mut Decoded,
 ) -> u32
-    ensures { EndsTextByNumber number decoder.now output.old output.new decoded.old decoded.new
+    ensures { FinishesTextByNumber number decoder.now output.old output.new decoded.old decoded.new
         result }
 {
-    numbered_decoder_finish(number, decoder, output, decoded)
+    let Some(encoding) = predefined_numbered(number) else {
+        return UNKNOWN_ENCODING;
+    };
+    decoder_finish(&encoding, decoder, output, decoded)
 }
 
-/// Exports [`custom_decoder_most`].
+/// Like `de_numbered_decoder_most`, for an encoding of the caller.
 #[unsafe(no_mangle)]
 pub extern "C" fn de_custom_decoder_most(
     held: &PlainEncoding,
@@ -76,10 +95,10 @@ pub extern "C" fn de_custom_decoder_most(
 ) -> u32
     ensures { TellsRoom (base_of_plain held.now) decoder.now len most.old most.new result }
 {
-    custom_decoder_most(held, decoder, len, most)
+    decoder_most(&held.by_ref(), decoder, len, most)
 }
 
-/// Exports [`custom_decoder_read`].
+/// Like `de_numbered_decoder_read`, for an encoding of the caller.
 #[unsafe(no_mangle)]
 pub extern "C" fn de_custom_decoder_read(
     held: &PlainEncoding,
@@ -91,10 +110,10 @@ pub extern "C" fn de_custom_decoder_read(
     ensures { ReadsPieceByCustom held.now piece.now decoder.old decoder.new output.old output.new
         written.old written.new result }
 {
-    custom_decoder_read(held, decoder, piece, output, written)
+    decoder_read(&held.by_ref(), decoder, piece, output, written)
 }
 
-/// Exports [`custom_decoder_finish`].
+/// Like `de_numbered_decoder_finish`, for an encoding of the caller.
 #[unsafe(no_mangle)]
 pub extern "C" fn de_custom_decoder_finish(
     held: &PlainEncoding,
@@ -102,8 +121,8 @@ pub extern "C" fn de_custom_decoder_finish(
     output: &mut [u8],
     decoded: &mut Decoded,
 ) -> u32
-    ensures { EndsText (base_of_plain held.now) decoder.now output.old output.new decoded.old
+    ensures { FinishesText (base_of_plain held.now) decoder.now output.old output.new decoded.old
         decoded.new result }
 {
-    custom_decoder_finish(held, decoder, output, decoded)
+    decoder_finish(&held.by_ref(), decoder, output, decoded)
 }

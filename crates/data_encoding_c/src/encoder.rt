@@ -6,18 +6,17 @@ ghost use Rattle.data_encoding.specs.Base.{Base};
 ghost use Rattle.data_encoding.specs.Fields.{IsSpecified};
 ghost use Rattle.data_encoding.specs.Plain.{base_of_plain};
 ghost use Rattle.encoding_stream.specs.BufferEncoder.{HasWritten};
-ghost use Rattle.data_encoding_calls.specs.Blocks.{EndsData, TellsDue};
+ghost use Rattle.data_encoding_calls.specs.EncoderState.{FinishesData, TellsDue};
 ghost use Rattle.data_encoding_calls.specs.Calls.{ByNumber};
-ghost use Rattle.data_encoding_calls.specs.Numbered.{EncodesPieceByCustom, EncodesPieceByNumber, EndsDataByNumber};
+ghost use Rattle.data_encoding_calls.specs.Numbered.{EncodesPieceByCustom, EncodesPieceByNumber, FinishesDataByNumber};
 
-use data_encoding::PlainEncoding;
+use data_encoding::{PlainEncoding, predefined_numbered};
 use data_encoding_calls::{
-    custom_encoder_finish, custom_encoder_most, custom_encoder_read, numbered_encoder_finish,
-    numbered_encoder_most, numbered_encoder_read, plain_encoder_new,
+    UNKNOWN_ENCODING, encoder_finish, encoder_most, encoder_read, plain_encoder_new,
 };
 use encoding_stream::KeptData;
 
-/// Exports [`plain_encoder_new`].
+/// Sets `encoder` to the state after no data, for every encoding.
 #[unsafe(no_mangle)]
 pub extern "C" fn de_plain_encoder_new(encoder: &mut KeptData)
     ensures { (base : Base) → IsSpecified base → HasWritten base encoder.new [] [] }
@@ -25,7 +24,9 @@ pub extern "C" fn de_plain_encoder_new(encoder: &mut KeptData)
     plain_encoder_new(encoder);
 }
 
-/// Exports [`numbered_encoder_most`].
+/// Writes the length of the text that `len` more bytes of data complete to `most`.
+///
+/// If the status is not 0, `most` is unchanged.
 #[unsafe(no_mangle)]
 pub extern "C" fn de_numbered_encoder_most(
     number: u32,
@@ -36,10 +37,16 @@ pub extern "C" fn de_numbered_encoder_most(
     ensures { ByNumber number result (most.new ≡ most.old)
         (λ base. TellsDue base encoder.now len most.old most.new result) }
 {
-    numbered_encoder_most(number, encoder, len, most)
+    let Some(encoding) = predefined_numbered(number) else {
+        return UNKNOWN_ENCODING;
+    };
+    encoder_most(&encoding, encoder, len, most)
 }
 
-/// Exports [`numbered_encoder_read`].
+/// Encodes `piece`: writes the text of the blocks that it completes to the start of `output`, and
+/// the length of that text to `written`.
+///
+/// If the status is not 0, `encoder`, `output` and `written` are unchanged.
 #[unsafe(no_mangle)]
 pub extern "C" fn de_numbered_encoder_read(
     number: u32,
@@ -51,10 +58,16 @@ pub extern "C" fn de_numbered_encoder_read(
     ensures { EncodesPieceByNumber number piece.now encoder.old encoder.new output.old output.new
         written.old written.new result }
 {
-    numbered_encoder_read(number, encoder, piece, output, written)
+    let Some(encoding) = predefined_numbered(number) else {
+        return UNKNOWN_ENCODING;
+    };
+    encoder_read(&encoding, encoder, piece, output, written)
 }
 
-/// Exports [`numbered_encoder_finish`].
+/// Ends the data: writes the text of the held bytes to the start of `output`, and its length to
+/// `written`.
+///
+/// If the status is not 0, `output` and `written` are unchanged.
 #[unsafe(no_mangle)]
 pub extern "C" fn de_numbered_encoder_finish(
     number: u32,
@@ -62,13 +75,16 @@ pub extern "C" fn de_numbered_encoder_finish(
     output: &mut [u8],
     written: &mut usize,
 ) -> u32
-    ensures { EndsDataByNumber number encoder.now output.old output.new written.old written.new
+    ensures { FinishesDataByNumber number encoder.now output.old output.new written.old written.new
         result }
 {
-    numbered_encoder_finish(number, encoder, output, written)
+    let Some(encoding) = predefined_numbered(number) else {
+        return UNKNOWN_ENCODING;
+    };
+    encoder_finish(&encoding, encoder, output, written)
 }
 
-/// Exports [`custom_encoder_most`].
+/// Like `de_numbered_encoder_most`, for an encoding of the caller.
 #[unsafe(no_mangle)]
 pub extern "C" fn de_custom_encoder_most(
     held: &PlainEncoding,
@@ -78,10 +94,10 @@ pub extern "C" fn de_custom_encoder_most(
 ) -> u32
     ensures { TellsDue (base_of_plain held.now) encoder.now len most.old most.new result }
 {
-    custom_encoder_most(held, encoder, len, most)
+    encoder_most(&held.by_ref(), encoder, len, most)
 }
 
-/// Exports [`custom_encoder_read`].
+/// Like `de_numbered_encoder_read`, for an encoding of the caller.
 #[unsafe(no_mangle)]
 pub extern "C" fn de_custom_encoder_read(
     held: &PlainEncoding,
@@ -93,10 +109,10 @@ pub extern "C" fn de_custom_encoder_read(
     ensures { EncodesPieceByCustom held.now piece.now encoder.old encoder.new output.old output.new
         written.old written.new result }
 {
-    custom_encoder_read(held, encoder, piece, output, written)
+    encoder_read(&held.by_ref(), encoder, piece, output, written)
 }
 
-/// Exports [`custom_encoder_finish`].
+/// Like `de_numbered_encoder_finish`, for an encoding of the caller.
 #[unsafe(no_mangle)]
 pub extern "C" fn de_custom_encoder_finish(
     held: &PlainEncoding,
@@ -104,8 +120,8 @@ pub extern "C" fn de_custom_encoder_finish(
     output: &mut [u8],
     written: &mut usize,
 ) -> u32
-    ensures { EndsData (base_of_plain held.now) encoder.now output.old output.new written.old
+    ensures { FinishesData (base_of_plain held.now) encoder.now output.old output.new written.old
         written.new result }
 {
-    custom_encoder_finish(held, encoder, output, written)
+    encoder_finish(&held.by_ref(), encoder, output, written)
 }

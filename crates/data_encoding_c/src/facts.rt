@@ -1,4 +1,4 @@
-//! Properties of an encoding, and a specification from which it can be built again.
+//! Properties of an encoding, and the specification that describes it.
 
 ghost use Rattle.std.specs.Prelude.{◌≡◌};
 ghost use Rattle.data_encoding.specs.Plain.{base_of_plain};
@@ -6,47 +6,58 @@ ghost use Rattle.data_encoding_calls.specs.Calls.{ByNumber};
 ghost use Rattle.data_encoding_calls.specs.Facts.{TellsAlignment, TellsWidth};
 ghost use Rattle.data_encoding_calls.specs.Numbered.{GivesBackByCustom, GivesBackByNumber};
 
-use data_encoding::PlainEncoding;
-use data_encoding_calls::{
-    Form, TextLengths, custom_bit_width, custom_encode_align, custom_specification,
-    numbered_bit_width, numbered_encode_align, numbered_specification,
-};
+use data_encoding::{PlainEncoding, predefined_numbered};
+use data_encoding_calls::{Form, OK, TextLengths, UNKNOWN_ENCODING, specification};
 
-/// Exports [`numbered_encode_align`].
+/// Writes the number of bytes in a block to `align`. A block is a whole line, or a whole group if
+/// texts have no lines.
 #[unsafe(no_mangle)]
 pub extern "C" fn de_numbered_encode_align(number: u32, align: &mut usize) -> u32
     ensures { ByNumber number result (align.new ≡ align.old)
         (λ base. TellsAlignment base align.new result) }
 {
-    numbered_encode_align(number, align)
+    let Some(encoding) = predefined_numbered(number) else {
+        return UNKNOWN_ENCODING;
+    };
+    *align = encoding.encode_align();
+    OK
 }
 
-/// Exports [`custom_encode_align`].
+/// Like `de_numbered_encode_align`, for an encoding of the caller.
 #[unsafe(no_mangle)]
 pub extern "C" fn de_custom_encode_align(held: &PlainEncoding, align: &mut usize) -> u32
     ensures { TellsAlignment (base_of_plain held.now) align.new result }
 {
-    custom_encode_align(held, align)
+    *align = held.by_ref().encode_align();
+    OK
 }
 
-/// Exports [`numbered_bit_width`].
+/// Writes the number of bits of a symbol to `width`.
 #[unsafe(no_mangle)]
 pub extern "C" fn de_numbered_bit_width(number: u32, width: &mut usize) -> u32
     ensures { ByNumber number result (width.new ≡ width.old)
         (λ base. TellsWidth base width.new result) }
 {
-    numbered_bit_width(number, width)
+    let Some(encoding) = predefined_numbered(number) else {
+        return UNKNOWN_ENCODING;
+    };
+    *width = encoding.bit_width();
+    OK
 }
 
-/// Exports [`custom_bit_width`].
+/// Like `de_numbered_bit_width`, for an encoding of the caller.
 #[unsafe(no_mangle)]
 pub extern "C" fn de_custom_bit_width(held: &PlainEncoding, width: &mut usize) -> u32
     ensures { TellsWidth (base_of_plain held.now) width.new result }
 {
-    custom_bit_width(held, width)
+    *width = held.by_ref().bit_width();
+    OK
 }
 
-/// Exports [`numbered_specification`].
+/// Writes a specification of the encoding: its texts one after another to the start of `texts`,
+/// their lengths to `lengths`, and the rest to `form`.
+///
+/// If the status is not 0, nothing is changed.
 #[unsafe(no_mangle)]
 pub extern "C" fn de_numbered_specification(
     number: u32,
@@ -57,10 +68,13 @@ pub extern "C" fn de_numbered_specification(
     ensures { GivesBackByNumber number form.old form.new lengths.old lengths.new
         texts.old texts.new result }
 {
-    numbered_specification(number, form, lengths, texts)
+    let Some(encoding) = predefined_numbered(number) else {
+        return UNKNOWN_ENCODING;
+    };
+    specification(&encoding, form, lengths, texts)
 }
 
-/// Exports [`custom_specification`].
+/// Like `de_numbered_specification`, for an encoding of the caller.
 #[unsafe(no_mangle)]
 pub extern "C" fn de_custom_specification(
     held: &PlainEncoding,
@@ -71,5 +85,5 @@ pub extern "C" fn de_custom_specification(
     ensures { GivesBackByCustom held.now form.old form.new lengths.old lengths.new
         texts.old texts.new result }
 {
-    custom_specification(held, form, lengths, texts)
+    specification(&held.by_ref(), form, lengths, texts)
 }

@@ -38,20 +38,14 @@ part-next text read end within =
     (take-append-drop read (take (read + (end - read)) text)) in
     joined ∙ ap (λ n. take n text) (omega (arith, within))
 
--- A decoder keeps this of a text, whose whole groups have these bytes.
-pub record HasReadTo (base : Base) (kept : Kept) (text bytes : List ℕ) : Type 0 where
-  pub keeps : Keeps base kept text
-  pub decoded : whole_bytes base text ≡ bytes
-
 -- a decoder that has read a text up to `read` reads the part up to `end`
 pub reads-part : (base : Base) (old new : Kept) (text more : List ℕ) (read end : ℕ) → read ≤ end
     → Keeps base old (take read text)
     → ReadsOn base old new (take (end - read) (drop read text)) more
-    → HasReadTo base new (take end text) (whole_bytes base (take read text) ++ more)
+    → Keeps base new (take end text)
+    × (whole_bytes base (take end text) ≡ whole_bytes base (take read text) ++ more)
 reads-part base old new text more read end within keeps reads =
-    subst (λ front. HasReadTo base new front (whole_bytes base (take read text) ++ more))
+    subst (λ front. Keeps base new front
+    × (whole_bytes base front ≡ whole_bytes base (take read text) ++ more))
     (part-next text read end within)
-    (record {
-      keeps = reads.keeps (take read text) keeps;
-      decoded = reads.decodes (take read text) keeps;
-    })
+    (reads.keeps (take read text) keeps, reads.decodes (take read text) keeps)

@@ -1,7 +1,7 @@
 mod DecodeLemmas
 mod FitLemmas
-mod NumberLemmas
+pub mod NumberLemmas
 mod NameLemmas
-pub mod PieceLemmas
-mod BlockLemmas
+pub mod DecoderStateLemmas
+mod EncoderStateLemmas
 mod Vectors

@@ -29,15 +29,14 @@ use Rattle.data_encoding_calls.specs.declared.convert.Decoded.{Decoded}
 use Rattle.data_encoding_calls.specs.declared.facts.TextLengths.{TextLengths}
 use Rattle.data_encoding_calls.specs.declared.make.Form.{Form}
 use Rattle.data_encoding_calls.specs.declared.make.Made.{Made}
-use Rattle.data_encoding_calls.specs.declared.pieces.PlainKept.{PlainKept}
-use Rattle.data_encoding_calls.specs.Blocks.{if_kept, last_text, DataPlaces, EncodesPiece, EndsData, TellsDue}
-use Rattle.data_encoding_calls.specs.Blocks.{piece_status as data_status}
-use Rattle.data_encoding_calls.specs.Calls.{decode_len_status, decode_status, encode_len_status, encode_status, front_status, over, status_by_room, status_of_len, ByNumber, Decodes, Encodes, HasStopped, TellsCanonical, TellsMost, TellsTextLength, WritesFront}
+use Rattle.data_encoding_calls.specs.declared.decoder_state.PlainKept.{PlainKept}
+use Rattle.data_encoding_calls.specs.EncoderState.{data_piece_status, if_kept, last_text, DataPlaces, EncodesPiece, FinishesData, TellsDue}
+use Rattle.data_encoding_calls.specs.Calls.{decode_len_status, decode_status, encode_len_status, encode_status, front_status, over, status_by_room, status_of_len, ByNumber, Decodes, Encodes, StopsAtFault, TellsIfCanonical, TellsMost, TellsTextLength, WritesFront}
 use Rattle.data_encoding_calls.specs.Facts.{texts_of, AsksFor, GivesBack, SpecificationPlaces, TellsAlignment, TellsWidth}
 use Rattle.data_encoding_calls.specs.Custom.{fields_asked, order_asked, padding_asked, Makes, MakesOfLayout}
 use Rattle.data_encoding_calls.specs.Names.{FindsNumber, WritesName}
-use Rattle.data_encoding_calls.specs.Numbered.{DecodesByNumber, EncodesByNumber, EncodesPieceByCustom, EncodesPieceByNumber, EndsDataByNumber, EndsTextByNumber, GivesBackByCustom, GivesBackByNumber, ReadsPieceByCustom, ReadsPieceByNumber}
-use Rattle.data_encoding_calls.specs.Pieces.{fault_at_position, fault_told, kept_told, kept_with, kind_told, length_status, piece_status, EndsText, MayBeGiven, Places, ReadsPiece, HasConsumed, TellsRoom}
+use Rattle.data_encoding_calls.specs.Numbered.{DecodesByNumber, EncodesByNumber, EncodesPieceByCustom, EncodesPieceByNumber, FinishesDataByNumber, FinishesTextByNumber, GivesBackByCustom, GivesBackByNumber, ReadsPieceByCustom, ReadsPieceByNumber}
+use Rattle.data_encoding_calls.specs.DecoderState.{fault_at_position, fault_told, kept_told, kept_with, kind_told, length_status, text_piece_status, FinishesText, MayBeGiven, Places, ReadsPiece, TellsRoom, WasGiven}
 use Rattle.data_encoding_calls.proofs.NumberLemmas.{by-known, by-unknown}
 use Rattle.data_encoding_calls.specs.Status.{detail_of_refusal, no_decoder, no_encoder, no_encoding, ok, short_buffer, status_of_fault, status_of_kind, status_of_refusal, too_long, unknown_encoding}
 
@@ -207,32 +206,8 @@ text_decoded = (
     after = λ most is. six-left most (same-most is) (codes "Hel.") (codes "....") refl;
   },
   λ means. (
-    record {
-      status = refl;
-      means = λ _. means;
-      all = λ _. refl;
-      end = λ _. refl;
-      refused = λ is. absurd (cc is);
-      needed = λ is. absurd (cc is);
-      by_length = λ error few is. absurd (never-err is);
-      fault = λ partial most few due fits stopped. absurd (never-stopped stopped);
-      short_fault = λ error most few due misses faulty. absurd (cc faulty);
-      within = λ _. inr (lit≤ tt);
-      after = λ most is. six-left most (same-most is) (codes "Hello") (codes ".....") refl;
-    },
-    record {
-      status = refl;
-      means = λ _. means;
-      all = λ _. refl;
-      end = λ _. refl;
-      refused = λ is. absurd (cc is);
-      needed = λ is. absurd (cc is);
-      by_length = λ error few is. absurd (never-err is);
-      fault = λ partial most few due fits stopped. absurd (never-stopped stopped);
-      short_fault = λ error most few due misses faulty. absurd (cc faulty);
-      within = λ _. inr (lit≤ tt);
-      after = λ most is. six-left most (same-most is) (codes "Hello.") (codes "......") refl;
-    },
+    held (codes "Hello") (codes ".....") refl means (lit≤ tt) refl,
+    held (codes "Hello.") (codes "......") refl means (lit≤ tt) refl,
   ),
 ) where
   never-stopped : {partial : DecodePartial} → None ≡ Some partial → ⊥
@@ -241,6 +216,24 @@ text_decoded = (
   six-left : (most : ℕ) → 6 ≡ most → (new old : List ℕ) → drop 6 new ≡ drop 6 old
       → drop most new ≡ drop most old
   six-left most is new old same = subst (λ n. drop n new ≡ drop n old) is same
+
+  held : Has base64_fields (λ base. (new old : List ℕ)
+      → ok ≡ decode_status base (codes "SGVsbG8=") (length old)
+      → Means base (codes "SGVsbG8=") (take 5 new) → 5 ≤ length new → drop 6 new ≡ drop 6 old
+      → Decodes base (codes "SGVsbG8=") old new (counts 7 7 7) (counts 8 5 8) ok)
+  held new old fits means few same = record {
+    status = fits;
+    means = λ _. means;
+    all = λ _. refl;
+    end = λ _. refl;
+    refused = λ is. absurd (cc is);
+    needed = λ is. absurd (cc is);
+    by_length = λ error _ is. absurd (never-err is);
+    fault = λ partial most _ due _ stopped. absurd (never-stopped stopped);
+    short_fault = λ error most _ due misses faulty. absurd (cc faulty);
+    within = λ _. inr few;
+    after = λ most is. six-left most (same-most is) new old same;
+  }
 
 -- a text with a fault, in an output shorter than the most bytes of its length
 short_faulty :
@@ -293,11 +286,11 @@ partial_at_4 = record { read = 4; written = 3; error = symbol_at_4 }
 
 -- a text with a fault, of which the first group was decoded
 stopped_at_4 : (base : Base) → Means base (codes "SGVs") (codes "Hel")
-    → HasStopped base (codes "SGVs!G8=") (codes "Hel...") partial_at_4 (counts 4 3 4)
+    → StopsAtFault base (codes "SGVs!G8=") (codes "Hel...") partial_at_4 (counts 4 3 4)
 stopped_at_4 base means = record { read = refl; written = refl; position = refl; means = means }
 
 -- an encoding that is canonical
-canonical_told : (base : Base) → IsCanonical base → TellsCanonical base true ok
+canonical_told : (base : Base) → IsCanonical base → TellsIfCanonical base true ok
 canonical_told base canonical = record {
   status = refl;
   is_canonical = (λ _. canonical, λ _. refl);
@@ -536,7 +529,7 @@ numbers_given = (
 -- the decoder of a caller that was given that text
 decoder_stands :
     Has base64_mime_fields (λ base.
-    HasConsumed base plain_so_far (codes "SGVsbG" ++ 13 ∷ 10 ∷ []))
+    WasGiven base plain_so_far (codes "SGVsbG" ++ 13 ∷ 10 ∷ []))
 decoder_stands = record {
   kept = kept_so_far;
   told = refl;
@@ -548,9 +541,9 @@ decoder_stands = record {
 -- five more of the text, and so many that it is too long
 piece_statuses :
     (length_status kept_so_far 5 ≡ ok) × (length_status kept_so_far 2305843009213693944 ≡ too_long)
-    × Has base64_mime_fields (λ base. (piece_status base kept_so_far 5 3 ≡ ok)
-    × (piece_status base kept_so_far 5 2 ≡ short_buffer)
-    × (piece_status base kept_so_far 2305843009213693944 3 ≡ too_long))
+    × Has base64_mime_fields (λ base. (text_piece_status base kept_so_far 5 3 ≡ ok)
+    × (text_piece_status base kept_so_far 5 2 ≡ short_buffer)
+    × (text_piece_status base kept_so_far 2305843009213693944 3 ≡ too_long))
 piece_statuses = (refl, refl, (refl, refl, refl))
 
 same-kept : {one other : Kept} → Some one ≡ Some other → one ≡ other
@@ -580,13 +573,13 @@ places_so_far written = record {
 }
 
 -- a piece of no bytes leaves all as it was
-no_piece_read : (base : Base) → piece_status base kept_so_far 0 3 ≡ ok
+no_piece_read : (base : Base) → text_piece_status base kept_so_far 0 3 ≡ ok
     → ReadsPiece base [] (places_so_far 7) (places_so_far 0) ok
 no_piece_read base fits = record {
   status = λ text consumed.
-      sym fits ∙ ap (λ kept. piece_status base kept 0 3) (same-kept consumed.told);
+      sym fits ∙ ap (λ kept. text_piece_status base kept 0 3) (same-kept consumed.told);
   stands = λ _ text consumed.
-      subst (λ those. HasConsumed base plain_so_far those) (sym (append-nil text)) consumed;
+      subst (λ those. WasGiven base plain_so_far those) (sym (append-nil text)) consumed;
   decodes = λ _ text consumed.
       ap (λ those. whole_bytes base those) (append-nil text)
       ∙ sym (append-nil (whole_bytes base text));
@@ -603,7 +596,7 @@ piece_read = no_piece_read _ refl
 -- numbers that are refused, by a piece and at the end
 numbers_refused : (base : Base)
     → ReadsPiece base (codes "8=") places_of_none places_of_none no_decoder
-    × EndsText base plain_of_none (codes "...") (codes "...") (counts 7 7 7) (counts 7 7 7)
+    × FinishesText base plain_of_none (codes "...") (codes "...") (counts 7 7 7) (counts 7 7 7)
     no_decoder
 numbers_refused base = (
   record {
@@ -645,8 +638,8 @@ data_texts :
     Has base64_fields (λ base. (piece_text base data_so_far (codes "w!") ≡ codes "bG93")
     × (last_text base data_so_far ≡ codes "bG8=")
     × (if_kept base data_so_far ok ≡ ok) × (if_kept base whole_block ok ≡ no_encoder)
-    × (data_status base data_so_far (codes "w!") 4 ≡ ok)
-    × (data_status base data_so_far (codes "w!") 3 ≡ short_buffer))
+    × (data_piece_status base data_so_far (codes "w!") 4 ≡ ok)
+    × (data_piece_status base data_so_far (codes "w!") 3 ≡ short_buffer))
 data_texts = (refl, refl, refl, refl, refl, refl)
 
 abbrev places_with : KeptData → ℕ → DataPlaces
@@ -675,7 +668,7 @@ data_refused :
     Has base64_fields (λ base. TellsDue base whole_block 1 7 7 no_encoder
     × EncodesPiece base (codes "!") (places_with whole_block 7) (places_with whole_block 7)
     no_encoder
-    × EndsData base whole_block (codes "....") (codes "....") 7 7 no_encoder)
+    × FinishesData base whole_block (codes "....") (codes "....") 7 7 no_encoder)
 data_refused = (
   record { status = refl; value = λ is. absurd (cc is); refused = λ _. refl },
   record {
@@ -712,9 +705,9 @@ done_by_number :
     EncodesByNumber 12 (codes "Hello") (codes "..........") (codes "SGVsbG8=..") 7 8 ok
     × DecodesByNumber 12 (codes "SGVsbG8=") (codes "....") (codes "Hel.") (counts 7 7 7)
     (counts 0 5 0) short_buffer
-    × EndsTextByNumber 12 plain_of_none (codes "...") (codes "...") (counts 7 7 7) (counts 7 7 7)
-    no_decoder
-    × EndsDataByNumber 12 whole_block (codes "....") (codes "....") 7 7 no_encoder
+    × FinishesTextByNumber 12 plain_of_none (codes "...") (codes "...") (counts 7 7 7)
+    (counts 7 7 7) no_decoder
+    × FinishesDataByNumber 12 whole_block (codes "....") (codes "....") 7 7 no_encoder
     × ReadsPieceByNumber 12 (codes "8=") plain_of_none plain_of_none (codes "...") (codes "...")
     7 7 no_decoder
     × EncodesPieceByNumber 12 [] data_so_far data_so_far (codes "....") (codes "....") 7 0 ok
@@ -723,9 +716,9 @@ done_by_number = (
       twelve hello_encoded,
   by-known (λ base. Decodes base (codes "SGVsbG8=") (codes "....") (codes "Hel.") (counts 7 7 7)
       (counts 0 5 0) short_buffer) twelve text_decoded.0,
-  by-known (λ base. EndsText base plain_of_none (codes "...") (codes "...") (counts 7 7 7)
+  by-known (λ base. FinishesText base plain_of_none (codes "...") (codes "...") (counts 7 7 7)
       (counts 7 7 7) no_decoder) twelve (numbers_refused _).1,
-  by-known (λ base. EndsData base whole_block (codes "....") (codes "....") 7 7 no_encoder)
+  by-known (λ base. FinishesData base whole_block (codes "....") (codes "....") 7 7 no_encoder)
       twelve data_refused.2,
   by-known (λ base. ReadsPiece base (codes "8=") places_of_none places_of_none no_decoder)
       twelve (numbers_refused _).0,
@@ -738,8 +731,8 @@ no_number : (plain : PlainKept) (kept : KeptData) (decoded : Decoded) (form : Fo
     (lengths : TextLengths)
     → EncodesByNumber 18 (codes "Hi") (codes ".") (codes ".") 7 7 unknown_encoding
     × DecodesByNumber 18 (codes "SGk=") (codes ".") (codes ".") decoded decoded unknown_encoding
-    × EndsTextByNumber 18 plain (codes ".") (codes ".") decoded decoded unknown_encoding
-    × EndsDataByNumber 18 kept (codes ".") (codes ".") 7 7 unknown_encoding
+    × FinishesTextByNumber 18 plain (codes ".") (codes ".") decoded decoded unknown_encoding
+    × FinishesDataByNumber 18 kept (codes ".") (codes ".") 7 7 unknown_encoding
     × ReadsPieceByNumber 18 (codes "S") plain plain (codes ".") (codes ".") 7 7 unknown_encoding
     × EncodesPieceByNumber 18 (codes "H") kept kept (codes ".") (codes ".") 7 7 unknown_encoding
     × GivesBackByNumber 18 form form lengths lengths (codes ".") (codes ".") unknown_encoding
@@ -848,7 +841,7 @@ most_bytes_told new answer = (
 
 -- where a decoding stopped, and what was read means what was written
 stopped_told : (base : Base) (text output : List ℕ) (decoded : Decoded)
-    → HasStopped base text output partial_at_4 decoded
+    → StopsAtFault base text output partial_at_4 decoded
     → (decoded.read ≡ 4) × (decoded.written ≡ 3) × (decoded.position ≡ 4)
     × Means base (take decoded.read text) (take decoded.written output)
 stopped_told base text output decoded stopped =
@@ -871,7 +864,7 @@ decoding_told :
     × (Decodes base (codes "SGVsbG8") (codes "......") output (counts 7 7 7) decoded 6
     → (output ≡ codes "......") × (decoded ≡ counts 0 0 4))
     × (Decodes base (codes "SGVs!G8=") (codes "......") output (counts 7 7 7) decoded 7
-    → HasStopped base (codes "SGVs!G8=") output partial_at_4 decoded)
+    → StopsAtFault base (codes "SGVs!G8=") output partial_at_4 decoded)
     × (Decodes base (codes "SGVs!G8=") (codes ".....") output (counts 7 7 7) decoded 7
     → decoded ≡ counts 0 0 4)
     × (Decodes base (codes "SGVsbG8=") (codes "........") output (counts 7 7 7) decoded ok
@@ -904,8 +897,8 @@ within_told base text done = none (done.within never-zero) where
   none (inr few) = omega (arith, few)
 
 canonical_is_told : (base : Base) (answer : ℕ)
-    → (TellsCanonical base true answer → (answer ≡ ok) × IsCanonical base)
-    × (TellsCanonical base false answer → IsCanonical base → ⊥)
+    → (TellsIfCanonical base true answer → (answer ≡ ok) × IsCanonical base)
+    × (TellsIfCanonical base false answer → IsCanonical base → ⊥)
 canonical_is_told base answer = (
   λ it. (it.status, it.is_canonical.0 refl),
   λ it canonical. false≢true (it.is_canonical.1 canonical),
@@ -991,9 +984,9 @@ plain_of_fault = record plain_so_far { fault = 7; fault_position = 4 }
 
 -- eight bytes were read, within the limit; after a fault nothing is held
 stands_told : (base : Base) (text : List ℕ)
-    → ((consumed : HasConsumed base plain_so_far text) → (consumed.kept ≡ kept_so_far)
+    → ((consumed : WasGiven base plain_so_far text) → (consumed.kept ≡ kept_so_far)
     × (consumed.kept.len ≡ length text) × (length text ≤ 2305843009213693951))
-    × (HasConsumed base plain_of_fault text → ⊥)
+    × (WasGiven base plain_of_fault text → ⊥)
 stands_told base text = (
   λ consumed. (sym (same-kept consumed.told), consumed.keeps.counted, consumed.limit),
   λ consumed. two-zero (subst (λ kept. IsSome kept.fault → kept.count ≡ 0)
@@ -1020,7 +1013,7 @@ piece_told :
     → (ReadsPiece base (codes "8=") (places_so_far 7) new answer
     → (answer ≡ ok) × (length new.output ≡ 3))
     × (ReadsPiece base (codes "8=") (places_so_far 7) new ok
-    → HasConsumed base new.decoder (codes "SGVsbG" ++ 13 ∷ 10 ∷ codes "8=")
+    → WasGiven base new.decoder (codes "SGVsbG" ++ 13 ∷ 10 ∷ codes "8=")
     × (take new.written new.output ≡ codes "lo") × (new.written ≤ length new.output)
     × (drop 3 new.output ≡ []))
     × (ReadsPiece base (codes "8=") places_of_none new no_decoder → new ≡ places_of_none))
@@ -1038,7 +1031,7 @@ piece_told new answer = (
 
 abbrev Ends : Base → List ℕ → Decoded → ℕ → Type 0
 Ends base output decoded answer =
-    EndsText base plain_so_far (codes ".....") output (counts 7 7 7) decoded answer
+    FinishesText base plain_so_far (codes ".....") output (counts 7 7 7) decoded answer
 
 -- `SGVsbG` CR LF has a fault of its length at 4, and its last group no bytes
 verdict_told :
@@ -1106,10 +1099,10 @@ data_read_told new answer = (
 -- `lo` ends as `bG8=`
 data_ended_told :
     Has base64_fields (λ base. (output : List ℕ) (written answer : ℕ)
-    → (EndsData base data_so_far (codes "....") output 7 written answer → answer ≡ ok)
-    × (EndsData base data_so_far (codes "....") output 7 written ok
+    → (FinishesData base data_so_far (codes "....") output 7 written answer → answer ≡ ok)
+    × (FinishesData base data_so_far (codes "....") output 7 written ok
     → (output ≡ codes "bG8=") × (written ≡ 4) × EndsBlocks base data_so_far (codes "bG8="))
-    × (EndsData base whole_block (codes "....") output 7 written no_encoder
+    × (FinishesData base whole_block (codes "....") output 7 written no_encoder
     → (output ≡ codes "....") × (written ≡ 7)))
 data_ended_told output written answer = (
   λ ends. ends.status,
@@ -1123,8 +1116,8 @@ eighteen_told : (plain : PlainKept) (kept : KeptData) (decoded : Decoded) (form 
     → (EncodesByNumber 18 (codes "Hi") [] [] 7 7 answer → answer ≡ unknown_encoding)
     × (DecodesByNumber 18 (codes "SGk=") [] [] decoded decoded answer
     → answer ≡ unknown_encoding)
-    × (EndsTextByNumber 18 plain [] [] decoded decoded answer → answer ≡ unknown_encoding)
-    × (EndsDataByNumber 18 kept [] [] 7 7 answer → answer ≡ unknown_encoding)
+    × (FinishesTextByNumber 18 plain [] [] decoded decoded answer → answer ≡ unknown_encoding)
+    × (FinishesDataByNumber 18 kept [] [] 7 7 answer → answer ≡ unknown_encoding)
     × (ReadsPieceByNumber 18 [] plain plain [] [] 7 7 answer → answer ≡ unknown_encoding)
     × (EncodesPieceByNumber 18 [] kept kept [] [] 7 7 answer → answer ≡ unknown_encoding)
     × (GivesBackByNumber 18 form form lengths lengths [] [] answer → answer ≡ unknown_encoding)

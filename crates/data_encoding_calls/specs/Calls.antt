@@ -55,7 +55,7 @@ decode_status base text room =
     else status_by_room (fault_of base text) (length (sound_bytes base text)) room
 
 -- The decoding stopped at a fault, and the bytes that were read mean the bytes that were written.
-pub record HasStopped (base : Base) (text output : List ℕ) (partial : DecodePartial)
+pub record StopsAtFault (base : Base) (text output : List ℕ) (partial : DecodePartial)
     (decoded : Decoded) : Type 0 where
   pub read : decoded.read ≡ partial.read
   pub written : decoded.written ≡ partial.written
@@ -114,7 +114,7 @@ pub record Decodes (base : Base) (text output_old output_new : List ℕ)
   pub fault : (partial : DecodePartial) (most : ℕ) → (answer ≡ too_long → ⊥)
       → decoded_len base (length text) ≡ Ok most → most ≤ length output_old
       → partial_of base text ≡ Some partial
-      → HasStopped base text output_new partial decoded_new
+      → StopsAtFault base text output_new partial decoded_new
   pub short_fault : (error : DecodeError) (most : ℕ) → (answer ≡ too_long → ⊥)
       → decoded_len base (length text) ≡ Ok most → length output_old < most
       → fault_of base text ≡ Some error
@@ -125,7 +125,7 @@ pub record Decodes (base : Base) (text output_old output_new : List ℕ)
       → drop most output_new ≡ drop most output_old
 
 -- The call wrote `true` if the encoding is canonical, and `false` otherwise.
-pub record TellsCanonical (base : Base) (canonical : Bool) (answer : ℕ) : Type 0 where
+pub record TellsIfCanonical (base : Base) (canonical : Bool) (answer : ℕ) : Type 0 where
   pub status : answer ≡ ok
   pub is_canonical : IsTrue canonical ↔ IsCanonical base
 

@@ -1,8 +1,8 @@
 pub mod Status
-pub mod Pieces
+pub mod DecoderState
 pub mod Calls
 pub mod Custom
 pub mod Facts
-pub mod Blocks
+pub mod EncoderState
 pub mod Names
 pub mod Numbered

@@ -6,11 +6,11 @@ use Rattle.data_encoding.specs.declared.encode.kept_data.KeptData.{KeptData}
 use Rattle.data_encoding_calls.specs.declared.convert.Decoded.{Decoded}
 use Rattle.data_encoding_calls.specs.declared.facts.TextLengths.{TextLengths}
 use Rattle.data_encoding_calls.specs.declared.make.Form.{Form}
-use Rattle.data_encoding_calls.specs.declared.pieces.PlainKept.{PlainKept}
-use Rattle.data_encoding_calls.specs.Blocks.{EncodesPiece, EndsData}
+use Rattle.data_encoding_calls.specs.declared.decoder_state.PlainKept.{PlainKept}
+use Rattle.data_encoding_calls.specs.EncoderState.{EncodesPiece, FinishesData}
 use Rattle.data_encoding_calls.specs.Calls.{ByNumber, Decodes, Encodes}
 use Rattle.data_encoding_calls.specs.Facts.{GivesBack}
-use Rattle.data_encoding_calls.specs.Pieces.{EndsText, ReadsPiece}
+use Rattle.data_encoding_calls.specs.DecoderState.{FinishesText, ReadsPiece}
 
 -- The call encoded with the encoding of the given number, or refused the number.
 abbrev pub EncodesByNumber : ℕ → List ℕ → List ℕ → List ℕ → ℕ → ℕ → ℕ → Type 0
@@ -25,16 +25,16 @@ DecodesByNumber number text output_old output_new decoded_old decoded_new answer
     (λ base. Decodes base text output_old output_new decoded_old decoded_new answer)
 
 -- The call ended a text with the encoding of the given number, or refused the number.
-abbrev pub EndsTextByNumber : ℕ → PlainKept → List ℕ → List ℕ → Decoded → Decoded → ℕ → Type 0
-EndsTextByNumber number plain output_old output_new decoded_old decoded_new answer =
+abbrev pub FinishesTextByNumber : ℕ → PlainKept → List ℕ → List ℕ → Decoded → Decoded → ℕ → Type 0
+FinishesTextByNumber number plain output_old output_new decoded_old decoded_new answer =
     ByNumber number answer ((output_new ≡ output_old) × (decoded_new ≡ decoded_old))
-    (λ base. EndsText base plain output_old output_new decoded_old decoded_new answer)
+    (λ base. FinishesText base plain output_old output_new decoded_old decoded_new answer)
 
 -- The call ended data with the encoding of the given number, or refused the number.
-abbrev pub EndsDataByNumber : ℕ → KeptData → List ℕ → List ℕ → ℕ → ℕ → ℕ → Type 0
-EndsDataByNumber number kept output_old output_new written_old written_new answer =
+abbrev pub FinishesDataByNumber : ℕ → KeptData → List ℕ → List ℕ → ℕ → ℕ → ℕ → Type 0
+FinishesDataByNumber number kept output_old output_new written_old written_new answer =
     ByNumber number answer ((output_new ≡ output_old) × (written_new ≡ written_old))
-    (λ base. EndsData base kept output_old output_new written_old written_new answer)
+    (λ base. FinishesData base kept output_old output_new written_old written_new answer)
 
 -- The call decoded a piece of a text with the encoding that the caller holds.
 abbrev pub ReadsPieceByCustom : PlainEncoding → List ℕ → PlainKept → PlainKept

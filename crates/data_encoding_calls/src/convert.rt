@@ -1,4 +1,4 @@
-//! The effect of each call for an encoding, whether it is given by number or as plain data.
+//! Calls that encode data or decode a text, and their lengths.
 
 ghost use Rattle.std.specs.Prelude.{◌≡◌, ◌↔◌, ◌<◌, ◌≤◌, ◌⊎◌, ℕ, List, length, take, drop, IsTrue, Ok, Err, Some};
 ghost use Rattle.data_encoding.specs.declared.decode.TheConstants.{DECODE_LIMIT};
@@ -8,7 +8,7 @@ ghost use Rattle.data_encoding.specs.Grammar.{Means};
 ghost use Rattle.data_encoding.specs.Lengths.{decoded_len};
 ghost use Rattle.data_encoding.specs.Partial.{partial_of};
 ghost use Rattle.data_encoding.specs.Text.{text_of};
-ghost use Rattle.data_encoding_calls.specs.Calls.{decode_len_status, decode_status, encode_len_status, encode_status, over, status_by_room, HasStopped};
+ghost use Rattle.data_encoding_calls.specs.Calls.{decode_len_status, decode_status, encode_len_status, encode_status, over, status_by_room, StopsAtFault};
 
 use crate::fit::decode_and_count;
 use crate::status::{OK, SHORT_BUFFER, TOO_LONG, status_of_kind};
@@ -16,7 +16,7 @@ use data_encoding::laws::sound_text;
 use data_encoding::{DECODE_LIMIT, DecodeError, DecodePartial, ENCODE_LIMIT, EncodingRef};
 
 /// Writes the length of the text of `len` bytes to `text_len`.
-pub(crate) fn encode_len_by(encoding: &EncodingRef<'_>, len: usize, text_len: &mut usize) -> u32
+pub fn encode_len(encoding: &EncodingRef<'_>, len: usize, text_len: &mut usize) -> u32
     ensures status { result ≡ encode_len_status len }
     ensures length { result ≡ OK → (bytes : List ℕ) → length bytes ≡ len
         → length (text_of encoding.now bytes) ≡ text_len.new }
@@ -31,7 +31,7 @@ pub(crate) fn encode_len_by(encoding: &EncodingRef<'_>, len: usize, text_len: &m
 
 /// Writes the text of `input` to the start of `output`.
 #[inline(always)]
-pub(crate) fn encode_by(
+pub fn encode(
     encoding: &EncodingRef<'_>,
     input: &[u8],
     output: &mut [u8],
@@ -73,7 +73,7 @@ pub struct Decoded {
 
 /// Writes the greatest number of bytes that a text of `len` bytes may mean to `most`, or the
 /// position of the fault of that length.
-pub(crate) fn decode_len_by(encoding: &EncodingRef<'_>, len: usize, most: &mut usize) -> u32
+pub fn decode_len(encoding: &EncodingRef<'_>, len: usize, most: &mut usize) -> u32
     ensures status { result ≡ decode_len_status encoding.now len }
     ensures value { result ≡ OK → decoded_len encoding.now len ≡ Ok most.new }
     ensures fault { (error : DecodeError) → decoded_len encoding.now len ≡ Err error
@@ -100,7 +100,7 @@ pub(crate) fn decode_len_by(encoding: &EncodingRef<'_>, len: usize, most: &mut u
 /// Uses only as many bytes of `output` as a text of that length may mean. If `output` has fewer,
 /// the data may still fit.
 #[inline(always)]
-pub(crate) fn decode_by(
+pub fn decode(
     encoding: &EncodingRef<'_>,
     input: &[u8],
     output: &mut [u8],
@@ -125,7 +125,7 @@ pub(crate) fn decode_by(
     ensures fault { (partial : DecodePartial) (most : ℕ) → (result ≡ TOO_LONG → ⊥)
         → decoded_len encoding.now (length input.now) ≡ Ok most → most ≤ length output.old
         → partial_of encoding.now input.now ≡ Some partial
-        → HasStopped encoding.now input.now output.new partial decoded.new }
+        → StopsAtFault encoding.now input.now output.new partial decoded.new }
     ensures short_fault { (error : DecodeError) (most : ℕ) → (result ≡ TOO_LONG → ⊥)
         → decoded_len encoding.now (length input.now) ≡ Ok most → length output.old < most
         → fault_of encoding.now input.now ≡ Some error
@@ -173,10 +173,10 @@ pub(crate) fn decode_by(
     }
 }
 
-/// Like [`decode_by`], for an output that may be too short for the data.
+/// Like [`decode`], for an output that may be too short for the data.
 ///
 /// If the data does not fit, the status is `SHORT_BUFFER`, and `decoded.written` is its length.
-// A function of its own, so that `decode_by` saves no registers for it.
+// A function of its own, so that `decode` saves no registers for it.
 #[inline(never)]
 fn decode_to_fit(
     encoding: &EncodingRef<'_>,
@@ -217,7 +217,7 @@ fn decode_to_fit(
 }
 
 /// Sets `answer` to `true` if no two different texts mean the same data, and to `false` otherwise.
-pub(crate) fn is_canonical_by(encoding: &EncodingRef<'_>, answer: &mut bool) -> u32
+pub fn is_canonical(encoding: &EncodingRef<'_>, answer: &mut bool) -> u32
     ensures status { result ≡ OK }
     ensures canonical { IsTrue answer.new ↔ IsCanonical encoding.now }
 {

@@ -9,11 +9,12 @@ ghost use Rattle.encoding_stream.specs.BufferDecoder.{verdict_of};
 use data_encoding::{DECODE_LIMIT, DecodeError, EncodingRef};
 use encoding_stream::BufferDecoder;
 
-// The number of bytes of the text that are decoded at a time. Such texts are mostly keys, which one
-// piece holds. A longer buffer would take more of the stack, and more time to be filled with zeros.
+/// The number of bytes of the text that are decoded at a time.
+// Such texts are mostly keys, which one piece holds. A longer buffer would take more of the stack,
+// and more time to be filled with zeros.
 const PIECE: usize = 512;
 
-// The room for what they decode to: at most seven bytes more.
+/// The room for the data of a piece: at most seven bytes more.
 const ROOM: usize = PIECE + 8;
 
 /// Decodes the text `input` to the start of `output`, if the data fits.
@@ -50,7 +51,7 @@ pub(crate) fn decode_and_count(
     (needed + count, verdict)
 }
 
-// Writes `bytes` to `output` from index `start` on, if they fit.
+/// Writes `bytes` to `output` from index `start` on, if they fit.
 fn write_if_fits(output: &mut [u8], start: usize, bytes: &[u8])
     ensures written { start + length bytes.now ≤ length output.old
         → take (start + length bytes.now) output.new ≡ take start output.old ++ bytes.now }

@@ -104,6 +104,7 @@ pub(crate) fn refused(status: u32, detail: usize) -> Made
     }
 }
 
+/// Returns the order of bits that the caller's flag means.
 fn bit_order(least_significant_first: bool) -> BitOrder
     ensures { result ≡ order_asked least_significant_first }
 {
@@ -114,6 +115,7 @@ fn bit_order(least_significant_first: bool) -> BitOrder
     }
 }
 
+/// Returns the padding that the caller's values mean.
 fn padding(has_padding: bool, padding: u8) -> Option<char>
     ensures { result ≡ padding_asked has_padding padding }
 {

@@ -6,10 +6,10 @@ ghost use Rattle.data_encoding_calls.specs.Status.{detail_of_refusal, status_of_
 use data_encoding::{DecodeKind, Refusal};
 
 /// The call succeeded.
-pub(crate) const OK: u32 = 0;
+pub const OK: u32 = 0;
 
 /// No encoding has the given number or name.
-pub(crate) const UNKNOWN_ENCODING: u32 = 1;
+pub const UNKNOWN_ENCODING: u32 = 1;
 
 /// A pointer that must not be null is null.
 pub(crate) const NULL_POINTER: u32 = 2;

@@ -1,4 +1,4 @@
-//! Encodings of the caller as bytes to be stored: their layouts, which are judged when they are
+//! Encodings of the caller as bytes to be stored: their layouts, which are checked when they are
 //! read.
 
 ghost use Rattle.data_encoding.specs.Layout.{layout};

@@ -2,7 +2,7 @@ use Rattle.std.proofs.Common.{◌≡◌, None, length, sym, subst, arith}
 use Rattle.data_encoding.specs.Fault.{fault_of, sound_bytes}
 use Rattle.data_encoding.specs.Grammar.{Means}
 use Rattle.data_encoding_calls.proofs.DecodeLemmas.{status-short}
-use Rattle.data_encoding_calls.proofs.PieceLemmas.{fault-none}
+use Rattle.data_encoding_calls.proofs.DecoderStateLemmas.{fault-none}
 use Rattle.data_encoding_calls.proofs.convert.decode_to_fit.Goals as goal
 
 pub returns-in-Ok-clause-means : goal.returns-in-Ok-clause-means

@@ -32,10 +32,10 @@ loop-read-preserved c =
     (rw more (rw now.base at c.read-count.ensures.reads)) in
     record {
       base = c.read-count.ensures.base ∙ now.base;
-      keeps = next.keeps;
+      keeps = next.0;
       copied =
           subst (λ bytes. Copied bytes (c.loop-read.needed + count) c.write_if_fits.new.output)
-          (sym next.decoded)
+          (sym next.1)
           (copied-more (whole_bytes base (take read text)) (take count buffer) c.loop-read.output
           c.write_if_fits.new.output c.loop-read.needed count size now.copied
           c.write_if_fits.ensures.len c.write_if_fits.ensures.written);

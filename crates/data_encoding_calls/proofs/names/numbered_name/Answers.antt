@@ -1,5 +1,5 @@
 use Rattle.std.proofs.Common.{◌≡◌}
-use Rattle.data_encoding_calls.proofs.BlockLemmas.{writes-front}
+use Rattle.data_encoding_calls.proofs.EncoderStateLemmas.{writes-front}
 use Rattle.data_encoding_calls.proofs.names.numbered_name.Goals as goal
 
 pub returns : goal.returns

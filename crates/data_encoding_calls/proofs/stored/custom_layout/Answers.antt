@@ -1,7 +1,7 @@
 use Rattle.std.proofs.Common.{◌≡◌, ◌∙◌, ap}
 use Rattle.data_encoding.specs.Layout.{layout}
 use Rattle.data_encoding.specs.Plain.{base_of_plain}
-use Rattle.data_encoding_calls.proofs.BlockLemmas.{writes-front}
+use Rattle.data_encoding_calls.proofs.EncoderStateLemmas.{writes-front}
 use Rattle.data_encoding_calls.proofs.stored.custom_layout.Goals as goal
 
 pub returns : goal.returns

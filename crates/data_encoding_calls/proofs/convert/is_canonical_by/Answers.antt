@@ -1,4 +1,0 @@
-use Rattle.data_encoding_calls.proofs.convert.is_canonical_by.Goals as goal
-
-pub returns-clause-canonical : goal.returns-clause-canonical
-returns-clause-canonical c = c.is_canonical.ensures.canonical
