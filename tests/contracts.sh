@@ -82,7 +82,7 @@ words=$(grep -c '^- \*' docs/CONTRACTS.md)
 planted $encode 'byte < 128) output.new' 'byte < 127) output.new'
 "$room/copy/docs/contracts.py" >/dev/null
 is 'words that stay' "$words" "$(grep -c '^- \*' "$room/copy/docs/CONTRACTS.md")"
-planted crates/data_encoding/src/write.rt '{ 510 ≤ output_len }' '{ 511 ≤ output_len }'
+planted crates/data_encoding/src/encoding/calls.rt '{ 510 ≤ output_len }' '{ 511 ≤ output_len }'
 is 'words that are dropped' '`Encoding::encode_piece_len`, room' \
     "$("$room/copy/docs/contracts.py" | sed -n 's/.*words dropped at data_encoding: //p')"
 is 'words after one was dropped' $((words - 1)) "$(grep -c '^- \*' "$room/copy/docs/CONTRACTS.md")"
