@@ -59,7 +59,7 @@ platform() {
     cat <<'END'
 //! What differs between platforms: WebAssembly as this toolchain compiles for it.
 
-/// Whether groups go in lanes of vectors.
+/// Returns `true` if groups are encoded and decoded with SIMD.
 #[inline(always)]
 pub fn has_lanes() -> bool {
     false

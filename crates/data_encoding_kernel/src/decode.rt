@@ -78,7 +78,7 @@ pub fn decode_run_within<L: LookUp, O: ConstantOrder, G: GroupSize>(
     count
 }
 
-/// Decodes all but the last groups of a run, and returns their number.
+/// Decodes the groups of a run as far as iterations reach, and returns their number.
 ///
 /// Takes iterations of eight groups if `input` has enough bytes, and shorter ones otherwise. Also
 /// returns `true` if the run is known to end there.
