@@ -144,7 +144,7 @@ translated-ok before after from to h =
     }
 
 -- What a judgement that is not refused does.
-record IsStep (before : List Character) (j : Judgement) (after : List Character) : Type 0 where
+pub record IsStep (before : List Character) (j : Judgement) (after : List Character) : Type 0 where
   pub kept : AreKept before after
   pub long : length after ≡ length before
   pub held : length before ≡ 128 → IsHeld after j

@@ -55,7 +55,7 @@ meanings-back n (m ∷ ms) few h =
     λ i. here i ∷ rest i
 
 -- What a sum of flags says.
-record HasFlags (sum width : ℕ) (order : BitOrder) (checks concatenates : Bool)
+pub record HasFlags (sum width : ℕ) (order : BitOrder) (checks concatenates : Bool)
     : Type 0 where
   pub few : sum < 64
   pub width_is : sum % 8 ≡ width
