@@ -35,7 +35,7 @@ refused 'a reached definition without a worked row' $text \
     's/^text_of base bytes = .*/text_of base bytes = in_lines base.wrapping (as_text base bytes)\n\n-- the same\nabbrev pub as_text : Base → List ℕ → List ℕ\nas_text base bytes = padded_text base bytes/' \
     'as_text has no worked row'
 refused 'a definition whose worked row is gone' crates/data_encoding_meaning/proofs/vectors/OrderLaws.antt \
-    '/^causes_told/,/^$/d' 'CanonicalByCauses has no worked row'
+    '/^canonical_without_causes/,/^$/d' 'CanonicalByCauses has no worked row'
 refused 'an exception with a worked row' crates/data_encoding/proofs/vectors/Encoders.antt \
     '$ a\\nuse Rattle.data_encoding.specs.Encoder.{Finalizes}\n\nfinalized : Finalizes' \
     'Finalizes has a worked row'

@@ -8,12 +8,12 @@ pub mod Meanings
 pub mod Compared
 pub mod SameMeanings
 pub mod Named
-pub mod Told
+pub mod ByteFaults
 pub mod Laws
-pub mod Layers
+pub mod RunLaws
 pub mod Eighteen
 pub mod TextLaws
 pub mod AlikeLaws
 pub mod OrderLaws
 pub mod PieceLaws
-pub mod Followed
+pub mod Consequences

@@ -33,18 +33,19 @@ case_alike law =
       (law base is (codes "CO") (codes "co") refl).1,
     )
 
-own_form_told : OwnForm
+-- each byte of the own form means the same as the byte at its position
+own_form_keeps_meanings : OwnForm
     → map (meaning (built base32_dnssec_fields)) (codes "0P9mWw")
     ≡ map (meaning (built base32_dnssec_fields)) (codes "0p9mWw")
-own_form_told law =
+own_form_keeps_meanings law =
     law (built base32_dnssec_fields) (is_specified base32_dnssec_fields refl) (codes "0P9mWw")
 
--- `CO` and `co` mean the same, and `CO` and `cs` do not; `co` is the text of what `CO` means
-own_forms_told : OwnForms → (bytes others : List ℕ)
+-- `CO` and `co` have one own form and mean the same data. `CO` and `cs` do not.
+own_forms_decide_data : OwnForms → (bytes others : List ℕ)
     → Means (built base32_dnssec_fields) (codes "CO") bytes
     → (Means (built base32_dnssec_fields) (codes "co") others → bytes ≡ others)
     × (Means (built base32_dnssec_fields) (codes "cs") others → bytes ≡ others → ⊥)
-own_forms_told law bytes others means =
+own_forms_decide_data law bytes others means =
     let base = built base32_dnssec_fields in
     let is = is_specified base32_dnssec_fields refl in (
       (λ other. (law base is refl (codes "CO") (codes "co") bytes others means other).1 refl),
@@ -54,10 +55,11 @@ own_forms_told law bytes others means =
           omega (arith, last)),
     )
 
-own_text_told : OwnText → (bytes : List ℕ)
+-- `co` is the text of the data that `CO` means
+own_form_is_text_of_data : OwnText → (bytes : List ℕ)
     → Means (built base32_dnssec_fields) (codes "CO") bytes
     → codes "co" ≡ text_of (built base32_dnssec_fields) bytes
-own_text_told law bytes means =
+own_form_is_text_of_data law bytes means =
     law (built base32_dnssec_fields) (is_specified base32_dnssec_fields refl) refl
     (codes "CO") bytes
     means
@@ -76,11 +78,11 @@ layout_is_one : OneLayout → (base : Base) → IsSpecified base
 layout_is_one law base is same =
     law base (built base64_fields) is (is_specified base64_fields refl) same
 
--- the layout of BASE64_MIME is one, and each that is one has a base
-layouts_told : Layouts → IsLayout (layout (built base64_mime_fields))
+-- the layout of BASE64_MIME keeps the rules, and bytes that keep them are the layout of a base
+layouts_are_of_bases : Layouts → IsLayout (layout (built base64_mime_fields))
     × ((bytes : List ℕ) → IsLayout bytes
     → (base : Base) × IsSpecified base × (layout base ≡ bytes))
-layouts_told law = (
+layouts_are_of_bases law = (
   (law (layout (built base64_mime_fields))).0
       (built base64_mime_fields, is_specified base64_mime_fields refl, refl),
   λ bytes rules. (law bytes).1 rules,

@@ -10,13 +10,13 @@ use Rattle.data_encoding_meaning.specs.text.Text.{text_of}
 use Rattle.data_encoding_meaning.proofs.judgement.BuiltLemmas.{Builds-by}
 use Rattle.data_encoding_meaning.proofs.vectors.Examples.{Has, built, by, octal_fields}
 
--- of the eighteen, by the test of causes; sixteen have no lines
-eighteen_told :
+-- Six of the eighteen have no cause of a second text, and twelve have one. Sixteen have no lines.
+six_have_one_text :
     (map (by has_one_text) canonical_fields ≡ replicate 6 (Some true))
     × (map (by has_one_text) second_text_fields ≡ replicate 12 (Some false))
     × (map (by (λ base. is_some base.wrapping)) (ordered_fields ++ unordered_fields)
     ≡ replicate 16 (Some false))
-eighteen_told = (refl, refl, refl)
+six_have_one_text = (refl, refl, refl)
 
 width_built : Builds (λ base. base.width ≡ 4) hexlower_fields
 width_built = Builds-by (λ base. base.width ≡ 4) hexlower_fields refl
@@ -34,17 +34,17 @@ letters_compared = record {
   );
 }
 
--- what follows from the order of texts for their data, and the other way round
-data_told : (one other first second : List ℕ) → CompareAlike one other first second
+-- texts are ordered as their data, and data as their texts
+compare_alike_both_ways : (one other first second : List ℕ) → CompareAlike one other first second
     → (IsBefore first second → IsBefore one other) × (first ≡ second → one ≡ other)
     × (IsBefore one other → IsBefore first second) × (one ≡ other → first ≡ second)
-data_told one other first second alike =
+compare_alike_both_ways one other first second alike =
     (alike.order.1, alike.equality.1, alike.order.0, alike.equality.0)
 
--- a pair whose order is broken: the order is not kept
-pair_told : (base : Base) (bytes others : List ℕ) → BreaksOrder base bytes others
+-- a base with a pair whose order is broken does not keep the order
+broken_pair_refutes_order : (base : Base) (bytes others : List ℕ) → BreaksOrder base bytes others
     → KeepsOrder base → ⊥
-pair_told base bytes others broken keeps =
+broken_pair_refutes_order base bytes others broken keeps =
     broken.not_in_order
     (keeps bytes others broken.are_bytes broken.others_are_bytes broken.in_order)
 
@@ -58,8 +58,9 @@ orders_broken :
     → BreaksOrder (built (padded_fields octal_fields)) (0 ∷ []) (0 ∷ 0 ∷ []))
 orders_broken = (
   λ broken keeps. ⊎_elim
-      (λ one. pair_told (built base32_dnscurve_fields) (0 ∷ []) (1 ∷ []) one keeps)
-      (λ other. pair_told (built base32_dnscurve_fields) (1 ∷ []) (32 ∷ []) other keeps)
+      (λ one. broken_pair_refutes_order (built base32_dnscurve_fields) (0 ∷ []) (1 ∷ []) one keeps)
+      (λ other. broken_pair_refutes_order (built base32_dnscurve_fields) (1 ∷ []) (32 ∷ []) other
+      keeps)
       (broken.least_significant_first refl),
   λ broken. broken.descending refl 51 (lit< tt) (lit< tt),
   λ broken. broken.padding_later 61 refl (lit< tt),

@@ -30,10 +30,10 @@ IsMime checks base =
     × (ignored_bytes base ≡ 10 ∷ 13 ∷ []) × (ignores_some base ≡ true)
     × (base.checks_trailing_bits ≡ checks) × (base.concatenates ≡ true)
 
--- what follows from the rules of each kind
-plain_told : (width : ℕ) (base : Base) → HasRules (plain_rules width) base
+-- the properties of a base of symbols alone follow from its rules
+plain_by_rules : (width : ℕ) (base : Base) → HasRules (plain_rules width) base
     → IsPlain MostSignificantFirst width base
-plain_told width base has = (
+plain_by_rules width base has = (
   has.width,
   has.order,
   has.padding,
@@ -44,9 +44,10 @@ plain_told width base has = (
   has.concatenates,
 )
 
-reversed_told : (width : ℕ) (base : Base) → HasRules (reversed_rules width) base
+-- and if the least significant bit is first
+reversed_by_rules : (width : ℕ) (base : Base) → HasRules (reversed_rules width) base
     → IsPlain LeastSignificantFirst width base
-reversed_told width base has = (
+reversed_by_rules width base has = (
   has.width,
   has.order,
   has.padding,
@@ -57,9 +58,10 @@ reversed_told width base has = (
   has.concatenates,
 )
 
-padded_told : (width : ℕ) (base : Base) → HasRules (padded_rules width) base
+-- and with padding
+padded_by_rules : (width : ℕ) (base : Base) → HasRules (padded_rules width) base
     → IsPadded width base
-padded_told width base has = (
+padded_by_rules width base has = (
   has.width,
   has.order,
   has.padding,
@@ -70,9 +72,10 @@ padded_told width base has = (
   has.concatenates,
 )
 
-mime_told : (checks : Bool) (base : Base)
+-- and in lines
+mime_by_rules : (checks : Bool) (base : Base)
     → HasRules (record mime_rules { checks_trailing_bits = checks }) base → IsMime checks base
-mime_told checks base has = (
+mime_by_rules checks base has = (
   has.width,
   has.order,
   has.padding,
@@ -90,10 +93,10 @@ hexadecimal_ruled : EighteenRules
     × IsPlain MostSignificantFirst 4 (built hexupper_fields)
     × IsPlain MostSignificantFirst 4 (built hexupper_permissive_fields)
 hexadecimal_ruled law = (
-  plain_told 4 _ (law.hexlower (built hexlower_fields) refl),
-  plain_told 4 _ (law.hexlower_permissive (built hexlower_permissive_fields) refl),
-  plain_told 4 _ (law.hexupper (built hexupper_fields) refl),
-  plain_told 4 _ (law.hexupper_permissive (built hexupper_permissive_fields) refl),
+  plain_by_rules 4 _ (law.hexlower (built hexlower_fields) refl),
+  plain_by_rules 4 _ (law.hexlower_permissive (built hexlower_permissive_fields) refl),
+  plain_by_rules 4 _ (law.hexupper (built hexupper_fields) refl),
+  plain_by_rules 4 _ (law.hexupper_permissive (built hexupper_permissive_fields) refl),
 )
 
 -- the eight of five bits, of which DNSCurve's has the least significant bit first
@@ -107,14 +110,14 @@ base32_ruled : EighteenRules
     × IsPlain MostSignificantFirst 5 (built base32_dnssec_fields)
     × IsPlain LeastSignificantFirst 5 (built base32_dnscurve_fields)
 base32_ruled law = (
-  padded_told 5 _ (law.base32 (built base32_fields) refl),
-  plain_told 5 _ (law.base32_nopad (built base32_nopad_fields) refl),
-  plain_told 5 _ (law.base32_nopad_nocase (built base32_nopad_nocase_fields) refl),
-  plain_told 5 _ (law.base32_nopad_visual (built base32_nopad_visual_fields) refl),
-  padded_told 5 _ (law.base32hex (built base32hex_fields) refl),
-  plain_told 5 _ (law.base32hex_nopad (built base32hex_nopad_fields) refl),
-  plain_told 5 _ (law.base32_dnssec (built base32_dnssec_fields) refl),
-  reversed_told 5 _ (law.base32_dnscurve (built base32_dnscurve_fields) refl),
+  padded_by_rules 5 _ (law.base32 (built base32_fields) refl),
+  plain_by_rules 5 _ (law.base32_nopad (built base32_nopad_fields) refl),
+  plain_by_rules 5 _ (law.base32_nopad_nocase (built base32_nopad_nocase_fields) refl),
+  plain_by_rules 5 _ (law.base32_nopad_visual (built base32_nopad_visual_fields) refl),
+  padded_by_rules 5 _ (law.base32hex (built base32hex_fields) refl),
+  plain_by_rules 5 _ (law.base32hex_nopad (built base32hex_nopad_fields) refl),
+  plain_by_rules 5 _ (law.base32_dnssec (built base32_dnssec_fields) refl),
+  reversed_by_rules 5 _ (law.base32_dnscurve (built base32_dnscurve_fields) refl),
 )
 
 -- the six of six bits, of which one does not check trailing bits
@@ -126,10 +129,10 @@ base64_ruled : EighteenRules
     × IsPadded 6 (built base64url_fields)
     × IsPlain MostSignificantFirst 6 (built base64url_nopad_fields)
 base64_ruled law = (
-  padded_told 6 _ (law.base64 (built base64_fields) refl),
-  plain_told 6 _ (law.base64_nopad (built base64_nopad_fields) refl),
-  mime_told true _ (law.base64_mime (built base64_mime_fields) refl),
-  mime_told false _ (law.base64_mime_permissive (built base64_mime_permissive_fields) refl),
-  padded_told 6 _ (law.base64url (built base64url_fields) refl),
-  plain_told 6 _ (law.base64url_nopad (built base64url_nopad_fields) refl),
+  padded_by_rules 6 _ (law.base64 (built base64_fields) refl),
+  plain_by_rules 6 _ (law.base64_nopad (built base64_nopad_fields) refl),
+  mime_by_rules true _ (law.base64_mime (built base64_mime_fields) refl),
+  mime_by_rules false _ (law.base64_mime_permissive (built base64_mime_permissive_fields) refl),
+  padded_by_rules 6 _ (law.base64url (built base64url_fields) refl),
+  plain_by_rules 6 _ (law.base64url_nopad (built base64url_nopad_fields) refl),
 )

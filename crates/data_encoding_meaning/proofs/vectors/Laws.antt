@@ -43,9 +43,9 @@ keys_differ law base is same =
     omega (arith, lengths)
 
 -- two bytes have four digits, in either case
-lengths_told : LengthOfText → (text : List ℕ)
+two_bytes_have_four_digits : LengthOfText → (text : List ℕ)
     → Means (built hexlower_permissive_fields) text (74 ∷ 107 ∷ []) → length text ≡ 4
-lengths_told law text means =
+two_bytes_have_four_digits law text means =
     law (built hexlower_permissive_fields) (is_specified hexlower_permissive_fields refl) refl refl
     text (74 ∷ 107 ∷ []) (0 ∷ 0 ∷ []) means refl
 
@@ -72,13 +72,15 @@ none_before law after error =
     refl refl
 
 -- an encoding without lines that keeps order has the most significant bit first
-order_told : Order → (base : Base) → IsSpecified base → base.wrapping ≡ None → KeepsOrder base
+order_needs_significant_first : Order → (base : Base) → IsSpecified base → base.wrapping ≡ None
+    → KeepsOrder base
     → base.order ≡ MostSignificantFirst
-order_told law base is unwrapped keeps = ((law base is unwrapped).1 keeps).most_significant_first
+order_needs_significant_first law base is unwrapped keeps =
+    ((law base is unwrapped).1 keeps).most_significant_first
 
--- and base64 does not: of `zA` and `0A` the second is before the first
-broken_told : NoOrder → BreaksOrder (built base64_nopad_fields) (204 ∷ []) (208 ∷ [])
-broken_told law =
+-- base64 does not keep order: `0A` is before `zA`, and its data after
+base64_breaks_order : NoOrder → BreaksOrder (built base64_nopad_fields) (204 ∷ []) (208 ∷ [])
+base64_breaks_order law =
     (law (built base64_nopad_fields) (is_specified base64_nopad_fields refl) refl).descending
     refl 51
     (lit< tt) (lit< tt)
@@ -105,14 +107,14 @@ second_texts law =
           (λ same. let no : 61 ≡ 126 = same in omega (arith, no)),
     )
 
--- the fault of a text of one byte more than a whole group, from its bytes
-told_of_text : FaultTold → SymbolTold → TrailingTold → WholeTold
+-- the bytes of a text decide its fault: the first byte that is not a symbol, or trailing bits
+faults_from_bytes : FaultTold → SymbolTold → TrailingTold → WholeTold
     → (fault_of (built base64_nopad_fields) (codes "SGVsQR") ≡ Some (at Trailing 5))
     × ((index : ℕ)
     → fault_of (built base64_nopad_fields) (codes "SGV!Q!") ≡ Some (at Symbol index) → index ≡ 3)
     × (fault_of (built base64_nopad_fields) (codes "SGVsQR") ≡ Some (at Trailing 5))
     × (fault_of (built hexlower_fields) (codes "4G4g") ≡ Some (at Symbol 1))
-told_of_text fault symbol trailing whole =
+faults_from_bytes fault symbol trailing whole =
     let base = built base64_nopad_fields in
     let is = is_specified base64_nopad_fields refl in
     let some : (a b : ℕ) → Some a ≡ Some b → b ≡ a = λ a b h. cc in (
@@ -123,15 +125,15 @@ told_of_text fault symbol trailing whole =
           (codes "4G4g") refl,
     )
 
--- the other way round: a first byte that is no symbol is the fault, and trailing bits are one only
--- at the last byte of a text of symbols
-told_back : SymbolTold → TrailingTold
+-- The other way round: the first byte that is not a symbol is the fault. A fault of trailing bits
+-- is at the last byte of a text of symbols.
+bytes_from_faults : SymbolTold → TrailingTold
     → (fault_of (built base64_nopad_fields) (codes "SGV!Q!") ≡ Some (at Symbol 3))
     × ((text : List ℕ) → length_fault (built base64_nopad_fields) (length text) ≡ None
     → (index : ℕ) → fault_of (built base64_nopad_fields) text ≡ Some (at Trailing index)
     → (first_other (built base64_nopad_fields) text ≡ None)
     × (leaves_bits (built base64_nopad_fields) text ≡ true) × (index + 1 ≡ length text))
-told_back symbol trailing =
+bytes_from_faults symbol trailing =
     let base = built base64_nopad_fields in
     let is = is_specified base64_nopad_fields refl in (
       (symbol base is refl refl (codes "SGV!Q!") refl 3).1 refl,
@@ -146,8 +148,8 @@ base64_and_url = record {
   ignored = refl;
 }
 
--- a text that is not that of its data, in the other; and one with a fault
-exchanged_told : MeansExchanged → FaultExchanged → SameInBoth → (bytes : List ℕ)
+-- if `+` is exchanged for `-`, a text means the same data in base64url, or has the same fault
+exchange_keeps_meaning_and_fault : MeansExchanged → FaultExchanged → SameInBoth → (bytes : List ℕ)
     → Means (built base64_fields) (codes "+A==+A==") bytes
     → Means (built base64url_fields) (codes "-A==-A==") bytes
     × (fault_of (built base64_fields) (codes "+A!=")
@@ -156,7 +158,7 @@ exchanged_told : MeansExchanged → FaultExchanged → SameInBoth → (bytes : L
     ≡ fault_of (built base64url_fields) (codes "-A+="))
     × (Means (built base64_fields) (codes "+A==") (248 ∷ [])
     ↔ Means (built base64url_fields) (codes "-A==") (248 ∷ []))
-exchanged_told means fault both bytes meant =
+exchange_keeps_meaning_and_fault means fault both bytes meant =
     let one = built base64_fields in
     let url = built base64url_fields in
     let is = is_specified base64_fields refl in
@@ -173,10 +175,10 @@ exchanged_told means fault both bytes meant =
       (both one url is also base64_and_url (codes "+A==") (codes "-A==") refl).1 (248 ∷ []),
     )
 
--- which bytes MIME ignores, and that HEXLOWER ignores none
-rules_told : EighteenRules → (ignores_some (built hexlower_fields) ≡ false)
+-- HEXLOWER ignores no byte, and the padding of BASE64_MIME is `=`
+hexlower_ignores_none : EighteenRules → (ignores_some (built hexlower_fields) ≡ false)
     × ((built base64_mime_fields).padding ≡ Some 61)
-rules_told law = (
+hexlower_ignores_none law = (
   (law.hexlower (built hexlower_fields) refl).ignores,
   (law.base64_mime (built base64_mime_fields) refl).padding,
 )

@@ -37,32 +37,32 @@ no_layout : IsLayout (replicate 514 0) → ⊥
 no_layout rules = omega (arith, rules.is_width.some)
 
 -- a symbol has neither no bit nor seven
-width_told : (bytes : List ℕ)
+width_is_one_to_six : (bytes : List ℕ)
     → (IsLayoutOf 0 bytes → ⊥) × (IsLayoutOf 7 bytes → ⊥)
-width_told bytes = (
+width_is_one_to_six bytes = (
   λ rules. omega (arith, rules.is_width.some),
   λ rules. omega (arith, rules.is_width.few),
 )
 
--- the flags of four bits are below 64 and have the bit 16
-flags_told : (bytes : List ℕ) → IsLayoutOf 4 bytes
+-- the flags of a layout of four bits are below 64 and have the bit 16
+four_bits_set_flag_16 : (bytes : List ℕ) → IsLayoutOf 4 bytes
     → (slice_index bytes 513 ≡ 64 → ⊥) × (slice_index bytes 513 / 16 % 2 ≡ 1)
-flags_told bytes rules = (λ flags. omega (arith, rules.flags, flags), rules.checked refl)
+four_bits_set_flag_16 bytes rules = (λ flags. omega (arith, rules.flags, flags), rules.checked refl)
 
--- the bit 32 comes with padding
-single_told : (bytes : List ℕ) → IsLayoutOf 6 bytes → slice_index bytes 513 / 32 % 2 ≡ 1
+-- a layout whose flags have the bit 32 has padding
+flag_32_needs_padding : (bytes : List ℕ) → IsLayoutOf 6 bytes → slice_index bytes 513 / 32 % 2 ≡ 1
     → slice_index bytes 512 ≡ 128 → ⊥
-single_told bytes rules single none = omega (arith, rules.single single, none)
+flag_32_needs_padding bytes rules single none = omega (arith, rules.single single, none)
 
--- of four bits, the symbols begin again at byte 16, that of value 15 is ASCII and has its value, an
--- entry below 128 is below 16, any from 16 on is 128 to 130, and byte 200 means nothing
-entries_told : (bytes : List ℕ) → IsLayoutOf 4 bytes
+-- In a layout of four bits the symbols are repeated from byte 16 on, and the symbol of value 15 is
+-- ASCII and has that value. An entry is below 16 or from 128 to 130, and byte 200 is invalid.
+entries_of_four_bits : (bytes : List ℕ) → IsLayoutOf 4 bytes
     → (slice_index bytes 17 ≡ slice_index bytes 1) × (slice_index bytes 15 < 128)
     × (entry_in bytes (slice_index bytes 15) ≡ 15)
     × (entry_in bytes 65 < 128 → entry_in bytes 65 < 16)
     × (16 ≤ entry_in bytes 65 → (128 ≤ entry_in bytes 65) × (entry_in bytes 65 ≤ 130))
     × (entry_in bytes 200 ≡ 128)
-entries_told bytes rules =
+entries_of_four_bits bytes rules =
     let last = rules.own 15 (lit< tt) in
     let letter = rules.entries 65 (lit< tt) in (
       rules.repeated 17 (lit< tt),
@@ -73,14 +73,14 @@ entries_told bytes rules =
       rules.invalid_from_128 200 (lit≤ tt) (lit< tt),
     )
 
--- padding of four bits is none; of six bits byte 512 is 128 or `=`, whose entry is 130 then and
--- only then
-padding_told : (bytes : List ℕ)
+-- A layout of four bits has no padding. In one of six bits byte 512 is not 129. The entry of `=` is
+-- 130 if that byte is `=`, and not if it is 128.
+padding_byte_has_its_entry : (bytes : List ℕ)
     → (TellsPadding 4 bytes → slice_index bytes 512 ≡ 128)
     × (TellsPadding 6 bytes → slice_index bytes 512 ≡ 129 → ⊥)
     × (TellsPadding 6 bytes → slice_index bytes 512 ≡ 128 → entry_in bytes 61 ≡ 130 → ⊥)
     × (TellsPadding 6 bytes → slice_index bytes 512 ≡ 61 → entry_in bytes 61 ≡ 130)
-padding_told bytes = (
+padding_byte_has_its_entry bytes = (
   λ it. ⊎_elim (λ none. none.0) (λ some. absurd (some.2 refl)) it,
   λ it high. ⊎_elim (λ none. omega (arith, none.0, high)) (λ some. omega (arith, some.0, high)) it,
   λ it none is. ⊎_elim (λ no. no.1 61 (lit< tt) is) (λ some. omega (arith, some.0, none)) it,
@@ -88,33 +88,34 @@ padding_told bytes = (
       (λ some. rw equals at some.1) it,
 )
 
--- what follows byte 513: nothing, and LF is not ignored; or one byte, which is 0, and some byte is
-wrapping_told : (bytes : List ℕ) → TellsWrapping 6 bytes
+-- After byte 513 there is nothing, and LF is not ignored, or one byte, which is 0, and some byte is
+-- ignored.
+end_of_layout_by_length : (bytes : List ℕ) → TellsWrapping 6 bytes
     → (length bytes ≡ 513 → ⊥) × (length bytes ≡ 514 → IsIgnoredIn bytes 10 → ⊥)
     × (length bytes ≡ 515 → (slice_index bytes 514 ≡ 0) × ((byte : ℕ) × IsIgnoredIn bytes byte))
-wrapping_told bytes (inl none) = (
+end_of_layout_by_length bytes (inl none) = (
   λ few. omega (arith, none.0, few),
   λ ends ignored. none.1 10 ignored,
   λ one. absurd (omega (arith, none.0, one)),
 )
-wrapping_told bytes (inr (inl some)) = (
+end_of_layout_by_length bytes (inr (inl some)) = (
   λ few. omega (arith, some.0, few),
   λ ends ignored. omega (arith, some.0, ends),
   λ one. (some.1, some.2),
 )
-wrapping_told bytes (inr (inr lines)) = (
+end_of_layout_by_length bytes (inr (inr lines)) = (
   λ few. omega (arith, lines.ended, few),
   λ ends ignored. omega (arith, lines.ended, ends),
   λ one. absurd (omega (arith, lines.ended, one)),
 )
 
--- of six bits no line has 0, 6 or 256 characters, and lines end with 1 to 255 bytes, which are
--- ignored
-lines_told : (bytes : List ℕ) → TellsLines 6 bytes
+-- In a layout of six bits no line has 0, 6 or 256 characters. Lines end with 1 to 255 bytes, which
+-- are ignored.
+lines_are_short_and_whole : (bytes : List ℕ) → TellsLines 6 bytes
     → (slice_index bytes 514 ≡ 0 → ⊥) × (slice_index bytes 514 ≡ 6 → ⊥)
     × (slice_index bytes 514 ≡ 256 → ⊥) × (length bytes ≡ 515 → ⊥) × (length bytes ≡ 771 → ⊥)
     × IsIgnoredIn bytes (slice_index bytes 515)
-lines_told bytes lines = (
+lines_are_short_and_whole bytes lines = (
   λ none. omega (arith, lines.some, none),
   λ six. omega (arith, lines.whole, six),
   λ many. omega (arith, lines.short, many),
@@ -124,12 +125,12 @@ lines_told bytes lines = (
 )
 
 -- byte 200 is not ignored, and if LF is, its entry is 129
-ignored_told : (bytes : List ℕ)
+ignored_entry_is_129 : (bytes : List ℕ)
     → (IsIgnoredIn bytes 200 → ⊥) × (IsIgnoredIn bytes 10 → entry_in bytes 10 ≡ 129)
-ignored_told bytes = (λ ignored. omega (arith, ignored.0), λ ignored. ignored.1)
+ignored_entry_is_129 bytes = (λ ignored. omega (arith, ignored.0), λ ignored. ignored.1)
 
--- in any layout of six bits with a byte after byte 514, the lines are as described
-six_bits_told : (bytes : List ℕ) → IsLayoutOf 6 bytes → 515 < length bytes
+-- a layout of six bits with a byte after byte 514 has lines, which keep their rules
+long_layout_has_lines : (bytes : List ℕ) → IsLayoutOf 6 bytes → 515 < length bytes
     → (slice_index bytes 512 ≡ 61 → entry_in bytes 61 ≡ 130) × TellsLines 6 bytes
-six_bits_told bytes rules more =
-    ((padding_told bytes).3 rules.padding, lines_of 6 bytes more rules.end)
+long_layout_has_lines bytes rules more =
+    ((padding_byte_has_its_entry bytes).3 rules.padding, lines_of 6 bytes more rules.end)

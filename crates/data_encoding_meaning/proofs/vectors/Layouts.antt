@@ -235,13 +235,13 @@ judged_by_earlier_pairs : Hold (first_refusal two_pairs) (
     )
 judged_by_earlier_pairs = refl
 
--- what bytes mean in the end, or the first refusal
-meanings_told :
+-- the meanings of all bytes, or the first refusal
+meanings_or_first_refusal :
     (meanings_of zero_and_one
     ≡ Ok (replicate 48 Invalid ++ SymbolCharacter 0 ∷ SymbolCharacter 1 ∷ replicate 78 Invalid))
     × (meanings_of (zero_and_one ++ Define 48 Ignored ∷ Define 49 Ignored ∷ [])
     ≡ Err (Duplicate 48))
-meanings_told = (refl, refl)
+meanings_or_first_refusal = (refl, refl)
 
 -- without padding texts may be concatenated, and bits that can't be left over count as checked
 bases_built :
@@ -267,8 +267,8 @@ parts_of_layouts :
     × (column_of None ≡ 0) × (separator_of None ≡ [])
 parts_of_layouts = (refl, refl, refl, refl, refl, refl, refl)
 
--- base32 that decodes `01l8` as `OIIB`
-translations_told :
+-- `018l` of BASE32_NOPAD_VISUAL are translated, and their own bytes are `OIBI`
+translated_bytes_have_own_bytes :
     (by translated_bytes base32_nopad_visual_fields ≡ Some (codes "018l"))
     × (by (λ base. map (own_byte base) (codes "018l")) base32_nopad_visual_fields
     ≡ Some (codes "OIBI"))
@@ -277,7 +277,7 @@ translations_told :
     × (by (λ base. is_translated base 49 (Some 73)) base32_nopad_visual_fields ≡ Some true)
     × (by (λ base. is_translated base 33 None) base32_nopad_visual_fields ≡ Some false)
     × (by ignored_bytes base64_mime_fields ≡ Some (10 ∷ 13 ∷ []))
-translations_told = (refl, refl, refl, refl, refl, refl)
+translated_bytes_have_own_bytes = (refl, refl, refl, refl, refl, refl)
 
 -- byte 513 of a layout
 layout_flags :

@@ -13,16 +13,17 @@ use Rattle.data_encoding_meaning.specs.laws.Order.{IsOrdered, KeepsOrder}
 use Rattle.data_encoding_meaning.proofs.vectors.Examples.{built}
 use Rattle.data_encoding_meaning.proofs.vectors.Laws.{is_specified}
 
--- a text of hexadecimal that means `J` is `4a`
-canonical_told : Canonical → (text : List ℕ) → Means (built hexlower_fields) text (codes "J")
+-- the only text of hexadecimal that means `J` is `4a`
+hexadecimal_has_one_text : Canonical → (text : List ℕ)
+    → Means (built hexlower_fields) text (codes "J")
     → text ≡ codes "4a"
-canonical_told law text means =
+hexadecimal_has_one_text law text means =
     law (built hexlower_fields) (is_specified hexlower_fields refl) refl text (codes "J") means
 
--- hexadecimal has no cause of a second text, and base64 has one
-causes_told : CanonicalByCauses
+-- hexadecimal has no cause of a second text and is canonical, and base64 has one
+canonical_without_causes : CanonicalByCauses
     → IsCanonical (built hexlower_fields) × (IsCanonical (built base64_fields) → ⊥)
-causes_told law = (
+canonical_without_causes law = (
   (law (built hexlower_fields) (is_specified hexlower_fields refl)).0 refl,
   λ canonical. false≢true
       ((law (built base64_fields) (is_specified base64_fields refl)).1 canonical),
@@ -105,7 +106,7 @@ ordered_others law = (
   law.1 9 hexlower_fields (lit< tt) (built base64url_nopad_fields) refl,
 )
 
--- if it is ordered a base keeps the order, as `order_told` has it the other way round
+-- an ordered base keeps the order, the converse of `order_needs_significant_first`
 ordered_keeps : Order → IsOrdered (built hexlower_fields) → KeepsOrder (built hexlower_fields)
 ordered_keeps law =
     (law (built hexlower_fields) (is_specified hexlower_fields refl) refl).0

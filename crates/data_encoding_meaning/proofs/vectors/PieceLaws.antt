@@ -112,17 +112,18 @@ faulty_read law text bytes read means =
     (record { read = 4; written = 3; error = record { position = 4; kind = Symbol } })
     read refl (record { not_length = refl; joins = refl; whole = inr refl }) means
 
--- texts that are whole groups: with padding, of four bits, and of four characters without padding
+-- the kept bytes of a text are whole groups of `count` bytes
 abbrev IsWhole : Base → List ℕ → ℕ → Type 0
 IsWhole base text count = length (kept base text) % count ≡ 0
 
-wholes_told : AreWhole
+-- texts with padding, of four bits, or of four characters without padding are whole groups
+texts_are_whole_groups : AreWhole
     → ((text bytes : List ℕ) → Means lines text bytes → IsWhole lines text 4)
     × ((text bytes : List ℕ) → Means (built hexlower_fields) text bytes
     → IsWhole (built hexlower_fields) text 2)
     × ((bytes : List ℕ) → Means (built base64_nopad_fields) (codes "SGVs") bytes
     → IsWhole (built base64_nopad_fields) (codes "SGVs") 4)
-wholes_told law = (
+texts_are_whole_groups law = (
   λ text bytes means. law lines (is_specified base64_mime_fields refl) text bytes means (inl refl),
   λ text bytes means. law (built hexlower_fields)
       (is_specified hexlower_fields refl) text bytes means
@@ -151,16 +152,16 @@ none_final : EndsNowhere → (parts : List (List Positioned))
     → list_any (is_final (built base64_fields)) parts ≡ false
 none_final law parts = law (built base64_fields) refl parts
 
--- where texts end with padding, one that means `A` has a final group, and one that means `Hel`
--- none; and where they may be concatenated no text has one
+-- Without concatenation the padded group of `A` is final, and `Hel` has no final group. With
+-- concatenation no text has one.
 abbrev HasFinal : Base → List ℕ → Bool → Type 0
 HasFinal base text has = list_any (is_final base) (groups base text) ≡ has
 
-ends_told : TellsEnd → (text : List ℕ)
+padded_group_is_final : TellsEnd → (text : List ℕ)
     → (Means (built single_fields) text (codes "A") → HasFinal (built single_fields) text true)
     × (Means (built single_fields) text (codes "Hel") → HasFinal (built single_fields) text false)
     × (Means (built base64_fields) text (codes "A") → HasFinal (built base64_fields) text false)
-ends_told law text =
+padded_group_is_final law text =
     let base = built single_fields in
     let is = is_specified single_fields refl in (
       law base is text (codes "A"),
@@ -175,17 +176,18 @@ three_are_whole law text means =
     law (built base64_nopad_fields) (is_specified base64_nopad_fields refl) text (codes "Hel") means
     refl
 
--- what is kept of `SGVsbG` CR LF, and what was appended
-kept_told : (len : ℕ) (fault : Option DecodeError) (held : List Positioned) (ended : Bool)
+-- of `SGVsbG` CR LF the two bytes `bG` are held, without a fault
+two_bytes_are_held : (len : ℕ) (fault : Option DecodeError) (held : List Positioned) (ended : Bool)
     → HasRead lines (codes "SGVsbG" ++ 13 ∷ 10 ∷ []) len fault held ended
     → (len ≡ 8) × (fault ≡ None) × (held ≡ positioned_from 4 (codes "bG")) × (ended ≡ false)
-kept_told len fault held ended read =
+two_bytes_are_held len fault held ended read =
     (read.counted, read.first, read.holds read.first, read.ends read.first)
 
-appended_told : (before output : List ℕ)
+-- and the bytes of its whole group were appended
+whole_group_appended : (before output : List ℕ)
     → HasDecoded lines before (codes "SGVsbG" ++ 13 ∷ 10 ∷ []) output
     → output ≡ before ++ codes "Hel"
-appended_told before output decoded = decoded.appended
+whole_group_appended before output decoded = decoded.appended
 
 -- no fault of a whole group is of a length, in a text that ends with padding, after six characters
 -- without padding, or where a byte may be ignored and three symbols mean bytes

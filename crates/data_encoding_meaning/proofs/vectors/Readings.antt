@@ -207,10 +207,11 @@ refusals_of_texts :
     × (RefusesBy (base_of base64_mime_fields) (codes "AAA") OutOfMemory → ⊥)
 refusals_of_texts = (refl, (refl, lit< tt), λ h. let e = h.0 in cc, λ h. omega (arith, h.1))
 
--- what a text with a fault is refused for
-refusal_told : (error : DecodeError) → IsRefusal (built hexlower_fields) (codes "4G") (Error error)
+-- a text with a fault is refused for this fault
+refusal_is_fault : (error : DecodeError)
+    → IsRefusal (built hexlower_fields) (codes "4G") (Error error)
     → record { position = 1; kind = Symbol } ≡ error
-refusal_told error is = cc
+refusal_is_fault error is = cc
 
 -- how far a text is read, given a fault at 3: only that of a length is read up to
 read_by_kind :

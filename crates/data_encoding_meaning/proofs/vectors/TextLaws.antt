@@ -16,31 +16,34 @@ use Rattle.data_encoding_meaning.specs.laws.Verdicts.{FixedLength, MeansSound}
 use Rattle.data_encoding_meaning.proofs.vectors.Examples.{built, single_fields}
 use Rattle.data_encoding_meaning.proofs.vectors.Laws.{is_specified}
 
--- base64 is built from the fields that its base gives back
-fields_told : SpecificationAgain → base_of base64_fields ≡ Ok (built base64_fields)
-fields_told law = law (built base64_fields) (is_specified base64_fields refl)
+-- base64 is built again from the fields of its base
+base64_is_built_again : SpecificationAgain → base_of base64_fields ≡ Ok (built base64_fields)
+base64_is_built_again law = law (built base64_fields) (is_specified base64_fields refl)
 
--- the text of `Hi` means `Hi`, and no text means two things
-round_told : RoundTrip → Means (built base64_fields) (codes "SGk=") (codes "Hi")
-round_told law =
+-- the text of `Hi` means `Hi`
+text_means_its_data : RoundTrip → Means (built base64_fields) (codes "SGk=") (codes "Hi")
+text_means_its_data law =
     law (built base64_fields) (is_specified base64_fields refl) (codes "Hi")
     (All-from_recursion (λ byte. byte < 256) (codes "Hi") (lit< tt, (lit< tt, tt)))
 
-one_told : OneMeaning → (base : Base) → IsSpecified base → (text : List ℕ)
+-- a text that means `Hi` does not mean `Ho`
+text_means_one_thing : OneMeaning → (base : Base) → IsSpecified base → (text : List ℕ)
     → Means base text (codes "Hi") → Means base text (codes "Ho") → ⊥
-one_told law base is text one other =
+text_means_one_thing law base is text one other =
     let last : 105 ≡ 111 =
     ap (λ l. get_or l 1 0) (law base is text (codes "Hi") (codes "Ho") one other) in
     omega (arith, last)
 
--- without a fault a text means its sound bytes, and these alone; with a fault it means nothing
-sound_told : SoundMeans → Means (built base64_fields) (codes "SGk=") (codes "Hi")
-sound_told law = law (built base64_fields) (is_specified base64_fields refl) (codes "SGk=") refl
+-- without a fault a text means its sound bytes
+sound_text_means_its_bytes : SoundMeans → Means (built base64_fields) (codes "SGk=") (codes "Hi")
+sound_text_means_its_bytes law =
+    law (built base64_fields) (is_specified base64_fields refl) (codes "SGk=") refl
 
-meant_told : MeansSound → Means (built base64_fields) (codes "SGk=") (codes "Hi")
+-- and these alone, and with a fault it means nothing
+means_only_sound_bytes : MeansSound → Means (built base64_fields) (codes "SGk=") (codes "Hi")
     × ((bytes : List ℕ) → Means (built base64_fields) (codes "SGk=") bytes → codes "Hi" ≡ bytes)
     × ((bytes : List ℕ) → Means (built base64_fields) (codes "SG!=") bytes → ⊥)
-meant_told law =
+means_only_sound_bytes law =
     let base = built base64_fields in
     let is = is_specified base64_fields refl in (
       (law base is (codes "SGk=") (codes "Hi")).1 (refl, refl),
@@ -54,10 +57,11 @@ two_symbols bytes =
     PlainMeans (built base64_nopad_fields) (map (meaning (built base64_nopad_fields)) (codes "QQ"))
     bytes
 
-unpadded_told : Unpadded → (two_symbols (codes "A")
+-- an unpadded text means the bytes of its symbols
+unpadded_means_as_symbols : Unpadded → (two_symbols (codes "A")
     → Means (built base64_nopad_fields) (codes "QQ") (codes "A"))
     × ((bytes : List ℕ) → Means (built base64_nopad_fields) (codes "QQ") bytes → two_symbols bytes)
-unpadded_told law =
+unpadded_means_as_symbols law =
     let base = built base64_nopad_fields in
     let is = is_specified base64_nopad_fields refl in (
       (law base is refl (codes "QQ") (codes "A")).1,
@@ -119,7 +123,8 @@ lines_resumed law next =
       error = record { position = 6; kind = LengthFault };
     }) refl refl (inl (refl, inl refl))
 
-resumed_told : (next more : List ℕ)
+-- the read part means `Hel`, and the rest adds its data, its fault and its sound bytes
+resuming_joins_rest : (next more : List ℕ)
     → Resumes (built base64_mime_fields) stopped next 4 (codes "Hel")
     → Means (built base64_mime_fields) (codes "SGVs") (codes "Hel")
     × (Means (built base64_mime_fields) (13 ∷ 10 ∷ codes "bG" ++ next) more
@@ -128,20 +133,22 @@ resumed_told : (next more : List ℕ)
     ≡ shifted 4 (fault_of (built base64_mime_fields) (13 ∷ 10 ∷ codes "bG" ++ next)))
     × (sound_bytes (built base64_mime_fields) (stopped ++ next)
     ≡ codes "Hel" ++ sound_bytes (built base64_mime_fields) (13 ∷ 10 ∷ codes "bG" ++ next))
-resumed_told next more resumes =
+resuming_joins_rest next more resumes =
     (resumes.read_means, resumes.rest_means more, resumes.fault, resumes.sound)
 
--- the length of a text that means two bytes, and that of the text of any data
-most_told : MeansMost → (text : List ℕ) → Means (built hexlower_fields) text (codes "Hi")
+-- the length of a text of hexadecimal decides the length of its data
+data_length_by_text_length : MeansMost → (text : List ℕ)
+    → Means (built hexlower_fields) text (codes "Hi")
     → 2 ≡ 4 * length text / 8
-most_told law text means =
+data_length_by_text_length law text means =
     law (built hexlower_fields) (is_specified hexlower_fields refl) refl refl text
     (codes "Hi") means
 
-length_again_told : LengthAgain → (bytes : List ℕ)
+-- the length of the text of data decodes to the length of the data
+decoded_len_of_text : LengthAgain → (bytes : List ℕ)
     → decoded_len (built base64_nopad_fields) (length (text_of (built base64_nopad_fields) bytes))
     ≡ Ok (length bytes)
-length_again_told law bytes =
+decoded_len_of_text law bytes =
     law (built base64_nopad_fields) (is_specified base64_nopad_fields refl) refl refl bytes
 
 -- if base64 without padding is canonical, each text that means two bytes has three characters

@@ -1,4 +1,4 @@
--- Worked rows of what follows from the definitions of texts and of specifications.
+-- Worked rows of consequences of the definitions of texts and of specifications.
 use Rattle.std.proofs.Common.{◌≡◌, ℕ, ◌<◌, ◌%◌, false, List, [], ◌∷◌, ◌++◌, ◌∙◌, ◌≤◌, length, map, flat_map, replicate, codes, All, Some, Ok, refl, sym, ap, arith, lit<, ⊎_elim}
 use Rattle.std.proofs.lemmas.Bool.{false≢true}
 use Rattle.std.proofs.lemmas.List.Elements.{recursion_from_All}
@@ -53,12 +53,12 @@ plain_group_means : (group : List Character) (bytes : List ℕ)
     → (means : GroupMeans plain group bytes) → means.padding ≡ 0
 plain_group_means group bytes means = means.is_plain refl
 
--- no group means no bytes; and what two groups mean, of which the first is not final
-groups_told : (bytes : List ℕ) → (GroupsMean padded [] bytes → bytes ≡ [])
+-- No group means no bytes. Two groups mean the bytes of both, in order.
+groups_mean_pieces : (bytes : List ℕ) → (GroupsMean padded [] bytes → bytes ≡ [])
     × ((one other : List Character) → GroupsMean padded (one ∷ other ∷ []) bytes
     → (piece more : List ℕ) × (bytes ≡ piece ++ more) × GroupMeans padded one piece
     × GroupsMean padded (other ∷ []) more)
-groups_told bytes =
+groups_mean_pieces bytes =
     (λ means. means, λ one other means. (means.0, means.1, means.2, means.3, means.5))
 
 -- where texts end with padding, no group follows one that has some
@@ -73,9 +73,10 @@ text_means : (bytes : List ℕ) → Means padded (codes "SGVs") bytes
 text_means bytes means = (means.0, means.1, means.2, means.3, means.5)
 
 -- two short texts of the same data refute that a base is canonical
-second_told : (base : Base) (one other bytes : List ℕ) → AreTwoTexts base one other bytes
+second_text_refutes_canonical : (base : Base) (one other bytes : List ℕ)
+    → AreTwoTexts base one other bytes
     → IsCanonical base → ⊥
-second_told base one other bytes two canonical =
+second_text_refutes_canonical base one other bytes two canonical =
     let short : length one ≤ 16 = two.one_is_short in
     let few : length other ≤ 16 = two.other_is_short in
     two.differ (canonical one other bytes (omega arith) (omega arith) two.one_means two.other_means)
@@ -140,22 +141,25 @@ differ_in_more = (
 some_same : (one other : Fields) → Some one ≡ Some other → one ≡ other
 some_same one other same = cc
 
--- a base that is built from the fields of hexadecimal is that of hexadecimal
-specified_told : (base : Base) → (is : IsSpecified base) → is.fields ≡ hexlower_fields
+-- a base that is specified by the fields of HEXLOWER is built from them
+specified_base_is_built : (base : Base) → (is : IsSpecified base) → is.fields ≡ hexlower_fields
     → base_of hexlower_fields ≡ Ok base
-specified_told base is same = ap base_of (sym same) ∙ is.is_built
+specified_base_is_built base is same = ap base_of (sym same) ∙ is.is_built
 
--- and the base of the name `BASE64`, or of the number 12, is that of base64; 18 has none
-named_told : (base : Base) → (IsNamed (codes "BASE64") base → base_of base64_fields ≡ Ok base)
+-- The base of the name `BASE64`, or of the number 12, is built from the fields of base64. 18 has
+-- no base.
+named_base_is_built : (base : Base)
+    → (IsNamed (codes "BASE64") base → base_of base64_fields ≡ Ok base)
     × (IsNumbered 12 base → base_of base64_fields ≡ Ok base) × (IsNumbered 18 base → ⊥)
-named_told base = (
+named_base_is_built base = (
   λ is. ap base_of (some_same _ _ is.is_known) ∙ is.is_built,
   λ is. ap base_of (some_same _ _ is.is_known) ∙ is.is_built,
   λ is. let none = is.is_known in cc,
 )
 
--- of `hello`, where `lo` is held: whole groups were encoded, and their text was appended
-encoded_told : (before text : List ℕ) → HasEncoded padded before (codes "hello") text (codes "lo")
+-- if `lo` of `hello` is held, whole groups were encoded, and their text was appended
+whole_groups_encoded : (before text : List ℕ)
+    → HasEncoded padded before (codes "hello") text (codes "lo")
     → (encoded : List ℕ) × (codes "hello" ≡ encoded ++ codes "lo") × (length encoded % 3 ≡ 0)
     × (text ≡ before ++ text_of padded encoded)
-encoded_told before text has = (has.encoded, has.are_bytes, has.is_aligned, has.is_written)
+whole_groups_encoded before text has = (has.encoded, has.are_bytes, has.is_aligned, has.is_written)

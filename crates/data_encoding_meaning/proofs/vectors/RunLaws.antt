@@ -34,13 +34,13 @@ run_faults law =
       law base is (codes "SG" ++ 10 ∷ codes "s"),
     )
 
--- `SGVs!A==` is read and written up to its second group
-runs_told : RunTold
+-- `SGVs!A==` is read and written up to the fault of its second group
+run_stops_at_fault : RunTold
     → (fault_of (ignoring_nothing (built base64_mime_fields)) (codes "SGVs!A==")
     ≡ Some (at Symbol 4))
     × (partial_of (ignoring_nothing (built base64_mime_fields)) (codes "SGVs!A==")
     ≡ Some (record { read = 4; written = 3; error = at Symbol 4 }))
-runs_told law =
+run_stops_at_fault law =
     let base = built base64_mime_fields in
     let plain = λ (byte : ℕ). is_ignored (meaning base byte) ≡ false in
     let same = law base (is_specified base64_mime_fields refl) (codes "SGVs!A==")

@@ -12,17 +12,17 @@ use Rattle.data_encoding_meaning.proofs.vectors.Examples.{Has, Hold, by, uncheck
 abbrev at : DecodeKind → ℕ → Option (Option DecodeError)
 at kind position = Some (Some (record { position = position; kind = kind }))
 
--- the first byte that is no symbol, in whatever group; then bits that are left
-faults_told : Hold (λ text. by (λ base. told_fault base text) base64_nopad_fields) (
+-- the fault is the first byte that is not a symbol, in any group, or else trailing bits
+symbol_fault_in_any_group : Hold (λ text. by (λ base. told_fault base text) base64_nopad_fields) (
     (codes "SGVsbG8", Some None)
     ∷ (codes "SGV!bG!", at Symbol 3)
     ∷ (codes "SGVsbG9", at Trailing 6)
     ∷ (codes "SGVs!G9", at Symbol 4)
     ∷ ([], Some None)
     ∷ [])
-faults_told = refl
+symbol_fault_in_any_group = refl
 
--- which is none if they are not checked
+-- trailing bits are not a fault if they are not checked
 faults_unchecked : Hold (λ text.
     by (λ base. told_fault base text) (unchecked base64_nopad_fields)) (
     (codes "SGVsbG9", Some None)
@@ -41,20 +41,21 @@ others_found :
     × (by (λ base. leaves_bits base (codes "QR")) (unchecked base64_nopad_fields) ≡ Some false)
 others_found = (refl, refl, refl, refl, refl, refl, refl)
 
-told_first :
+-- a byte that is not a symbol comes before trailing bits
+symbol_before_trailing :
     (told_by (Some 3) true 7 ≡ Some (record { position = 3; kind = Symbol }))
     × (told_by None true 7 ≡ Some (record { position = 6; kind = Trailing }))
     × (told_by None false 7 ≡ None)
-told_first = (refl, refl, refl)
+symbol_before_trailing = (refl, refl, refl)
 
 abbrev ruled : (rules : Rules) → Fields → Type 0
 ruled rules fields = Has fields (HasRules rules)
 
--- one of each kind of rules
-rules_had :
+-- an encoding of each kind keeps the rules of its kind
+each_kind_has_its_rules :
     ruled (plain_rules 4) hexlower_fields × ruled (padded_rules 6) base64_fields
     × ruled mime_rules base64_mime_fields × ruled (reversed_rules 5) base32_dnscurve_fields
-rules_had = (
+each_kind_has_its_rules = (
   record {
     width = refl;
     order = refl;
