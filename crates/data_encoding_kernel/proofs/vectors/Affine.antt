@@ -65,7 +65,7 @@ forms_agree :
 unfolding digits_and_plus
 forms_agree = (refl, refl, refl, refl, refl, refl)
 
--- a table that agrees with a form has it
-agreement_told : (values : List ℕ) → 128 ≤ length values
+-- a table that agrees with a form has this form
+agreeing_table_has_form : (values : List ℕ) → 128 ≤ length values
     → agrees values plain_digits_and_plus ≡ true → HoldsAffine values digits_and_plus
-agreement_told values = agrees-holds digits_and_plus values
+agreeing_table_has_form values = agrees-holds digits_and_plus values

@@ -55,7 +55,8 @@ offsets_agree :
     × (has_sums (symbols_with 95) no_offsets ≡ true)
 offsets_agree = (refl, refl, refl, refl, refl, refl)
 
--- a table that agrees with offsets has them
-offsets_told : (symbols : List ℕ) → 64 ≤ length symbols → has_sums symbols plain_base64 ≡ true
+-- a table that agrees with offsets has these offsets
+agreeing_table_has_offsets : (symbols : List ℕ) → 64 ≤ length symbols
+    → has_sums symbols plain_base64 ≡ true
     → HoldsOffsetAlphabet symbols base64_alphabet
-offsets_told symbols = sums-hold base64_alphabet symbols
+agreeing_table_has_offsets symbols = sums-hold base64_alphabet symbols
