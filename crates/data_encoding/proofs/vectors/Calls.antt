@@ -45,28 +45,29 @@ text_answered = λ old new. (
 )
 
 -- a symbol has one to six bits, and a group one to five bytes
-counts_told : (base : Base) (bits bytes : ℕ) → IsBitWidth base bits → IsGroupBytes base bytes
+width_and_group_bounded : (base : Base) (bits bytes : ℕ) → IsBitWidth base bits
+    → IsGroupBytes base bytes
     → (0 < bits) × (bits ≤ 6) × IsSpecified base × (0 < bytes) × (bytes ≤ 5) × IsSpecified base
-counts_told base bits bytes width group =
+width_and_group_bounded base bits bytes width group =
     (width.width.some, width.width.few, width.base, group.some, group.few, group.base)
 
--- a text is bounded, and one of no data is empty
-text_length_told : (base : Base) (count : ℕ)
+-- the length of a text is bounded, and the text of no data is empty
+text_length_bounded : (base : Base) (count : ℕ)
     → (IsEncodeLen base 5 count → (count ≤ 1315) × IsSpecified base)
     × (IsEncodeLen base 0 count → count ≡ 0)
-text_length_told base count = (λ len. (len.most, len.base), λ len. len.empty refl)
+text_length_bounded base count = (λ len. (len.most, len.base), λ len. len.empty refl)
 
--- the fault of a length is inside the text, and a text means no more than is told
-most_told : (base : Base) (most : ℕ) (error : DecodeError) (bytes : List ℕ)
+-- the fault of a length is inside the text, and a text means no more bytes than its length allows
+decoded_length_bounded : (base : Base) (most : ℕ) (error : DecodeError) (bytes : List ℕ)
     → (IsDecodeLen base 5 (Err error) → (error.position < 5) × IsSpecified base)
     × (IsDecodeLen base 8 (Ok most) → Means base (codes "SGVsbG8=") bytes → length bytes ≤ most)
-most_told base most error bytes = (
+decoded_length_bounded base most error bytes = (
   λ len. (len.position, len.base),
   λ len means. len.most (codes "SGVsbG8=") bytes refl means,
 )
 
--- what was read means what was written; a text that means data has no fault
-decoding_told :
+-- the read part means the written bytes, and a text that means data is decoded
+read_part_means_written :
     Has hexlower_fields (λ base. (old new : List ℕ)
     → ((n : ℕ) → DecodesText base (codes "4f") old new (Ok n)
     → (n ≤ length new) × Means base (codes "4f") (take n new) × (n ≡ length new)
@@ -77,19 +78,19 @@ decoding_told :
     × (written ≤ 1))
     × ((partial : DecodePartial) (bytes : List ℕ)
     → DecodesText base (codes "4f") old new (Err partial) → Means base (codes "4f") bytes → ⊥))
-decoding_told = λ old new. (
+read_part_means_written = λ old new. (
   (λ n answer. (answer.decoded.0, answer.decoded.1, answer.full refl refl, answer.len)),
   (λ written error answer. (answer.partial, answer.bounds.0, answer.bounds.1, answer.most)),
   (λ partial bytes answer means. false≢true (answer.accepted bytes means)),
 )
 
--- a group has eight symbols; the text of a piece fits, and ends with a whole group
-pieces_told :
+-- a group has eight symbols, and a piece is of whole groups, and its text fits
+text_of_piece_fits :
     Has base32_fields (λ base. (count piece : ℕ) (bytes : List ℕ) → IsGroupLen base count
     → IsPieceLen base 600 piece → length bytes ≤ piece
     → (count ≡ 8) × (count ≡ 8) × (0 < piece) × (piece ≤ 600) × (piece % 5 ≡ 0)
     × (length (text_of base bytes) ≤ 600))
-pieces_told = λ count piece bytes group is few.
+text_of_piece_fits = λ count piece bytes group is few.
     (group.value, group.value, is.some, is.few, is.whole, is.fits bytes few)
 
 -- the text of `hi` is appended, or nothing has changed; no data always has its text

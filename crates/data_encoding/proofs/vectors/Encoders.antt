@@ -72,11 +72,11 @@ encoder_unchanged old new same = (
 )
 
 -- less than a block is held
-taken_told : {E : Type 0} {by : Encodes.Ghosts E} →
+less_than_block_held : {E : Type 0} {by : Encodes.Ghosts E} →
     Has base64_fields (λ base. (encoder : Encoder E by) (before taken : List ℕ)
     → base_of_encoder encoder ≡ base → HasTaken encoder before taken
     → length (held encoder) < 3)
-taken_told = λ encoder before taken is has.
+less_than_block_held = λ encoder before taken is has.
     subst (λ base. length (held encoder) < alignment base) is has.is_short
 
 -- `lo` is held of `hello`

@@ -33,16 +33,17 @@ bytes_said : (s : SpecificationBytes) → s.symbols.items ≡ codes "01" → s.w
     × ((fields_of_bytes s).from ≡ codes "l")
 bytes_said s symbols column from = (symbols, column, from)
 
-refusal_told : refusal_of (record { refusal = WrapWidth 4 }) ≡ WrapWidth 4
-refusal_told = refl
+-- the refusal of an error is its field
+refusal_of_error : refusal_of (record { refusal = WrapWidth 4 }) ≡ WrapWidth 4
+refusal_of_error = refl
 
--- the copy of a translation and of lines has the same texts
-same_told : (t u : TranslateTexts) (w v : Wrap)
+-- a copy of a translation or of lines has the same texts
+copy_has_same_texts : (t u : TranslateTexts) (w v : Wrap)
     → (SameTranslate t u → string_bytes t.from ≡ codes "o" → string_bytes t.to ≡ codes "0"
     → (string_bytes u.from ≡ codes "o") × (string_bytes u.to ≡ codes "0"))
     × (SameWrap w v → w.width ≡ 8 → string_bytes w.separator ≡ 10 ∷ []
     → (v.width ≡ 8) × (string_bytes v.separator ≡ 10 ∷ []))
-same_told t u w v = (
+copy_has_same_texts t u w v = (
   λ same from to. (sym same.from ∙ from, sym same.to ∙ to),
   λ same width separator. (sym same.width ∙ width, sym same.separator ∙ separator),
 )

@@ -76,28 +76,29 @@ less_to_keep :
     × KeepsPadding None 4 (replicate 256 128) × KeepsWrapping 0 [] 4 (replicate 256 128)
 less_to_keep = (refl, refl, refl, refl)
 
--- padding is ASCII, has its entry, and is none of four bits; without it no byte means padding
-padding_told : (width : ℕ) (values : List ℕ)
+-- Padding is ASCII, has the entry of padding, and is absent with four bits. Without padding no byte
+-- means padding.
+padding_is_ascii_with_entry : (width : ℕ) (values : List ℕ)
     → (KeepsPadding None width (replicate 128 130) → ⊥)
     × (KeepsPadding (Some 128) width values → ⊥)
     × (KeepsPadding (Some 61) width values → slice_index values 61 ≡ 130)
     × (KeepsPadding (Some 61) 4 values → ⊥)
-padding_told width values = (
+padding_is_ascii_with_entry width values = (
   λ keeps. false≢true keeps,
   λ keeps. omega (arith, keeps.0),
   λ keeps. keeps.1,
   λ keeps. false≢true keeps.2,
 )
 
--- without lines nothing separates them; a line is short and of whole groups, and something short,
--- which is ignored, separates lines
-wrapping_told : (width : ℕ) (separator values : List ℕ)
+-- Without lines there is no separator. A line is short and of whole groups, and its separator is
+-- short and ignored.
+lines_are_short_and_separated : (width : ℕ) (separator values : List ℕ)
     → (KeepsWrapping 0 separator width values → separator ≡ [])
     × (KeepsWrapping 256 separator width values → ⊥)
     × (KeepsWrapping 75 separator 6 values → ⊥)
     × (KeepsWrapping 76 separator 6 values → (0 < length separator) × (length separator < 256))
     × (KeepsWrapping 76 (13 ∷ []) 6 (replicate 128 128) → ⊥)
-wrapping_told width separator values = (
+lines_are_short_and_separated width separator values = (
   λ keeps. keeps,
   λ keeps. omega (arith, keeps.0),
   λ keeps. three-of-none keeps.1,
@@ -107,8 +108,8 @@ wrapping_told width separator values = (
   three-of-none : ◌≡◌ {A = ℕ} 3 0 → ⊥
   three-of-none is = omega (arith, is)
 
--- tables that break one rule each
-rules_told : (e : EncodingTables)
+-- tables that break one rule each do not keep the rules
+broken_rules_refused : (e : EncodingTables)
     → (KeepsRules (record e { width = 7 }) → ⊥)
     × (KeepsRules (record e { concatenates = false; padding = None }) → ⊥)
     × (KeepsRules (record e { checks_trailing_bits = false; width = 4 }) → ⊥)
@@ -120,7 +121,7 @@ rules_told : (e : EncodingTables)
     × (KeepsRules (record e { padding = Some 128 }) → ⊥)
     × (KeepsRules (record e { values = []; ignores = true }) → ⊥)
     × (KeepsRules (record e { column = 256 }) → ⊥)
-rules_told e = (
+broken_rules_refused e = (
   λ rules. omega (arith, rules.is_width.few),
   λ rules. false≢true rules.unpadded_concatenates,
   λ rules. false≢true rules.whole_checked,
@@ -142,16 +143,16 @@ rules_told e = (
   none-of-a-half : ◌≡◌ {A = ℕ} 0 128 → ⊥
   none-of-a-half is = omega (arith, is)
 
--- with another value of `/`, the form breaks the rule that the tables above keep
-form_told :
+-- with another value of `/`, the form breaks a rule
+wrong_form_refused :
     Has base64_mime_fields (λ base.
     KeepsRules (tables_from base (record base64_form { shared = replicate 16 62 }) base64_offsets)
     → ⊥)
-form_told rules = false≢true rules.form_agrees
+wrong_form_refused rules = false≢true rules.form_agrees
 
--- with another offset of `/`, the offsets break the rule too
-offsets_told :
+-- with another offset of `/`, the offsets break a rule
+wrong_offsets_refused :
     Has base64_mime_fields (λ base.
     KeepsRules (tables_from base base64_form (record base64_offsets { last = replicate 16 71 }))
     → ⊥)
-offsets_told rules = false≢true rules.offsets_agree
+wrong_offsets_refused rules = false≢true rules.offsets_agree
