@@ -127,11 +127,11 @@ empty : Has base64_fields (λ base.
 empty [] none = refl
 empty (byte ∷ bytes) none = absurd (cc none)
 
--- of no data, and of more than the longest
-text_lengths_told :
+-- the text of no data is empty, and one byte more than the longest data is too long
+text_length_or_too_long :
     Has base64_fields (λ base. TellsTextLength base 0 7 0 ok
     × TellsTextLength base 36028797018963968 7 7 too_long)
-text_lengths_told = (
+text_length_or_too_long = (
   record { status = refl; text_length = λ _. empty; refused = λ no. absurd (no refl) },
   record { status = refl; text_length = λ is. absurd (cc is); refused = λ _. refl },
 )
@@ -162,8 +162,8 @@ position_of (Ok most) = 0
 position_of (Err error) = error.position
 
 -- a text of 8 characters may mean 6 bytes; the fault of one of 7 is at 4
-most_told : Has base64_fields (λ base. TellsMost base 8 7 6 ok × TellsMost base 7 9 4 6)
-most_told = (
+most_bytes_or_fault : Has base64_fields (λ base. TellsMost base 8 7 6 ok × TellsMost base 7 9 4 6)
+most_bytes_or_fault = (
   record {
     status = refl;
     value = λ _. refl;
@@ -289,9 +289,9 @@ stopped_at_4 : (base : Base) → Means base (codes "SGVs") (codes "Hel")
     → StopsAtFault base (codes "SGVs!G8=") (codes "Hel...") partial_at_4 (counts 4 3 4)
 stopped_at_4 base means = record { read = refl; written = refl; position = refl; means = means }
 
--- an encoding that is canonical
-canonical_told : (base : Base) → IsCanonical base → TellsIfCanonical base true ok
-canonical_told base canonical = record {
+-- the call returns `true` for a canonical encoding
+canonical_returns_true : (base : Base) → IsCanonical base → TellsIfCanonical base true ok
+canonical_returns_true base canonical = record {
   status = refl;
   is_canonical = (λ _. canonical, λ _. refl);
 }
@@ -307,8 +307,10 @@ numbers_known = (
 )
 
 -- a line is 57 bytes, and a symbol has six bits
-facts_told : Has base64_mime_fields (λ base. TellsAlignment base 57 ok × TellsWidth base 6 ok)
-facts_told = (record { status = refl; value = refl }, record { status = refl; value = refl })
+mime_alignment_and_width :
+    Has base64_mime_fields (λ base. TellsAlignment base 57 ok × TellsWidth base 6 ok)
+mime_alignment_and_width =
+    (record { status = refl; value = refl }, record { status = refl; value = refl })
 
 abbrev lines_form : Form
 lines_form = record {
@@ -404,14 +406,14 @@ given_back = (
   },
 )
 
--- an encoding that was made, one that was refused, and bytes that are no layout
-makes_told : (base : Base) (bytes : List ℕ) (made refused none : Made)
+-- an encoding that was made, one that was refused, and bytes that are not a layout
+made_refused_or_none : (base : Base) (bytes : List ℕ) (made refused none : Made)
     → made.status ≡ ok → base_of_plain made.held ≡ base
     → refused.status ≡ 12 → refused.detail ≡ 97
     → none.status ≡ no_encoding
     → ((other : Base) → IsSpecified other → layout other ≡ bytes → ⊥)
     → Makes (Ok base) made × Makes (Err (Duplicate 97)) refused × MakesOfLayout bytes none
-makes_told base bytes made refused none is_made held status detail is_none no_layout = (
+made_refused_or_none base bytes made refused none is_made held status detail is_none no_layout = (
   (is_made, held),
   (status, detail),
   record {
@@ -487,7 +489,8 @@ kept_so_far = record {
 abbrev plain_of_none : PlainKept
 plain_of_none = record plain_so_far { fault = 5 }
 
-numbers_told :
+-- the state that plain numbers describe, and numbers that describe none
+state_from_numbers :
     (kind_told 7 ≡ Some Symbol) × (kind_told 5 ≡ None)
     × (fault_at_position 4 None ≡ None)
     × (fault_at_position 4 (Some Symbol) ≡ Some (Some symbol_at_4))
@@ -496,7 +499,7 @@ numbers_told :
     × (kept_with plain_so_far None ≡ None)
     × (kept_with plain_so_far (Some None) ≡ Some kept_so_far)
     × (kept_told plain_so_far ≡ Some kept_so_far) × (kept_told plain_of_none ≡ None)
-numbers_told = (refl, refl, refl, refl, refl, refl, refl, refl, refl, refl, refl)
+state_from_numbers = (refl, refl, refl, refl, refl, refl, refl, refl, refl, refl, refl)
 
 no_line_end : Has base64_mime_fields (λ base. HoldsNoIgnored base kept_so_far)
 no_line_end zero k h = refl
@@ -558,9 +561,10 @@ room_by base most = record {
   refused = λ no. absurd (no refl);
 }
 
--- five more of the text may complete three bytes
-room_told : Has base64_mime_fields (λ base. TellsRoom base plain_so_far 5 7 3 ok)
-room_told = room_by _ refl
+-- five more characters of the text may complete three bytes
+five_characters_complete_three :
+    Has base64_mime_fields (λ base. TellsRoom base plain_so_far 5 7 3 ok)
+five_characters_complete_three = room_by _ refl
 
 abbrev places_of_none : Places
 places_of_none = record { decoder = plain_of_none; output = codes "..."; written = 7 }
@@ -693,9 +697,13 @@ nothing_due : Has base64_fields (λ base.
 nothing_due [] none = refl
 nothing_due (byte ∷ bytes) none = absurd (cc none)
 
--- no data is due for a piece of no bytes
-due_told : Has base64_fields (λ base. TellsDue base data_so_far 0 7 0 ok)
-due_told = record { status = refl; value = λ _. nothing_due; refused = λ no. absurd (no refl) }
+-- no text is due for a piece of no bytes
+empty_piece_has_none_due : Has base64_fields (λ base. TellsDue base data_so_far 0 7 0 ok)
+empty_piece_has_none_due = record {
+  status = refl;
+  value = λ _. nothing_due;
+  refused = λ no. absurd (no refl);
+}
 
 -- BASE64 has the number 12
 twelve : Has base64_fields (λ base. IsNumbered 12 base)
@@ -789,68 +797,71 @@ never-six-ok is = absurd (cc is)
 never-seven : 7 ≡ too_long → ⊥
 never-seven is = absurd (cc is)
 
--- where a call returned 0, it wrote; where it returned anything else, nothing is changed
-front_told : (output : List ℕ) (written answer : ℕ)
+-- a call that returns 0 has written, and a call without room changes nothing
+front_written_only_if_ok : (output : List ℕ) (written answer : ℕ)
     → (WritesFront (codes "Hi") (codes "....") output 0 written answer → answer ≡ ok)
     × (WritesFront (codes "Hi") (codes "....") output 0 written ok
     → (output ≡ codes "Hi..") × (written ≡ 2))
     × (WritesFront (codes "Hi") (codes ".") output 7 written short_buffer
     → (output ≡ codes ".") × (written ≡ 7))
-front_told output written answer = (
+front_written_only_if_ok output written answer = (
   λ done. done.status,
   λ done. (done.front refl, done.written refl),
   λ done. done.refused never-four,
 )
 
-text_length_told :
+-- a call that returns 0 has written the length of the text
+text_length_returned :
     Has base64_fields (λ base. (new answer : ℕ)
     → (TellsTextLength base 5 7 new answer → answer ≡ ok)
     × (TellsTextLength base 5 7 new ok → new ≡ 8)
     × (TellsTextLength base 36028797018963968 7 new too_long → new ≡ 7))
-text_length_told new answer = (
+text_length_returned new answer = (
   λ it. it.status,
   λ it. sym (it.text_length refl (codes "Hello") refl),
   λ it. it.refused never-three,
 )
 
-text_encoded_told :
+-- a call that returns 0 has written the text, and one without room changes nothing
+text_written_only_if_ok :
     Has base64_fields (λ base. (output : List ℕ) (written answer : ℕ)
     → (Encodes base (codes "Hello") (codes "..........") output 7 written answer → answer ≡ ok)
     × (Encodes base (codes "Hello") (codes "..........") output 7 written ok
     → (output ≡ codes "SGVsbG8=..") × (written ≡ 8))
     × (Encodes base (codes "Hello") (codes ".") output 7 written short_buffer
     → (output ≡ codes ".") × (written ≡ 7)))
-text_encoded_told output written answer = (
+text_written_only_if_ok output written answer = (
   λ done. done.status,
   λ done. (done.text refl, done.written refl),
   λ done. done.refused never-four,
 )
 
--- 6 bytes of a text of 8 characters; the fault of one of 7 is at 4; nothing of one too long
-most_bytes_told :
+-- A text of 8 characters means at most 6 bytes, and the fault of one of 7 is at 4. For a text that
+-- is too long nothing is written.
+most_bytes_returned :
     Has base64_fields (λ base. (new answer : ℕ)
     → (TellsMost base 8 7 new answer → answer ≡ ok) × (TellsMost base 8 7 new ok → new ≡ 6)
     × (TellsMost base 7 9 new 6 → new ≡ 4)
     × (TellsMost base 2305843009213693952 7 new too_long → new ≡ 7))
-most_bytes_told new answer = (
+most_bytes_returned new answer = (
   λ it. it.status,
   λ it. sym (same-most (it.value refl)),
   λ it. it.fault (record { position = 4; kind = Length }) refl never-six,
   λ it. it.refused refl,
 )
 
--- where a decoding stopped, and what was read means what was written
-stopped_told : (base : Base) (text output : List ℕ) (decoded : Decoded)
+-- a decoding stopped at 4, and the read part means the written bytes
+read_group_means_written : (base : Base) (text output : List ℕ) (decoded : Decoded)
     → StopsAtFault base text output partial_at_4 decoded
     → (decoded.read ≡ 4) × (decoded.written ≡ 3) × (decoded.position ≡ 4)
     × Means base (take decoded.read text) (take decoded.written output)
-stopped_told base text output decoded stopped =
+read_group_means_written base text output decoded stopped =
     (stopped.read, stopped.written, stopped.position, stopped.means)
 
--- What a decoding returned and wrote: of a text that means data, also without room for it, of one
--- with a fault of its length, of one with a fault, also with less room than for its most bytes, and
--- of one that is too long.
-decoding_told :
+-- The results of decoding a text that means data, also without room for it, a text with a fault of
+-- its length, a text with a fault, also with less room than for its most bytes, and a text that is
+-- too long.
+result_of_each_decoding :
     Has base64_fields (λ base. (text output : List ℕ) (decoded : Decoded) (answer : ℕ)
     → (Decodes base (codes "SGVsbG8=") (codes ".....") output (counts 7 7 7) decoded answer
     → answer ≡ ok)
@@ -871,7 +882,7 @@ decoding_told :
     → drop 6 output ≡ codes "..")
     × (Decodes base text (codes "......") output (counts 7 7 7) decoded too_long
     → (output ≡ codes "......") × (decoded ≡ counts 7 7 7)))
-decoding_told text output decoded answer = (
+result_of_each_decoding text output decoded answer = (
   λ done. done.status,
   λ done. (done.means refl, done.all refl, done.end refl),
   λ done. done.status,
@@ -883,10 +894,10 @@ decoding_told text output decoded answer = (
   λ done. done.refused refl,
 )
 
--- no more was written than the output has, if anything was
-within_told : (base : Base) (text : List ℕ)
+-- no more bytes are written than the output has
+written_is_within_output : (base : Base) (text : List ℕ)
     → Decodes base text [] [] (counts 7 7 7) (counts 8 1 8) ok → ⊥
-within_told base text done = none (done.within never-zero) where
+written_is_within_output base text done = none (done.within never-zero) where
   never-zero : ok ≡ short_buffer → ⊥
   never-zero is = absurd (cc is)
 
@@ -896,33 +907,36 @@ within_told base text done = none (done.within never-zero) where
       omega (arith, eight)
   none (inr few) = omega (arith, few)
 
-canonical_is_told : (base : Base) (answer : ℕ)
+-- the flag is `true` exactly for a canonical encoding
+flag_is_canonicity : (base : Base) (answer : ℕ)
     → (TellsIfCanonical base true answer → (answer ≡ ok) × IsCanonical base)
     × (TellsIfCanonical base false answer → IsCanonical base → ⊥)
-canonical_is_told base answer = (
+flag_is_canonicity base answer = (
   λ it. (it.status, it.is_canonical.0 refl),
   λ it canonical. false≢true (it.is_canonical.1 canonical),
 )
 
--- 12 is known, and 18 is not
-numbers_are_told : (base : Base) (new old answer : ℕ) → IsNumbered 12 base
+-- the number 12 has a base, and 18 has none
+known_number_has_base : (base : Base) (new old answer : ℕ) → IsNumbered 12 base
     → (ByNumber 12 answer ⊥ (λ other. other.width ≡ 6) → base.width ≡ 6)
     × (ByNumber 18 answer (new ≡ old) (λ other. ⊥)
     → (answer ≡ unknown_encoding) × (new ≡ old))
-numbers_are_told base new old answer is = (λ by. by.known base is, λ by. by.unknown refl)
+known_number_has_base base new old answer is = (λ by. by.known base is, λ by. by.unknown refl)
 
-facts_are_told :
+-- the calls return 0, and write 57 bytes and six bits
+alignment_and_width_returned :
     Has base64_mime_fields (λ base. (new answer : ℕ)
     → (TellsAlignment base new answer → (answer ≡ ok) × (new ≡ 57))
     × (TellsWidth base new answer → (answer ≡ ok) × (new ≡ 6)))
-facts_are_told new answer =
+alignment_and_width_returned new answer =
     (λ it. (it.status, it.value), λ it. (it.status, it.value))
 
--- what is asked for has these fields, and these are the lengths of its texts
-asked_told : (form : Form) (lengths : TextLengths) → AsksFor base64_fields form lengths
+-- the lengths that are asked for are the lengths of base64's texts
+asked_lengths_are_of_texts : (form : Form) (lengths : TextLengths)
+    → AsksFor base64_fields form lengths
     → (form.wrap_width ≡ 0) × (lengths.symbols ≡ 64) × (lengths.ignore ≡ 0)
     × (lengths.separator ≡ 0) × (lengths.translate_from ≡ 0) × (lengths.translate_to ≡ 0)
-asked_told form lengths asks = (
+asked_lengths_are_of_texts form lengths asks = (
   ap (λ fields. fields.column) asks.fields_are,
   asks.symbols,
   asks.ignore,
@@ -931,63 +945,66 @@ asked_told form lengths asks = (
   asks.to,
 )
 
-given_back_told :
+-- a specification is given back if there is room, and otherwise nothing is changed
+given_back_only_if_room :
     Has base64_fields (λ base. (new : SpecificationPlaces) (answer : ℕ)
     → (GivesBack base (places_of lines_form []) new answer → answer ≡ short_buffer)
     × (GivesBack base (places_of lines_form []) new short_buffer → new ≡ places_of lines_form [])
     × (GivesBack base (places_of lines_form (replicate 65 46)) new ok
     → (new.texts ≡ base64_fields.symbols ++ codes ".") × (new.lengths.symbols ≡ 64)))
-given_back_told new answer = (
+given_back_only_if_room new answer = (
   λ gives. gives.status,
   λ gives. gives.refused never-four,
   λ gives. (gives.texts refl, (gives.asks refl).symbols),
 )
 
--- what was made of a specification, of one that is refused, and of a layout
-made_told : (base : Base) (made : Made)
+-- of a specification its base is made, and of an invalid one the refusal is returned
+made_has_base_or_refusal : (base : Base) (made : Made)
     → (Makes (Ok base) made → (made.status ≡ ok) × (base_of_plain made.held ≡ base))
     × (Makes (Err (Duplicate 97)) made → (made.status ≡ 12) × (made.detail ≡ 97))
-made_told base made = (λ makes. makes, λ makes. makes)
+made_has_base_or_refusal base made = (λ makes. makes, λ makes. makes)
 
-made_of_layout_told : (base : Base) (bytes : List ℕ) (made : Made) → MakesOfLayout bytes made
+-- an encoding that is made of bytes has these bytes as its layout
+made_of_layout_has_layout : (base : Base) (bytes : List ℕ) (made : Made) → MakesOfLayout bytes made
     → (IsSpecified base → layout base ≡ bytes → (made.status ≡ ok)
     × (base_of_plain made.held ≡ base))
     × (made.status ≡ ok → layout (base_of_plain made.held) ≡ bytes)
     × ((made.status ≡ ok → ⊥) → made.status ≡ no_encoding)
-made_of_layout_told base bytes made makes =
+made_of_layout_has_layout base bytes made makes =
     (λ is same. makes.known base is same, makes.is_layout, makes.status)
 
--- where there is room for 22 bytes, the name of 12 is not refused; 18 has none
-names_told : (output : List ℕ) (written answer : ℕ)
+-- a name fits in 22 bytes, and 18 has no name
+name_fits_in_22_bytes : (output : List ℕ) (written answer : ℕ)
     → (WritesName 12 (codes "........") output 7 written answer → answer ≡ ok)
     × (WritesName 18 (codes "..") output 7 written answer
     → (answer ≡ unknown_encoding) × (output ≡ codes "..") × (written ≡ 7))
     × (WritesName 12 (replicate 22 46) output 7 written short_buffer → ⊥)
-names_told output written answer = (
+name_fits_in_22_bytes output written answer = (
   λ writes. (writes.known (codes "BASE64") refl).status,
   λ writes. writes.unknown refl,
   λ writes. writes.fits (lit≤ tt) refl,
 )
 
-numbers_of_names_told : (new answer : ℕ)
+-- the name `BASE64` has the number 12, and `base64` has none
+number_of_name_returned : (new answer : ℕ)
     → (FindsNumber (codes "BASE64") 7 new answer → (answer ≡ ok) × (new ≡ 12))
     × (FindsNumber (codes "base64") 7 new answer → (answer ≡ unknown_encoding) × (new ≡ 7))
-numbers_of_names_told new answer = (λ finds. finds.known 12 refl, λ finds. finds.unknown refl)
+number_of_name_returned new answer = (λ finds. finds.known 12 refl, λ finds. finds.unknown refl)
 
--- the numbers that were given describe this, and it passes the tests
-given_told : (base : Base) (given : MayBeGiven base plain_so_far)
+-- the numbers that a caller gives describe a state, and it passes the tests
+given_numbers_pass_tests : (base : Base) (given : MayBeGiven base plain_so_far)
     → (given.kept ≡ kept_so_far) × MayBeKept base given.kept
-given_told base given = (sym (same-kept given.told), given.passes)
+given_numbers_pass_tests base given = (sym (same-kept given.told), given.passes)
 
 abbrev plain_of_fault : PlainKept
 plain_of_fault = record plain_so_far { fault = 7; fault_position = 4 }
 
 -- eight bytes were read, within the limit; after a fault nothing is held
-stands_told : (base : Base) (text : List ℕ)
+given_text_is_within_limit : (base : Base) (text : List ℕ)
     → ((consumed : WasGiven base plain_so_far text) → (consumed.kept ≡ kept_so_far)
     × (consumed.kept.len ≡ length text) × (length text ≤ 2305843009213693951))
     × (WasGiven base plain_of_fault text → ⊥)
-stands_told base text = (
+given_text_is_within_limit base text = (
   λ consumed. (sym (same-kept consumed.told), consumed.keeps.counted, consumed.limit),
   λ consumed. two-zero (subst (λ kept. IsSome kept.fault → kept.count ≡ 0)
       (sym (same-kept consumed.told)) consumed.clear refl),
@@ -995,20 +1012,21 @@ stands_told base text = (
   two-zero : ◌≡◌ {A = ℕ} 2 0 → ⊥
   two-zero is = omega (arith, is)
 
-room_is_told :
+-- the room for five characters is three bytes, and a call that is refused changes nothing
+room_returned_unless_refused :
     Has base64_mime_fields (λ base. (new answer : ℕ)
     → (TellsRoom base plain_so_far 5 7 new answer → answer ≡ ok)
     × (TellsRoom base plain_so_far 5 7 new ok → new ≡ 3)
     × (TellsRoom base plain_of_none 5 7 new no_decoder → new ≡ 7))
 unfolding decoder_stands
-room_is_told new answer = (
+room_returned_unless_refused new answer = (
   λ it. it.status _ decoder_stands,
   λ it. it.value refl _ decoder_stands,
   λ it. it.refused never-nineteen,
 )
 
 -- `8=` ends the group that is held, and means `lo` with it
-piece_told :
+piece_ends_held_group :
     Has base64_mime_fields (λ base. (new : Places) (answer : ℕ)
     → (ReadsPiece base (codes "8=") (places_so_far 7) new answer
     → (answer ≡ ok) × (length new.output ≡ 3))
@@ -1018,7 +1036,7 @@ piece_told :
     × (drop 3 new.output ≡ []))
     × (ReadsPiece base (codes "8=") places_of_none new no_decoder → new ≡ places_of_none))
 unfolding decoder_stands
-piece_told new answer = (
+piece_ends_held_group new answer = (
   λ reads. (reads.status _ decoder_stands, reads.len),
   λ reads. (
     reads.stands refl _ decoder_stands,
@@ -1033,13 +1051,13 @@ abbrev Ends : Base → List ℕ → Decoded → ℕ → Type 0
 Ends base output decoded answer =
     FinishesText base plain_so_far (codes ".....") output (counts 7 7 7) decoded answer
 
--- `SGVsbG` CR LF has a fault of its length at 4, and its last group no bytes
-verdict_told :
+-- `SGVsbG` CR LF has a fault of its length at 4, and its last group means no bytes
+end_has_length_fault :
     Has base64_mime_fields (λ base. (output : List ℕ) (decoded : Decoded) (answer : ℕ)
     → (Ends base output decoded answer → (answer ≡ short_buffer → ⊥) → answer ≡ 6)
     × (Ends base output decoded 6 → (take decoded.written output ≡ [])
     × (decoded.position ≡ 4) × (decoded.read ≡ 8) × (decoded.written ≤ length output)))
-verdict_told output decoded answer = (
+end_has_length_fault output decoded answer = (
   λ ends other. ends.verdict other _ decoder_stands,
   λ ends. (
     sym (ap (drop 3) (ends.bytes never-six-four _ decoder_stands)),
@@ -1049,15 +1067,15 @@ verdict_told output decoded answer = (
   ),
 )
 
--- of whatever was given
-end_told : (base : Base) (output : List ℕ) (decoded : Decoded)
+-- at the end of any text the position is within it, and a refused call changes nothing
+end_bounds_position : (base : Base) (output : List ℕ) (decoded : Decoded)
     → (Ends base output decoded ok → decoded.position ≡ decoded.read)
     × (Ends base output decoded 6 → MayBeGiven base plain_so_far × (decoded.read ≡ 8)
     × (decoded.position < decoded.read) × (length output ≡ 5)
     × (drop decoded.written output ≡ drop decoded.written (codes ".....")))
     × (Ends base output decoded short_buffer → ⊥)
     × (Ends base output decoded no_decoder → (output ≡ codes ".....") × (decoded ≡ counts 7 7 7))
-end_told base output decoded = (
+end_bounds_position base output decoded = (
   λ ends. ends.end refl,
   λ ends. (
     ends.given never-six-nineteen,
@@ -1070,19 +1088,20 @@ end_told base output decoded = (
   λ ends. ends.refused (inl refl),
 )
 
--- `w!` completes a block with `lo`, of which four characters are due
-due_is_told :
+-- `w!` completes a block with `lo`, so four characters are due
+four_characters_due :
     Has base64_fields (λ base. (new answer : ℕ)
     → (TellsDue base data_so_far 2 7 new answer → answer ≡ ok)
     × (TellsDue base data_so_far 2 7 new ok → new ≡ 4)
     × (TellsDue base whole_block 2 7 new no_encoder → new ≡ 7))
-due_is_told new answer = (
+four_characters_due new answer = (
   λ it. it.status,
   λ it. sym (it.value refl (codes "w!") refl),
   λ it. it.refused never-twenty,
 )
 
-data_read_told :
+-- the block is written, and `!` is held
+piece_completes_block :
     Has base64_fields (λ base. (new : DataPlaces) (answer : ℕ)
     → (EncodesPiece base (codes "w!") (places_with data_so_far 7) new answer → answer ≡ ok)
     × (EncodesPiece base (codes "w!") (places_with data_so_far 7) new ok
@@ -1090,28 +1109,28 @@ data_read_told :
     × EncodesOn base data_so_far new.encoder (codes "w!") (codes "bG93"))
     × (EncodesPiece base (codes "w!") (places_with whole_block 7) new no_encoder
     → new ≡ places_with whole_block 7))
-data_read_told new answer = (
+piece_completes_block new answer = (
   λ reads. reads.status,
   λ reads. (reads.text refl, reads.written refl, reads.held refl, reads.encodes refl),
   λ reads. reads.refused never-twenty,
 )
 
--- `lo` ends as `bG8=`
-data_ended_told :
+-- at the end of the data `lo` is written as `bG8=`
+end_writes_last_block :
     Has base64_fields (λ base. (output : List ℕ) (written answer : ℕ)
     → (FinishesData base data_so_far (codes "....") output 7 written answer → answer ≡ ok)
     × (FinishesData base data_so_far (codes "....") output 7 written ok
     → (output ≡ codes "bG8=") × (written ≡ 4) × EndsBlocks base data_so_far (codes "bG8="))
     × (FinishesData base whole_block (codes "....") output 7 written no_encoder
     → (output ≡ codes "....") × (written ≡ 7)))
-data_ended_told output written answer = (
+end_writes_last_block output written answer = (
   λ ends. ends.status,
   λ ends. (ends.text refl, ends.written refl, ends.whole refl),
   λ ends. ends.refused never-twenty,
 )
 
 -- 18 is refused by each call
-eighteen_told : (plain : PlainKept) (kept : KeptData) (decoded : Decoded) (form : Form)
+eighteen_is_refused : (plain : PlainKept) (kept : KeptData) (decoded : Decoded) (form : Form)
     (lengths : TextLengths) (answer : ℕ)
     → (EncodesByNumber 18 (codes "Hi") [] [] 7 7 answer → answer ≡ unknown_encoding)
     × (DecodesByNumber 18 (codes "SGk=") [] [] decoded decoded answer
@@ -1121,7 +1140,7 @@ eighteen_told : (plain : PlainKept) (kept : KeptData) (decoded : Decoded) (form 
     × (ReadsPieceByNumber 18 [] plain plain [] [] 7 7 answer → answer ≡ unknown_encoding)
     × (EncodesPieceByNumber 18 [] kept kept [] [] 7 7 answer → answer ≡ unknown_encoding)
     × (GivesBackByNumber 18 form form lengths lengths [] [] answer → answer ≡ unknown_encoding)
-eighteen_told plain kept decoded form lengths answer = (
+eighteen_is_refused plain kept decoded form lengths answer = (
   λ by. (by.unknown refl).0,
   λ by. (by.unknown refl).0,
   λ by. (by.unknown refl).0,
@@ -1131,8 +1150,8 @@ eighteen_told plain kept decoded form lengths answer = (
   λ by. (by.unknown refl).0,
 )
 
--- by an encoding that a caller holds, a call that refuses changes nothing
-held_told : (held : PlainEncoding) (plain : PlainKept) (kept : KeptData) (form : Form)
+-- a call with an encoding of the caller changes nothing if it refuses
+refusal_changes_nothing : (held : PlainEncoding) (plain : PlainKept) (kept : KeptData) (form : Form)
     (lengths : TextLengths) (output : List ℕ) (written : ℕ)
     → (ReadsPieceByCustom held [] plain_of_none plain (codes "...") output 7 written no_decoder
     → output ≡ codes "...")
@@ -1140,7 +1159,7 @@ held_told : (held : PlainEncoding) (plain : PlainKept) (kept : KeptData) (form :
     → output ≡ codes "...")
     × (GivesBackByCustom held lines_form form lengths lengths (codes "...") output short_buffer
     → output ≡ codes "...")
-held_told held plain kept form lengths output written = (
+refusal_changes_nothing held plain kept form lengths output written = (
   λ reads. ap (λ places. places.output) (reads.refused never-nineteen),
   λ reads. ap (λ places. places.output) (reads.refused never-twenty),
   λ gives. ap (λ places. places.texts) (gives.refused never-four),
