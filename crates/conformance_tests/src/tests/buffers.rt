@@ -4,7 +4,7 @@ ghost use Rattle.std.specs.Prelude.{◌≤◌, length};
 
 use super::judge::{Judge, Judgement};
 use conformance::callers::buffers::decode_kept;
-use conformance::callers::kept::{encode_kept, fault_within, judges_ends, made_again};
+use conformance::callers::kept::{encode_kept, fault_within, checks_ends, made_again};
 use data_encoding::{
     DECODE_LIMIT, DecodeError, DecodeKind, Encoding, base64, base64_mime, base64_mime_permissive,
     base64_nopad, hexlower,
@@ -305,5 +305,5 @@ fn goes_on_from_what_is_kept(rt: HostRuntime) {
     };
     assert!(rt; fault_within(&hexlower(), kept, b"0!") == Some(1));
     assert!(rt; made_again(&base64_mime()) == base64_mime());
-    assert!(rt; judges_ends(&base64_nopad()) && judges_ends(&base64_mime_permissive()));
+    assert!(rt; checks_ends(&base64_nopad()) && checks_ends(&base64_mime_permissive()));
 }

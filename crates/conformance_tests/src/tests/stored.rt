@@ -53,8 +53,8 @@ fn is_finalized(encoding: &Encoding, byte: u8, output: &mut String) -> bool {
 fn grows(alloc: Global) -> Result<bool, Fail> {
     let mut output = String::from_str(alloc, "Payload: ")?;
     let is_ok = write_at_end(&hexlower(), b"Hello", &mut output).is_ok();
-    encoded_at_second_try(&base32(), b"Hello world", &mut output)?;
-    encoded_at_second_try(&base64_mime(), b"", &mut output)?;
+    encoded_at_second_try(&base32(), b"Hello ", b"world", &mut output)?;
+    encoded_at_second_try(&base64_mime(), b"", b"", &mut output)?;
     let is_last = is_finalized(&base64(), b'!', &mut output);
     let want = "Payload: 48656c6c6fJBSWY3DPEB3W64TMMQ======IQ==";
     Ok(is_ok && is_last && output.as_str() == want)
