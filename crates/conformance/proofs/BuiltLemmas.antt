@@ -1,4 +1,4 @@
--- What is built from a specification.
+-- The base that is built from a specification.
 use Rattle.std.proofs.Common.{◌≡◌, ℕ, zero, suc, List, length, Option, Some, None, Result, Ok, Err, refl, sym, ap, ◌∙◌}
 use Rattle.data_encoding.specs.declared.encoding.Character.{Character}
 use Rattle.data_encoding.specs.declared.specification.meanings.Refusal.{Refusal}
@@ -33,7 +33,7 @@ module _ (fields : Fields) where
   symbols-by (Some (suc n)) =
       symbols-with (suc n) (meanings_of (judgements (suc n) fields))
 
-  -- the symbols are those that were asked for
+  -- the symbols are the symbols of the fields
   pub symbols-built : (base : Base) → base_of fields ≡ Ok base → base.symbols ≡ fields.symbols
   unfolding symbols_in
   symbols-built base is =

@@ -1,4 +1,4 @@
--- Texts of BASE64URL_NOPAD and HEXLOWER, and what is kept if nothing is ignored.
+-- Texts of BASE64URL_NOPAD and HEXLOWER, and texts without ignored bytes.
 use Rattle.std.proofs.Common.{◌≡◌, ◌==◌, ◌&&◌, ◌%◌, not, cond, ℕ, true, false, List, ◌++◌, length, Option, Some, None, IfSome, is_some, sym, ap, ◌∙◌, arith}
 use Rattle.std.proofs.lemmas.Bool.Decides.{nat_tests}
 use Rattle.std.proofs.lemmas.List.{length-map}
@@ -15,7 +15,7 @@ use Rattle.data_encoding.specs.Lengths.{greatest_valid_length, is_valid_count, l
 use Rattle.data_encoding.specs.Pieces.{KeepsEach, whole_groups}
 use Rattle.data_encoding.specs.Rules.{HasRules, plain_rules}
 
--- if nothing is ignored, as many bytes are kept as the text has
+-- if no byte is ignored, each byte of the text is kept
 pub length-kept : KeepsEach → (base : Base) → ignores_some base ≡ false → (text : List ℕ)
     → length (kept base text) ≡ length text
 length-kept law base none text =
@@ -24,7 +24,7 @@ length-kept law base none text =
     (λ (p : ℕ × ℕ). let k : Positioned = record { position = p.0; byte = p.1 } in k)
     ∙ length-enumerate_from 0 text
 
--- the first fault of whole groups, if any, is that of each longer text
+-- the first fault of whole groups is the fault of each longer text
 pub so_far : GroupFaultStays → (base : Base) → IsSpecified base → (front : List ℕ)
     (o : Option DecodeError) → o ≡ first_fault base (whole_groups base front)
     → IfSome o (λ error. (after : List ℕ) → length_fault base (length (front ++ after)) ≡ None

@@ -12,7 +12,7 @@ use Rattle.data_encoding.specs.Bits.{runs}
 abbrev pub ended : List ℕ → List ℕ
 ended run = run ++ 13 ∷ 10 ∷ []
 
--- how many runs there are, of one byte or more
+-- the number of runs of one byte or more
 count-more : (size n : ℕ) → 0 < size → 0 < n
     → (n + (size - 1)) / size ≡ suc ((n - size + (size - 1)) / size)
 count-more size n some more =
@@ -57,7 +57,7 @@ runs-joined size xs some =
     let reach : length xs + (size - 1) < count * size + size = lt-div-mul-add some in
     first_chunks-joined size count xs ∙ take_all (count * size) xs (omega (arith, reach, some))
 
--- whether a byte is not ignored
+-- a test that drops CR and LF
 module _ (keeps : ℕ → Bool) (none_of_return : keeps 13 ≡ false) (none_of_feed : keeps 10 ≡ false)
   where
     filter-ended : (run : List ℕ) → filter keeps (ended run) ≡ filter keeps run
@@ -69,7 +69,7 @@ module _ (keeps : ℕ → Bool) (none_of_return : keeps 13 ≡ false) (none_of_f
         ∙ ap (λ b. filter keeps run ++ cond b (10 ∷ []) []) none_of_feed
         ∙ append-nil (filter keeps run)
 
-    -- line ends add nothing to what is kept of the runs
+    -- line ends add no kept bytes to the runs
     filter-lines : (runs : List (List ℕ))
         → filter keeps (flat_map ended runs) ≡ filter keeps (flat_map (λ run. run) runs)
     filter-lines [] = refl
@@ -78,7 +78,7 @@ module _ (keeps : ℕ → Bool) (none_of_return : keeps 13 ≡ false) (none_of_f
         ∙ (λ i. filter-ended run i ++ filter-lines others i)
         ∙ sym (filter-append keeps run (flat_map (λ l. l) others))
 
--- what is kept, is kept again
+-- kept bytes are kept again
 filter-head : (keeps : ℕ → Bool) (x : ℕ) (xs : List ℕ) (b : Bool) → keeps x ≡ b
     → filter keeps xs ≡ xs → filter keeps (cond b (x ∷ xs) xs) ≡ cond b (x ∷ xs) xs
 filter-head keeps x xs true is same =
@@ -91,7 +91,7 @@ filter-twice keeps [] = refl
 filter-twice keeps (x ∷ xs) =
     filter-head keeps x (filter keeps xs) (keeps x) refl (filter-twice keeps xs)
 
--- what is kept of a list, in lines, is what is kept of the list
+-- the kept bytes of a list, in lines, are the kept bytes of the list
 pub kept-lines : (keeps : ℕ → Bool) → keeps 13 ≡ false → keeps 10 ≡ false
     → (size : ℕ) (xs : List ℕ) → 0 < size
     → filter keeps (flat_map ended (runs size (filter keeps xs))) ≡ filter keeps xs

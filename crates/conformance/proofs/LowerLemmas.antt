@@ -15,7 +15,7 @@ use Rattle.data_encoding.specs.Order.{IsBefore, IsOrdered}
 use Rattle.data_encoding.specs.Predefined.{base32_dnssec_fields}
 use Rattle.data_encoding.specs.SameMeaning.{OwnText, exchanged, has_one_own_form, own_form}
 use Rattle.data_encoding.specs.Text.{text_of}
-use Rattle.conformance.proofs.RewrittenLemmas.{each_byte, known, specified_by}
+use Rattle.conformance.proofs.RewrittenLemmas.{each_byte, value-of, specified_by}
 
 -- a byte in lower case, if it is a letter up to V
 abbrev lowered : ℕ → ℕ
@@ -28,27 +28,27 @@ lowered-other : (byte : ℕ) → (65 ≤ byte → byte ≤ 86 → ⊥) → byte 
 lowered-other byte apart = grind (arith, nat_tests)
 
 module _ (base : Base) (is : base_of base32_dnssec_fields ≡ Ok base) where
-  -- whether a byte is translated to what it is in lower case
+  -- `true` if a byte is translated to the byte in lower case
   abbrev is_own : Base → ℕ → Bool
   is_own b byte = exchanged b b byte == lowered byte
 
   abbrev are_own : Base → Bool
   are_own b = list_all (is_own b) (range_with_len 0 128)
 
-  computed : are_own base ≡ true
-  computed = known are_own false base32_dnssec_fields base is
+  are_own-computed : are_own base ≡ true
+  are_own-computed = value-of are_own false base32_dnssec_fields base is
 
-  long : length base.meanings ≡ 128
-  long = known (λ b. length b.meanings) 0 base32_dnssec_fields base is
+  meanings-length : length base.meanings ≡ 128
+  meanings-length = value-of (λ b. length b.meanings) 0 base32_dnssec_fields base is
 
   own_lowered : (byte : ℕ) → lowered byte ≡ exchanged base base byte
   own_lowered byte =
       ⊎_elim {C = lowered byte ≡ exchanged base base byte}
       (λ (low : byte < 128).
       sym (eqb-true (exchanged base base byte) (lowered byte)
-      (each_byte (is_own base) computed byte low)))
+      (each_byte (is_own base) are_own-computed byte low)))
       (λ (high : 128 ≤ byte).
-      let none = get_or_past base.meanings byte Invalid (omega (arith, high, long)) in
+      let none = get_or_past base.meanings byte Invalid (omega (arith, high, meanings-length)) in
       sym (lowered-other byte (λ low few. omega (arith, high, few)))
       ∙ sym (ap (λ m. unwrap_or (own_character base m) byte) none))
       (cases_lt byte 128)
@@ -69,9 +69,9 @@ module _ (base : Base) (is : base_of base32_dnssec_fields ≡ Ok base) where
   sorts_alike own order unpadded ordered result one other first second bytes others form also less
       means more =
       let specified = specified_by base32_dnssec_fields base is in
-      let one_form = known has_one_own_form false base32_dnssec_fields base is in
-      let none = known (λ b. b.padding) None base32_dnssec_fields base is in
-      let plain = known (λ b. b.wrapping) None base32_dnssec_fields base is in
+      let one_form = value-of has_one_own_form false base32_dnssec_fields base is in
+      let none = value-of (λ b. b.padding) None base32_dnssec_fields base is in
+      let plain = value-of (λ b. b.wrapping) None base32_dnssec_fields base is in
       let text = form ∙ own base specified one_form one bytes means in
       let text_also = also ∙ own base specified one_form other others more in
       let alike = order base specified plain ordered bytes others

@@ -9,7 +9,7 @@ use Rattle.data_encoding.specs.Fields.{Fields, base_of}
 use Rattle.data_encoding.specs.Lengths.{unless_fault}
 use Rattle.conformance.proofs.BuiltLemmas.{same_built}
 
--- what holds for one base holds for each that the fields have
+-- a property of one base holds for each base of the fields
 pub is_built-seen : (P : Base → Type 0) (fields : Fields) (seen : Base)
     → base_of fields ≡ Ok seen → P seen → Builds P fields
 is_built-seen P fields seen is h base other =
@@ -20,16 +20,16 @@ abbrev pub IsOfBase : (Base → Type 0) → Result Base Refusal → Type 0
 IsOfBase P (Ok base) = P base
 IsOfBase P (Err refusal) = ⊥
 
--- which is computed
-pub computed : (P : Base → Type 0) (fields : Fields) (seen : Base) → base_of fields ≡ Ok seen
+-- a property that is computed holds for the base
+pub seen-holds : (P : Base → Type 0) (fields : Fields) (seen : Base) → base_of fields ≡ Ok seen
     → IsOfBase P (base_of fields) → P seen
-computed P fields seen is h = subst (IsOfBase P) is h
+seen-holds P fields seen is h = subst (IsOfBase P) is h
 
--- a length without a fault means this many bytes
-pub counted : (o : Option DecodeError) (len count : ℕ) → unless_fault o len ≡ Ok count
+-- the number of bytes of a length without a fault
+pub len-count : (o : Option DecodeError) (len count : ℕ) → unless_fault o len ≡ Ok count
     → len ≡ count
-counted None len count h = cc
-counted (Some fault) len count h = cc
+len-count None len count h = cc
+len-count (Some fault) len count h = cc
 
 pub equal-tested : (a b : ℕ) → a ≡ b → (a == b) ≡ true
 equal-tested a b same = grind (arith, nat_tests)

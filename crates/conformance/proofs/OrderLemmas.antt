@@ -7,7 +7,7 @@ use Rattle.std.specs.Cmp.Lexicographic.{slice_partial_cmp}
 use Rattle.std.specs.Ordering.{is_lt, is_some_and, nat_cmp}
 use Rattle.data_encoding.specs.Order.{IsBefore}
 
--- whether the first list comes before the second
+-- `true` if the first list comes before the second
 abbrev is_before : List ℕ → List ℕ → Bool
 is_before [] [] = false
 is_before [] (y ∷ ys) = true
@@ -44,7 +44,7 @@ compared =
     same_from_slice_cmp_tested nat_cmp is_lt is_before refl (λ _ _. refl) (λ _ _. refl)
     (λ x y xs ys o h. grind (arith, nat_tests))
 
--- what follows from `<`
+-- `<` decides the order of lists
 pub less-IsBefore : (xs ys : List ℕ) (result : Bool)
     → result ≡ is_some_and is_lt (slice_partial_cmp (λ x y. Some (nat_cmp x y)) xs ys)
     → (result ≡ true) ↔ IsBefore xs ys

@@ -51,7 +51,7 @@ module _ (base : Base) (is : base_of base64_mime_fields ≡ Ok base) where
         inl (sym (ap (tested (λ base. base.concatenates)) is) ∙ joining_computed),
       )
 
--- after a piece that means data nothing of it is left
+-- a piece that means data is read to its end
 module _ (base : Base) (is : IsSpecified base) (join : JoinDecode) (fault : JoinFault) where
   pub joined-resumes : (piece next bytes : List ℕ) → MayBeFollowed base piece
       → Means base piece bytes → Resumes base piece next (length piece) bytes

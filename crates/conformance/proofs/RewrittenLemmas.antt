@@ -1,4 +1,4 @@
--- Facts about three of the encodings, which are computed, and what texts have in common.
+-- Computed facts about three of the encodings, and texts with the same meaning.
 use Rattle.std.proofs.Common.{◌≡◌, ◌↔◌, ℕ, zero, suc, ◌+◌, ◌<◌, ◌≤◌, ◌==◌, Bool, true, false, ◌||◌, not, IsTrue, List, [], ◌∷◌, ◌++◌, length, map, is_some, take, drop, get_or, set, unwrap_or, Result, Ok, Err, refl, sym, ap, ◌∙◌, subst, arith, zero-add, ⊎_elim}
 use Rattle.std.proofs.lemmas.List.{append-nil, drop_all, get_or-map, get_or_past, length-map, map_more, take_all}
 use Rattle.std.proofs.lemmas.Bool.{cases_lt}
@@ -19,19 +19,19 @@ use Rattle.data_encoding.specs.Rules.{EighteenRules}
 use Rattle.data_encoding.specs.SameMeaning.{DifferInSymbolsAlone, OwnForm, OwnForms, Translated, exchanged, has_one_own_form}
 use Rattle.conformance.proofs.BuiltLemmas.{same_built}
 
--- what is known about the base of some fields is computed
-abbrev pub got : {X : Type 0} → (Base → X) → X → Result Base Refusal → X
-got f otherwise (Ok base) = f base
-got f otherwise (Err refusal) = otherwise
+-- the value of a function for the base of some fields is computed
+abbrev pub value_or : {X : Type 0} → (Base → X) → X → Result Base Refusal → X
+value_or f otherwise (Ok base) = f base
+value_or f otherwise (Err refusal) = otherwise
 
-pub known : {X : Type 0} (f : Base → X) (otherwise : X) (fields : Fields) (base : Base)
-    → base_of fields ≡ Ok base → f base ≡ got f otherwise (base_of fields)
-known f otherwise fields base is = sym (ap (got f otherwise) is)
+pub value-of : {X : Type 0} (f : Base → X) (otherwise : X) (fields : Fields) (base : Base)
+    → base_of fields ≡ Ok base → f base ≡ value_or f otherwise (base_of fields)
+value-of f otherwise fields base is = sym (ap (value_or f otherwise) is)
 
 pub specified_by : (fields : Fields) (base : Base) → base_of fields ≡ Ok base → IsSpecified base
 specified_by fields base is = record { fields = fields; is_built = is }
 
--- what is computed for each byte below 128
+-- a test that is computed for each byte below 128
 pub each_byte : (test : ℕ → Bool) → list_all test (range_with_len 0 128) ≡ true → (byte : ℕ)
     → byte < 128 → test byte ≡ true
 each_byte test all byte low =
@@ -44,7 +44,7 @@ each_byte test all byte low =
 module _ (base : Base) (is : base_of base32_dnssec_fields ≡ Ok base)
     (one_meaning : OneMeaning) (same : Translated) (own : OwnForm) (own_forms : OwnForms) where
   one_own_form : has_one_own_form base ≡ true
-  one_own_form = known has_one_own_form false base32_dnssec_fields base is
+  one_own_form = value-of has_one_own_form false base32_dnssec_fields base is
 
   -- they mean the same data if and only if their bytes mean the same
   same_data : (one other bytes others : List ℕ) → Means base one bytes
@@ -64,7 +64,7 @@ module _ (base : Base) (is : base_of base32_dnssec_fields ≡ Ok base)
 
   module _ (encoding : Base) (is_built : base_of base32_dnssec_fields ≡ Ok encoding)
       (one other : List ℕ) where
-    -- so it depends on whether their bytes mean the same
+    -- the result decides if they mean the same data
     pub same_name : (result : Bool)
         → IsTrue result ↔ (map (meaning encoding) one ≡ map (meaning encoding) other)
         → (bytes others : List ℕ) → Means base one bytes → Means base other others
@@ -110,8 +110,8 @@ module _ (base : Base) (one other : List ℕ) where
 module _ (base url : Base) (is : base_of base64_fields ≡ Ok base)
     (also : base_of base64url_fields ≡ Ok url) where
   -- by the rules of both
-  pub differ : EighteenRules → DifferInSymbolsAlone base url
-  differ rules =
+  pub differ-in-symbols : EighteenRules → DifferInSymbolsAlone base url
+  differ-in-symbols rules =
       let one = rules.base64 base is in
       let other = rules.base64url url also in
       record {
@@ -126,41 +126,41 @@ module _ (base url : Base) (is : base_of base64_fields ≡ Ok base)
         ignored = one.ignored ∙ sym other.ignored;
       }
 
-  -- whether a byte is one of the two that differ, or the same in both
+  -- `true` if a byte is one of the two that differ, or the same in both
   abbrev is_kept : Base → Base → ℕ → Bool
   is_kept b u byte = byte == 43 || byte == 47 || exchanged b u byte == byte
 
   abbrev are_kept : Base → Base → Bool
   are_kept b u = list_all (is_kept b u) (range_with_len 0 128)
 
-  computed : are_kept base url ≡ true
-  computed =
-      known (λ b. are_kept b url) false base64_fields base is
-      ∙ known (λ u. got (λ b. are_kept b u) false (base_of base64_fields)) false base64url_fields
-      url also
+  are_kept-computed : are_kept base url ≡ true
+  are_kept-computed =
+      value-of (λ b. are_kept b url) false base64_fields base is
+      ∙ value-of (λ u. value_or (λ b. are_kept b u) false (base_of base64_fields)) false
+      base64url_fields url also
 
-  long : length base.meanings ≡ 128
-  long = known (λ b. length b.meanings) 0 base64_fields base is
+  meanings-length : length base.meanings ≡ 128
+  meanings-length = value-of (λ b. length b.meanings) 0 base64_fields base is
 
-  long_too : length url.meanings ≡ 128
-  long_too = known (λ b. length b.meanings) 0 base64url_fields url also
+  url-meanings-length : length url.meanings ≡ 128
+  url-meanings-length = value-of (λ b. length b.meanings) 0 base64url_fields url also
 
-  same_if : (byte : ℕ) → (byte ≡ 43 → ⊥) → (byte ≡ 47 → ⊥) → is_kept base url byte ≡ true
+  kept-is-same : (byte : ℕ) → (byte ≡ 43 → ⊥) → (byte ≡ 47 → ⊥) → is_kept base url byte ≡ true
       → byte ≡ exchanged base url byte
-  same_if byte plus slash h = grind (arith, nat_tests)
+  kept-is-same byte plus slash h = grind (arith, nat_tests)
 
-  pub other_byte : (byte : ℕ) → (byte ≡ 43 → ⊥) → (byte ≡ 47 → ⊥)
+  pub other-byte-same : (byte : ℕ) → (byte ≡ 43 → ⊥) → (byte ≡ 47 → ⊥)
       → byte ≡ exchanged base url byte
-  other_byte byte plus slash =
+  other-byte-same byte plus slash =
       ⊎_elim {C = byte ≡ exchanged base url byte}
       (λ (low : byte < 128).
-      same_if byte plus slash (each_byte (is_kept base url) computed byte low))
+      kept-is-same byte plus slash (each_byte (is_kept base url) are_kept-computed byte low))
       (λ (high : 128 ≤ byte).
-      let none = get_or_past base.meanings byte Invalid (omega (arith, high, long)) in
+      let none = get_or_past base.meanings byte Invalid (omega (arith, high, meanings-length)) in
       sym (ap (λ m. unwrap_or (own_character url m) byte) none))
       (cases_lt byte 128)
 
-  -- whether a byte is only in base64url, means something in base64, or nothing in base64url
+  -- `true` if a byte is only in base64url, means something in base64, or is invalid in base64url
   abbrev stays_invalid : Base → Base → ℕ → Bool
   stays_invalid b u byte =
       byte == 45 || byte == 95 || not (is_invalid (meaning b byte)) || is_invalid (meaning u byte)
@@ -168,25 +168,26 @@ module _ (base url : Base) (is : base_of base64_fields ≡ Ok base)
   abbrev stay_invalid : Base → Base → Bool
   stay_invalid b u = list_all (stays_invalid b u) (range_with_len 0 128)
 
-  computed_too : stay_invalid base url ≡ true
-  computed_too =
-      known (λ b. stay_invalid b url) false base64_fields base is
-      ∙ known (λ u. got (λ b. stay_invalid b u) false (base_of base64_fields)) false
+  stay_invalid-computed : stay_invalid base url ≡ true
+  stay_invalid-computed =
+      value-of (λ b. stay_invalid b url) false base64_fields base is
+      ∙ value-of (λ u. value_or (λ b. stay_invalid b u) false (base_of base64_fields)) false
       base64url_fields url also
 
-  -- any other byte that means nothing in base64 means nothing in base64url
-  pub invalid_byte : (byte : ℕ) → (byte ≡ 45 → ⊥) × (byte ≡ 95 → ⊥)
+  -- any other byte that is invalid in base64 is invalid in base64url
+  pub invalid-in-both : (byte : ℕ) → (byte ≡ 45 → ⊥) × (byte ≡ 95 → ⊥)
       → is_invalid (meaning base byte) ≡ true → is_invalid (meaning url byte) ≡ true
-  invalid_byte byte apart invalid =
+  invalid-in-both byte apart invalid =
       ⊎_elim {C = is_invalid (meaning url byte) ≡ true}
       (λ (low : byte < 128).
-      let here = each_byte (stays_invalid base url) computed_too byte low in
+      let here = each_byte (stays_invalid base url) stay_invalid-computed byte low in
       grind (arith, nat_tests, apart.0, apart.1))
       (λ (high : 128 ≤ byte).
-      ap is_invalid (get_or_past url.meanings byte Invalid (omega (arith, high, long_too))))
+      ap is_invalid
+      (get_or_past url.meanings byte Invalid (omega (arith, high, url-meanings-length))))
       (cases_lt byte 128)
 
--- a list in which this many members are exchanged, in place
+-- a list with its first `index` members exchanged
 module _ (f : ℕ → ℕ) where
   abbrev pub exchanged_to : ℕ → List ℕ → List ℕ
   exchanged_to index xs = map f (take index xs) ++ drop index xs

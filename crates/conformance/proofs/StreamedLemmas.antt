@@ -1,4 +1,4 @@
--- What is decoded from a text that comes in pieces.
+-- The data of a text that comes in pieces.
 use Rattle.std.proofs.Common.{refl, subst, Option, None, Some, Result, OnOk, ◌≡◌, ℕ, ◌+◌, ◌<◌, List, [], ◌∷◌, ◌++◌, flat_map, get_or, length, take, sym, ap, ◌∙◌, append-nil, append_assoc}
 use Rattle.std.proofs.lemmas.Grind.{flat_map-append}
 use Rattle.std.proofs.lemmas.List.{take_more}
@@ -18,7 +18,7 @@ joined-more f xs i d h =
     ∙ flat_map-append f (take i xs) (get_or xs i d ∷ [])
     ∙ ap (λ l. flat_map f (take i xs) ++ l) (append-nil (f (get_or xs i d)))
 
--- what was appended to a drained buffer is appended to what was decoded before
+-- the bytes of a drained buffer follow the bytes that were decoded before
 pub handed-on : (before old new buffer output : List ℕ) → AppendsDecoded old new [] buffer
     → output ≡ before ++ old → output ++ buffer ≡ before ++ new
 handed-on before old new buffer output appends is =
@@ -27,14 +27,14 @@ handed-on before old new buffer output appends is =
     ∙ ap (λ l. before ++ (old ++ l)) appends.appended
     ∙ ap (λ l. before ++ l) (sym appends.decoded)
 
--- what holds for a text without a fault holds if the verdict is Ok
+-- if the verdict is Ok, the text has no fault
 pub no-fault-ok : (P : Type 0) (fault : Option DecodeError)
     (verdict : Result (Unit {0}) DecodeError)
     → verdict ≡ verdict_of fault → (fault ≡ None → P) → OnOk verdict P
 no-fault-ok P None verdict is holds = subst (λ v. OnOk v P) (sym is) (holds refl)
 no-fault-ok P (Some error) verdict is holds = subst (λ v. OnOk v P) (sym is) tt
 
--- what a stream did with known bytes: the fault is that of all of them, and so are the sound bytes
+-- a stream of known bytes returns their fault, and writes their sound bytes
 pub all-decoded : (base : Base) (fault : Option DecodeError) (text rest output : List ℕ)
     → DecodesAll base fault (from_to (Some text) (Some rest)) (from_to (Some []) (Some output))
     → (fault_of base text ≡ fault) × (output ≡ sound_bytes base text)

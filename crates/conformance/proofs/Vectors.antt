@@ -1,4 +1,4 @@
--- Worked rows for what callers conclude.
+-- Worked rows for the conclusions of callers.
 use Rattle.std.proofs.Common.{◌≡◌, ◌↔◌, ◌<◌, ℕ, Bool, List, [], ◌∷◌, ◌++◌, codes, length, IsTrue, Some, Result, Ok, Err, inl, inr, refl}
 use Rattle.data_encoding.specs.declared.decode.TheConstants.{DECODE_LIMIT}
 use Rattle.data_encoding.specs.declared.encode.TheConstants.{ENCODE_LIMIT}
@@ -13,14 +13,14 @@ use Rattle.data_encoding.specs.Order.{IsBefore}
 use Rattle.data_encoding.specs.Predefined.{base64_fields, base64_mime_fields, base64url_fields, hexlower_fields}
 use Rattle.data_encoding.specs.Text.{text_of}
 use Rattle.conformance.specs.declared.callers.names.BodyFault.TheVariants.{OutOfMemory, Text}
-use Rattle.conformance.specs.Results.{bytes_filled, fault_at, text_filled, Explains, IsFault, IsTooLong}
-use Rattle.conformance.specs.Texts.{lines_of, HasFault, HasFaultAt, IsFaultOfAll, MeanAlike, MeansBytes, MeansSome, MeansSound, OfBase64, TellsLength, TellsOrder, TellsSame}
+use Rattle.conformance.specs.Results.{bytes_filled, returned_fault, text_filled, Explains, IsFault, IsTooLong}
+use Rattle.conformance.specs.Texts.{lines_of, HasFaultOfKind, HasFaultAt, IsFaultOfAll, MeanAlike, MeansBytes, MeansSome, MeansSoundBytes, OfBase64, TellsLength, TellsOrder, TellsSame}
 
 abbrev Holds : (Base → Type 0) → Result Base Refusal → Type 0
 Holds P (Ok base) = P base
 Holds P (Err refusal) = ⊥
 
--- The fields have a base, and it is so.
+-- The fields have a base, and the property holds for it.
 abbrev Has : Fields → (Base → Type 0) → Type 0
 Has fields P = Holds P (base_of fields)
 
@@ -31,11 +31,11 @@ five_meant base means = ((codes "Hello", means), (codes "Hello", means, refl))
 
 -- the sound bytes of a text of base64
 sound_meant :
-    Has base64_fields (λ base. MeansSound base (codes "SGVsbG8=")
+    Has base64_fields (λ base. MeansSoundBytes base (codes "SGVsbG8=")
     → Means base (codes "SGVsbG8=") (codes "Hello"))
 sound_meant means = means
 
--- what is said of two texts that mean data
+-- the statements on two texts that mean data
 two_texts : (base : Base) (one other bytes others : List ℕ) → Means base one bytes
     → Means base other others
     → (MeanAlike base one other → Means base other bytes)
@@ -50,9 +50,9 @@ two_texts base one other bytes others means also = (
   λ answer it. it bytes others means also,
 )
 
--- `G` is no digit of HEXLOWER, and that is the fault of each longer text
+-- `G` is not a digit of HEXLOWER, and each longer text has this fault
 faults_found :
-    Has hexlower_fields (λ base. HasFault base (codes "4G") 1 Symbol
+    Has hexlower_fields (λ base. HasFaultOfKind base (codes "4G") 1 Symbol
     × HasFaultAt base (codes "4G") 1
     × ((error : DecodeError) → IsFaultOfAll base (codes "4G") error
     → Some (record { position = 1; kind = Symbol }) ≡ Some error))
@@ -60,8 +60,8 @@ faults_found = (refl, (Symbol, refl), λ error of. of [] refl)
 
 -- the fault that decoding returns
 fault_returned :
-    (fault_at 1 Symbol ≡ Error (record { position = 1; kind = Symbol }))
-    × IsFault {T = List ℕ} (Err (fault_at 1 Symbol)) (record { position = 1; kind = Symbol })
+    (returned_fault 1 Symbol ≡ Error (record { position = 1; kind = Symbol }))
+    × IsFault {T = List ℕ} (Err (returned_fault 1 Symbol)) (record { position = 1; kind = Symbol })
 fault_returned = (refl, refl)
 
 -- both bases
@@ -88,7 +88,7 @@ fault_placed :
     × Explains base [] OutOfMemory)
 fault_placed = ((6, refl, refl, refl), tt)
 
--- of each buffer what was written to it
+-- the written parts of the buffers
 buffers_filled :
     (bytes_filled (record { front = 1; next = 2; last = 0; verdict = Ok tt }) (codes "ab")
     (codes "cd") (codes "ef") ≡ codes "acd")

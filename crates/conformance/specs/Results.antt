@@ -13,11 +13,11 @@ use Rattle.conformance.specs.declared.callers.buffers.Filled.{Filled}
 use Rattle.conformance.specs.declared.callers.kept.Lengths.{Lengths}
 use Rattle.conformance.specs.declared.callers.names.BodyFault.{BodyFault}
 use Rattle.conformance.specs.declared.callers.names.BodyFault.TheVariants.{OutOfMemory, Text}
-use Rattle.conformance.specs.Texts.{HasFault}
+use Rattle.conformance.specs.Texts.{HasFaultOfKind}
 
 -- The fault of the given kind and position, as decoding returns it.
-abbrev pub fault_at : ℕ → DecodeKind → DecodeFault
-fault_at position kind = Error (record { position = position; kind = kind })
+abbrev pub returned_fault : ℕ → DecodeKind → DecodeFault
+returned_fault position kind = Error (record { position = position; kind = kind })
 
 -- The result is the fault `error` of a text.
 abbrev pub IsFault : {T : Type 0} → Result T DecodeFault → DecodeError → Type 0
@@ -33,7 +33,7 @@ IsTooLong fields bytes =
 -- is stated.
 abbrev pub Explains : Base → List ℕ → BodyFault → Type 0
 Explains base text (Text place kind) =
-    (position : ℕ) × HasFault base text position kind
+    (position : ℕ) × HasFaultOfKind base text position kind
     × (place.line ≡ count_by (λ byte. byte == 10) (take position text))
     × (place.column
     ≡ length (take_while (λ byte. not (byte == 10)) (reverse (take position text))))

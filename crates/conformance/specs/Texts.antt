@@ -20,8 +20,8 @@ abbrev pub MeansBytes : Base → List ℕ → ℕ → Type 0
 MeansBytes base text len = (bytes : List ℕ) × Means base text bytes × (length bytes ≡ len)
 
 -- The text means its sound bytes.
-abbrev pub MeansSound : Base → List ℕ → Type 0
-MeansSound base text = Means base text (sound_bytes base text)
+abbrev pub MeansSoundBytes : Base → List ℕ → Type 0
+MeansSoundBytes base text = Means base text (sound_bytes base text)
 
 -- The two texts mean the same data, or neither means any.
 abbrev pub MeanAlike : Base → List ℕ → List ℕ → Type 0
@@ -46,13 +46,13 @@ TellsOrder base one other answer =
     → (IsTrue answer ↔ IsBefore bytes others)
 
 -- The text has a fault of the given kind and position.
-abbrev pub HasFault : Base → List ℕ → ℕ → DecodeKind → Type 0
-HasFault base text position kind =
+abbrev pub HasFaultOfKind : Base → List ℕ → ℕ → DecodeKind → Type 0
+HasFaultOfKind base text position kind =
     fault_of base text ≡ Some (record { position = position; kind = kind })
 
 -- The text has a fault at the given position.
 abbrev pub HasFaultAt : Base → List ℕ → ℕ → Type 0
-HasFaultAt base text position = (kind : DecodeKind) × HasFault base text position kind
+HasFaultAt base text position = (kind : DecodeKind) × HasFaultOfKind base text position kind
 
 -- Each text that begins with `front` has the fault `error`, unless the length of the text is a
 -- fault.

@@ -8,7 +8,7 @@ ghost use Rattle.data_encoding.specs.Fields.{base_of};
 ghost use Rattle.data_encoding.specs.Lengths.{length_fault};
 ghost use Rattle.data_encoding.specs.Specification.{specified};
 ghost use Rattle.data_encoding.specs.Text.{text_of};
-ghost use Rattle.conformance.specs.Results.{fault_at, IsTooLong};
+ghost use Rattle.conformance.specs.Results.{returned_fault, IsTooLong};
 ghost use Rattle.conformance.specs.Texts.{MeansSome};
 
 pub mod rewritten;
@@ -91,7 +91,7 @@ pub fn there_and_back(
 
 /// Decodes a text with a byte that is not a symbol, at position 1.
 pub fn no_symbol(alloc: Global) -> Result<Vec<u8>, DecodeFault>
-    ensures { (result ≡ Err (fault_at 1 DecodeKind.Symbol))
+    ensures { (result ≡ Err (returned_fault 1 DecodeKind.Symbol))
         ⊎ (result ≡ Err DecodeFault.OutOfMemory) }
 {
     hexlower().decode(alloc, b"4G")
@@ -99,7 +99,7 @@ pub fn no_symbol(alloc: Global) -> Result<Vec<u8>, DecodeFault>
 
 /// Decodes a text of odd length. Its fault is found before memory is allocated.
 pub fn odd_length(alloc: Global) -> Result<Vec<u8>, DecodeFault>
-    ensures { result ≡ Err (fault_at 2 DecodeKind.Length) }
+    ensures { result ≡ Err (returned_fault 2 DecodeKind.Length) }
 {
     hexlower().decode(alloc, b"4G4")
 }

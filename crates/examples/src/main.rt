@@ -16,7 +16,7 @@ use data_encoding::{base64, hexlower};
 use encoding_stream::Watch;
 use std::alloc::Global;
 
-// What data and texts as a whole convert to, in lines that are appended.
+/// Appends the results for whole data and whole texts.
 fn convert_whole(alloc: Global, lines: &mut Vec<String>) -> Result<()> {
     lines.push(whole::encoded(alloc, b"Hello")?)?;
     for text in ["SGVsbG8=", "SGVsbG8"] {
@@ -29,7 +29,7 @@ fn convert_whole(alloc: Global, lines: &mut Vec<String>) -> Result<()> {
     Ok(())
 }
 
-// The same for data and texts in pieces.
+/// Appends the results for data and texts in pieces.
 fn convert_pieces(alloc: Global, lines: &mut Vec<String>) -> Result<()> {
     let mut text = String::from_str(alloc, "Hello: ")?;
     pieces::append_both(&base64(), b"Hel", b"lo", &mut text)?;
@@ -43,7 +43,7 @@ fn convert_pieces(alloc: Global, lines: &mut Vec<String>) -> Result<()> {
     Ok(())
 }
 
-// Texts in encodings that are built from a specification.
+/// Appends texts in encodings that are built from a specification.
 fn convert_by_custom(alloc: Global, lines: &mut Vec<String>) -> Result<()> {
     let crockford = custom::crockford(alloc)?;
     lines.push(crockford.encode(alloc, b"Hello")?)?;
@@ -54,7 +54,7 @@ fn convert_by_custom(alloc: Global, lines: &mut Vec<String>) -> Result<()> {
     Ok(())
 }
 
-// What is converted in buffers.
+/// Prints the results in buffers.
 fn convert_in_buffers(rt: &impl Print, alloc: Global) -> Result<()> {
     let encoding = base64();
     buffers::print_text(rt, &encoding, b"Hello")?;
@@ -70,6 +70,7 @@ fn convert_in_buffers(rt: &impl Print, alloc: Global) -> Result<()> {
     Ok(())
 }
 
+/// Prints the results, and decodes the input.
 fn main(rt: HostRuntime) -> Result<()> {
     let alloc = rt.alloc();
     let mut lines = Vec::new(alloc);

@@ -6,6 +6,7 @@ use data_encoding::{
 };
 use encoding_stream::Decoder;
 
+/// A text with an unfinished group.
 const TEXT: &[u8] = b"SGVsbG8";
 
 /// Tests `Encoding::decode`, which does not allocate if the length of the text is invalid.
@@ -24,7 +25,7 @@ pub fn decodes(hog: &mut Hog) -> bool {
         && tells_a_length(hog)
 }
 
-// Whether three characters of padded base64 are refused for their length if no memory is left.
+/// Returns `true` if three characters of padded base64 have a length fault, even without memory.
 fn tells_a_length(hog: &mut Hog) -> bool {
     let fault = DecodeError {
         position: 0,
@@ -50,8 +51,10 @@ pub fn pushes(hog: &mut Hog) -> bool {
     true
 }
 
-// Whether a piece that follows a prefix without a whole group is refused if it completes a group,
-// and the same call succeeds later.
+/// Returns `true` if a piece runs out of memory if it completes a group, and the same call succeeds
+/// later.
+///
+/// `front` has no whole group.
 fn is_pushed(hog: &mut Hog, encoding: &Encoding, front: &[u8], piece: &[u8]) -> bool {
     if front.len() > 8 || piece.len() > 300 {
         return false;
@@ -91,8 +94,10 @@ pub fn finishes(hog: &mut Hog) -> bool {
         && is_finished(hog, b"A!", Err(DecodeKind::Symbol))
 }
 
-// Whether a text of less than a group has these bytes, or this kind of fault, at the second call if
-// the first runs out of memory. Only bytes need memory.
+/// Returns `true` if a text of less than a group has the bytes or the kind of fault in `want`, at
+/// the second call if the first runs out of memory.
+///
+/// Only bytes need memory.
 fn is_finished(hog: &mut Hog, text: &[u8], want: Result<&[u8], DecodeKind>) -> bool {
     if text.len() > 8 {
         return false;

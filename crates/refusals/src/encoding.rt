@@ -3,12 +3,14 @@
 use crate::hog::Hog;
 use data_encoding::{ENCODE_LIMIT, Encoding, base64, base64_mime};
 
+/// A few bytes.
 const HELLO: &[u8] = b"Hello";
 
-// Some data: two lines and more if there are lines.
+/// Data of two lines and more, if there are lines.
 const DATA: &[u8] = b"Data that come in pieces are encoded block by block, and the few bytes \
     that complete no block are held until they do, or until the text is finished.";
 
+/// The output before a call appends to it.
 const BEFORE: &str = "Result: ";
 
 /// Tests `Encoding::encode`.
@@ -37,7 +39,7 @@ pub fn appends(hog: &mut Hog) -> bool {
     true
 }
 
-// Whether a text is unchanged if memory runs out, and is appended to by the same call later.
+/// Returns `true` if a text is unchanged if memory runs out, and the same call appends to it later.
 fn is_appended(hog: &mut Hog, encoding: &Encoding, input: &[u8]) -> bool {
     if input.len() > ENCODE_LIMIT {
         return false;
@@ -80,8 +82,10 @@ pub fn appends_pieces(hog: &mut Hog) -> bool {
     true
 }
 
-// Whether data of which one byte is held is encoded: the call that appends the rest runs out of
-// memory if it has to write a block, and the same call then succeeds later.
+/// Returns `true` if data is encoded after its first byte was appended.
+///
+/// The call that appends the rest needs memory if it completes a block. If it runs out of memory,
+/// the same call succeeds later.
 fn is_encoded(hog: &mut Hog, encoding: &Encoding, input: &[u8], has_block: bool) -> bool {
     if input.is_empty() || input.len() > ENCODE_LIMIT {
         return false;
@@ -120,7 +124,8 @@ pub fn finalizes(hog: &mut Hog) -> bool {
     is_finalized(hog, &base64(), "SA==") && is_finalized(hog, &base64_mime(), "SA==\r\n")
 }
 
-// Whether one byte is encoded to this text, at the second call if the first runs out of memory.
+/// Returns `true` if one byte is encoded to `text`, at the second call if the first runs out of
+/// memory.
 fn is_finalized(hog: &mut Hog, encoding: &Encoding, text: &str) -> bool {
     let mut output = String::new(hog.alloc);
     let mut encoder = encoding.new_encoder(&mut output);

@@ -2,12 +2,13 @@
 
 use std::alloc::{AllocError, Global};
 
-// The most blocks that are ever allocated.
+/// The most blocks that are ever allocated.
 const PARTS: usize = 1 << 17;
 
-// Allocations of these sizes, which nothing else makes, mark where a call begins and ends.
+/// The length of the allocation that marks the beginning of a call. Nothing else allocates it.
 const BEGIN: usize = 4_194_301;
 
+/// The length of the allocation that marks the end of a call. Nothing else allocates it.
 const END: usize = 4_194_299;
 
 /// The allocations that are refused.
@@ -29,11 +30,16 @@ pub struct Hog {
     /// The allocator.
     pub alloc: Global,
 
+    /// The allocations to refuse.
     refused: Refused,
-    // Whether one allocation was refused to the call that ended last, and to any since that was
-    // last asked.
+
+    /// One allocation was refused to the last call.
     is_refused: bool,
+
+    /// One allocation was refused since `take_refused_one` was last called.
     has_refused_one: bool,
+
+    /// The blocks that were allocated.
     parts: Vec<Vec<u8>>,
 }
 
@@ -52,7 +58,7 @@ impl Hog {
     /// Begins a call.
     ///
     /// If all allocations are to be refused, allocates until no block of any size is left: large
-    /// blocks first, then each size for which an allocator may keep blocks apart.
+    /// blocks first, then each size that an allocator may serve from a separate list.
     pub fn fill(&mut self) {
         match self.refused {
             Refused::Nothing => {}
@@ -91,13 +97,13 @@ impl Hog {
         has_refused
     }
 
-    // Whether an allocation of this many bytes is refused.
+    /// Returns `true` if an allocation of `len` bytes is refused.
     fn is_refused_to(&self, len: usize) -> bool {
         let bytes: Result<Vec<u8>, _> = Vec::with_capacity(self.alloc, len);
         bytes.is_err()
     }
 
-    // Allocates until no block is left.
+    /// Allocates until no block is left.
     fn fill_all(&mut self) {
         for shift in 0..15u32 {
             self.fill_by((1 << 26) >> shift, 64);
@@ -107,7 +113,7 @@ impl Hog {
         }
     }
 
-    // Allocates blocks of this size, at most this many.
+    /// Allocates at most `most` blocks of `size` bytes.
     fn fill_by(&mut self, size: usize, most: usize) {
         for _ in 0..most {
             let Ok(part) = Vec::with_capacity(self.alloc, size) else {

@@ -2,9 +2,9 @@
 //!
 //! With the argument `refused`, all memory that the process may have is allocated before each call.
 //! The call then has to run out of memory, and to leave everything unchanged. With the argument
-//! `one`, for which tests/c/refused.c is loaded, a call has to run out of memory if one of its
-//! allocations was refused. Without an argument each call has to succeed. After that there is
-//! memory, and the same call has to succeed with the right result.
+//! `one`, the program needs tests/c/refused.c to be loaded. A call then has to run out of memory if
+//! one of its allocations was refused. Without an argument each call has to succeed. After that
+//! there is memory, and the same call has to succeed with the right result.
 //!
 //! A line is printed for each call. It also states if one of its allocations was refused. The exit
 //! status is 1 if a call fails its test.
@@ -19,63 +19,61 @@ use hog::{Hog, Refused};
 use std::process::ExitCode;
 use std::{env, io};
 
-// A call, whether it did what it must, and whether one of its allocations was refused.
+/// The name of a call, `true` if it passed its test, and `true` if one of its allocations was
+/// refused.
 type Row = (&'static str, bool, bool);
 
-// What each call did.
-fn rows(hog: &mut Hog) -> [Row; 11] {
+/// Returns the row of a call that was tested.
+fn row(name: &'static str, is_right: bool, hog: &mut Hog) -> Row {
+    (name, is_right, hog.take_refused_one())
+}
+
+/// Tests the calls that encode.
+fn encoding_rows(hog: &mut Hog) -> [Row; 4] {
     [
-        ("encode", encoding::encodes(hog), hog.take_refused_one()),
-        (
-            "encode_append",
-            encoding::appends(hog),
-            hog.take_refused_one(),
-        ),
-        (
-            "Encoder::append",
-            encoding::appends_pieces(hog),
-            hog.take_refused_one(),
-        ),
-        (
-            "Encoder::finalize",
-            encoding::finalizes(hog),
-            hog.take_refused_one(),
-        ),
-        ("decode", decoding::decodes(hog), hog.take_refused_one()),
-        (
-            "Decoder::push",
-            decoding::pushes(hog),
-            hog.take_refused_one(),
-        ),
-        (
-            "Decoder::finish",
-            decoding::finishes(hog),
-            hog.take_refused_one(),
-        ),
-        (
-            "specification",
-            specifications::specifies(hog),
-            hog.take_refused_one(),
-        ),
-        (
-            "Specification::try_clone",
-            specifications::clones(hog),
-            hog.take_refused_one(),
-        ),
-        (
-            "Translate::try_clone",
-            specifications::clones_translate(hog),
-            hog.take_refused_one(),
-        ),
-        (
-            "Wrap::try_clone",
-            specifications::clones_wrap(hog),
-            hog.take_refused_one(),
-        ),
+        row("encode", encoding::encodes(hog), hog),
+        row("encode_append", encoding::appends(hog), hog),
+        row("Encoder::append", encoding::appends_pieces(hog), hog),
+        row("Encoder::finalize", encoding::finalizes(hog), hog),
     ]
 }
 
-// Which allocations are refused, by the first argument.
+/// Tests the calls that decode.
+fn decoding_rows(hog: &mut Hog) -> [Row; 3] {
+    [
+        row("decode", decoding::decodes(hog), hog),
+        row("Decoder::push", decoding::pushes(hog), hog),
+        row("Decoder::finish", decoding::finishes(hog), hog),
+    ]
+}
+
+/// Tests the calls that copy specifications.
+fn specification_rows(hog: &mut Hog) -> [Row; 4] {
+    [
+        row("specification", specifications::specifies(hog), hog),
+        row("Specification::try_clone", specifications::clones(hog), hog),
+        row(
+            "Translate::try_clone",
+            specifications::clones_translate(hog),
+            hog,
+        ),
+        row("Wrap::try_clone", specifications::clones_wrap(hog), hog),
+    ]
+}
+
+/// Prints a line for each of `rows`. Returns `true` if each call passed its test.
+fn print_rows(rt: &impl Print, rows: &[Row]) -> io::Result<bool> {
+    let mut are_right = true;
+    for (name, is_right, is_refused) in rows {
+        let answer = if *is_right { "right" } else { "wrong" };
+        let refused = if *is_refused { ", refused" } else { "" };
+        println!(rt; "{name}: {answer}{refused}")?;
+        are_right = are_right && *is_right;
+    }
+    Ok(are_right)
+}
+
+/// Returns the allocations to refuse, by the first argument.
 fn refused_by(rt: &HostRuntime) -> io::Result<Refused> {
     match env::args(rt)?.skip(1).next() {
         Some(word) if word.as_str() == "refused" => Ok(Refused::All),
@@ -84,16 +82,13 @@ fn refused_by(rt: &HostRuntime) -> io::Result<Refused> {
     }
 }
 
+/// Tests each call and prints the results.
 fn main(rt: HostRuntime) -> io::Result<ExitCode> {
     let mut hog = Hog::new(rt.alloc(), refused_by(&rt)?)?;
-    let mut status = 0;
-    for (name, is_right, is_refused) in rows(&mut hog) {
-        let answer = if is_right { "right" } else { "wrong" };
-        let refused = if is_refused { ", refused" } else { "" };
-        println!(rt; "{name}: {answer}{refused}")?;
-        if !is_right {
-            status = 1;
-        }
-    }
-    Ok(ExitCode::from(status))
+    let (encoding, decoding) = (encoding_rows(&mut hog), decoding_rows(&mut hog));
+    let specification = specification_rows(&mut hog);
+    let are_right = print_rows(&rt, &encoding)?
+        & print_rows(&rt, &decoding)?
+        & print_rows(&rt, &specification)?;
+    Ok(ExitCode::from(if are_right { 0 } else { 1 }))
 }

@@ -3,9 +3,10 @@
 use crate::hog::Hog;
 use data_encoding::{BitOrder, Encoding, Specification, SpecificationParts, Translate};
 
+/// The symbols of base32.
 const SYMBOLS: &str = "ABCDEFGHIJKLMNOPQRSTUVWXYZ234567";
 
-// An encoding whose specification has five texts that are not empty.
+/// Returns an encoding with lines. No text of its specification is empty.
 fn lines_of_base32() -> Option<Encoding> {
     let parts = SpecificationParts {
         symbols: SYMBOLS.as_bytes(),
@@ -22,7 +23,7 @@ fn lines_of_base32() -> Option<Encoding> {
     parts.encoding().ok()
 }
 
-// Whether it is the specification of the encoding.
+/// Returns `true` if `specification` is the specification of the encoding.
 fn is_right(specification: &Specification) -> bool {
     specification.symbols.as_str() == SYMBOLS
         && specification.ignore.as_str() == "\n\r "
@@ -31,6 +32,7 @@ fn is_right(specification: &Specification) -> bool {
         && is_translated(&specification.translate)
 }
 
+/// Returns `true` if `translate` is the translation of the encoding.
 fn is_translated(translate: &Translate) -> bool {
     translate.from.as_str() == "0189" && translate.to.as_str() == "OIBP"
 }
@@ -50,7 +52,7 @@ pub fn specifies(hog: &mut Hog) -> bool {
         }
 }
 
-// The specification whose copies are tried.
+/// Returns the specification to copy.
 fn specification_of(hog: &Hog) -> Option<Specification> {
     lines_of_base32()?.specification(hog.alloc).ok()
 }

@@ -94,7 +94,7 @@ pub fn made_again(encoding: &Encoding) -> Encoding
 }
 
 /// Returns `true` if the end of a text is checked: its padding, or its trailing bits.
-pub fn judges_ends(encoding: &Encoding) -> bool
+pub fn checks_ends(encoding: &Encoding) -> bool
     ensures { result ≡ (is_padded encoding.now || encoding.now.checks_trailing_bits) }
 {
     encoding.is_padded() || encoding.checks_trailing_bits()

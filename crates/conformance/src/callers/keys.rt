@@ -10,7 +10,7 @@ ghost use Rattle.data_encoding.specs.Order.{IsBefore, KeepsOrder};
 ghost use Rattle.data_encoding.specs.Predefined.{base64_nopad_fields, base64url_nopad_fields, hexlower_fields, hexlower_permissive_fields};
 ghost use Rattle.data_encoding.specs.Text.{text_of};
 ghost use Rattle.data_encoding.specs.Told.{is_other};
-ghost use Rattle.conformance.specs.Texts.{HasFault, HasFaultAt, MeansBytes, TellsLength};
+ghost use Rattle.conformance.specs.Texts.{HasFaultOfKind, HasFaultAt, MeansBytes, TellsLength};
 
 use data_encoding::laws::steps::whole_groups;
 use data_encoding::laws::{
@@ -46,7 +46,7 @@ pub fn key_of(token: &[u8]) -> Option<[u8; 16]>
     }
 }
 
-// Whether a byte is no symbol.
+/// Returns `true` if `byte` is not a symbol.
 pub(super) fn is_no_symbol(encoding: &Encoding, byte: u8) -> bool
     ensures { result ≡ is_other encoding.now byte }
 {
@@ -60,7 +60,7 @@ pub(super) fn is_no_symbol(encoding: &Encoding, byte: u8) -> bool
 pub fn first_wrong(text: &[u8]) -> Option<usize>
     requires even { length text.now % 2 ≡ 0 }
     ensures symbol { Builds (λ base. (index : ℕ) → (result ≡ Some index)
-        ↔ HasFault base text.now index DecodeKind.Symbol) hexlower_fields }
+        ↔ HasFaultOfKind base text.now index DecodeKind.Symbol) hexlower_fields }
     ensures none { Builds (λ base. result ≡ None → fault_of base text.now ≡ None)
         hexlower_fields }
 {
@@ -105,7 +105,7 @@ pub fn is_digest(text: &[u8]) -> bool
 /// Returns the distance from a prefix of whole groups to the fault of a text, if the prefix means
 /// data.
 ///
-/// Returns `None` if the text has no fault, or the prefix has one.
+/// Returns `None` if the text is valid, or the prefix has a fault.
 pub fn place_after(alloc: Global, text: &[u8], len: usize) -> Result<Option<usize>, AllocError>
     requires limit { length text.now ≤ DECODE_LIMIT }
     requires within { len ≤ length text.now }

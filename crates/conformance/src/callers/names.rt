@@ -95,7 +95,7 @@ pub fn place_of(text: &[u8], position: usize) -> Place
     Place { line, column }
 }
 
-/// The reason why the body of a key file has no data.
+/// The reason why the body of a key file does not mean data.
 #[derive(Debug, Drop)]
 pub enum BodyFault {
     /// The text has a fault at the given place.

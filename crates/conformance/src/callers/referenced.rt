@@ -16,10 +16,10 @@ use data_encoding::laws::fault_stays;
 use data_encoding::{DECODE_LIMIT, ENCODE_LIMIT, EncodingRef};
 use encoding_stream::{BufferDecoder, BufferEncoder, Kept, KeptData};
 
-/// Writes the text of `input` to `output`, and returns `true` if the lengths are right.
+/// Encodes `input` to `output` and returns `true`, if the lengths are right.
 ///
 /// `input` must have at most `ENCODE_LIMIT` bytes, and `output` exactly the length of the text.
-/// Otherwise returns `false`.
+/// Otherwise writes nothing and returns `false`.
 pub fn encode_exactly(encoding: &EncodingRef<'_>, input: &[u8], output: &mut [u8]) -> bool
     ensures text { IsTrue result → output.new ≡ text_of encoding.now input.now }
     ensures exact { IsTrue result ↔ ((length input.now ≤ ENCODE_LIMIT)
@@ -35,8 +35,9 @@ pub fn encode_exactly(encoding: &EncodingRef<'_>, input: &[u8], output: &mut [u8
 /// Decodes the text `input` to the start of `output`, and returns the number of bytes that it
 /// means.
 ///
-/// Returns `None` if the text has a fault or more than `DECODE_LIMIT` bytes, or if `output` does
-/// not have exactly the length that `decode_len` returns.
+/// Decodes only if `input` has at most `DECODE_LIMIT` bytes and `output` has exactly the length
+/// that `decode_len` returns. Otherwise writes nothing and returns `None`. Also returns `None` if
+/// the text has a fault. The bytes before the fault may have been written then.
 pub fn decode_exactly(encoding: &EncodingRef<'_>, input: &[u8], output: &mut [u8]) -> Option<usize>
     ensures means { IfSome result (λ len. Means encoding.now input.now (take len output.new)) }
     ensures exact { IsSome result ↔ ((length input.now ≤ DECODE_LIMIT)
@@ -115,10 +116,11 @@ pub fn decode_next(
     Some((written, decoder.kept()))
 }
 
-/// Encodes the first piece of data to the start of `output`.
+/// Encodes the whole blocks of the first piece of data to the start of `output`, if it has room for
+/// their text.
 ///
-/// Returns the length of the text that was written and the encoder state, or `None` if `output` is
-/// too short.
+/// Returns the length of the text and the encoder state, with the rest of the piece. If `output` is
+/// too short, writes nothing and returns `None`.
 pub fn encode_first(
     encoding: &EncodingRef<'_>,
     piece: &[u8],
@@ -138,10 +140,10 @@ pub fn encode_first(
     Some((written, encoder.kept()))
 }
 
-/// Encodes the next piece of data to the start of `output`, from the encoder state `kept`.
+/// Encodes the whole blocks of the held bytes and the next piece to the start of `output`, if
+/// `kept` is a state of an encoder and `output` has room for their text.
 ///
-/// Returns the length of the text that was written and the new state, or `None` if `kept` is not a
-/// state of an encoder or `output` is too short.
+/// Returns the length of the text and the new state. Otherwise writes nothing and returns `None`.
 pub fn encode_next(
     encoding: &EncodingRef<'_>,
     kept: KeptData,

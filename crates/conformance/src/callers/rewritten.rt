@@ -17,7 +17,7 @@ use data_encoding::laws::{
 use data_encoding::{Encoding, base32_dnssec};
 use std::alloc::{AllocError, Global};
 
-// Returns the bytes of a text that are not ignored.
+/// Returns the bytes of a text that are not ignored.
 fn kept(alloc: Global, encoding: &Encoding, text: &[u8]) -> Result<Vec<u8>, AllocError>
     ensures { IfOk result (λ bytes. bytes.items ≡ kept_bytes encoding.now text.now) }
 {
@@ -30,7 +30,8 @@ fn kept(alloc: Global, encoding: &Encoding, text: &[u8]) -> Result<Vec<u8>, Allo
     Ok(bytes)
 }
 
-// Returns the bytes in lines of `line`, the last of which may be shorter, each followed by CR LF.
+/// Returns the bytes in lines of `line` bytes, each followed by CR LF. The last line may be
+/// shorter.
 fn in_lines(alloc: Global, bytes: &[u8], line: usize) -> Result<Vec<u8>, AllocError>
     requires some { 0 < line }
     ensures { IfOk result (λ output. output.items ≡ lines_of line bytes.now) }
@@ -74,7 +75,7 @@ pub fn rewrapped(
     Ok(Some(in_lines(alloc, &bytes, line)?))
 }
 
-// The byte of base64url for a byte of base64.
+/// Returns the byte of base64url for a byte of base64.
 fn url_byte(byte: u8) -> u8
     ensures { OfBase64 (λ base url. result ≡ exchanged base url byte) }
 {
@@ -124,7 +125,7 @@ pub fn is_same_name(one: &[u8], other: &[u8]) -> bool
     true
 }
 
-// The byte that a byte of a name of BASE32_DNSSEC is translated to, or the byte itself.
+/// Returns the byte that a byte of a name of BASE32_DNSSEC is translated to, or the byte itself.
 fn lower_byte(byte: u8) -> u8
     ensures { Builds (λ base. result ≡ exchanged base base byte) base32_dnssec_fields }
 {
@@ -143,7 +144,7 @@ pub fn to_lower_case(name: &mut [u8])
     }
 }
 
-// Whether a list comes before another.
+/// Returns `true` if `one` comes before `other`.
 fn is_before(one: &[u8], other: &[u8]) -> bool
     ensures { IsTrue result ↔ IsBefore one.now other.now }
 {

@@ -1,4 +1,4 @@
-//! Runs in which no byte is ignored, and the symbols of a group.
+//! Runs without ignored bytes, and the symbols of a group.
 
 ghost use Rattle.std.specs.Prelude.{◌≡◌, ◌≤◌, true, length, is_some, None, Some, Ok, IfErr, IfSome, IsTrue, OnOk};
 ghost use Rattle.data_encoding.specs.Fault.{fault_of};
@@ -10,7 +10,7 @@ use super::keys::is_no_symbol;
 use data_encoding::laws::{run_told, symbols_told};
 use data_encoding::{DECODE_LIMIT, DecodePartial, Encoding};
 
-// Whether no byte of the run is ignored.
+/// Returns `true` if the encoding ignores no byte of the run.
 fn ignores_none(encoding: &Encoding, run: &[u8]) -> bool
     ensures sound { IsTrue result → IgnoresNone encoding.now run.now }
     ensures complete { IgnoresNone encoding.now run.now → IsTrue result }

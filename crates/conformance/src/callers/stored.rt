@@ -60,7 +60,7 @@ pub fn write_at_end(encoding: &Encoding, input: &[u8], output: &mut String) -> f
     encoding.encode_write(input, output)
 }
 
-// Appends, and tries once more if memory runs out.
+/// Appends `input`. If memory runs out, tries once more.
 fn append_again(encoder: &mut Encoder, input: &[u8]) -> Result<(), AllocError>
     requires limit { length input.now ≤ ENCODE_LIMIT }
     ensures output { output_name encoder.new ≡ output_name encoder.old }
@@ -77,18 +77,24 @@ fn append_again(encoder: &mut Encoder, input: &[u8]) -> Result<(), AllocError>
     encoder.append(input)
 }
 
-/// Appends the text of data with an encoder, and repeats each call that runs out of memory once.
+/// Appends the text of data that comes in two pieces, and repeats each call that runs out of memory
+/// once.
+///
+/// The text is the text of the joined pieces, even if a call was repeated. If a repeated call also
+/// runs out of memory, the text of some blocks may have been appended.
 pub fn encoded_at_second_try(
     encoding: &Encoding,
-    input: &[u8],
+    one: &[u8],
+    other: &[u8],
     output: &mut String,
 ) -> Result<(), AllocError>
-    requires limit { length input.now ≤ ENCODE_LIMIT }
+    requires one { length one.now ≤ ENCODE_LIMIT }
+    requires other { length other.now ≤ ENCODE_LIMIT }
     ensures { OnOk result (string_bytes output.new
-        ≡ string_bytes output.old ++ text_of encoding.now input.now) }
+        ≡ string_bytes output.old ++ text_of encoding.now (one.now ++ other.now)) }
 {
     let mut encoder = encoding.new_encoder(output);
-    if append_again(&mut encoder, input).is_err() {
+    if append_again(&mut encoder, one).is_err() || append_again(&mut encoder, other).is_err() {
         encoder.abandon();
         return Err(AllocError);
     }

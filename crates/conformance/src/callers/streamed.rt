@@ -10,7 +10,7 @@ ghost use Rattle.data_encoding.specs.Predefined.{base64_fields, base64_mime_fiel
 ghost use Rattle.data_encoding.specs.Text.{text_of};
 ghost use Rattle.encoding_stream.specs.BufferDecoder.{verdict_of};
 ghost use Rattle.conformance.specs.Results.{IsFault};
-ghost use Rattle.conformance.specs.Texts.{IsFaultOfAll, MeansSound};
+ghost use Rattle.conformance.specs.Texts.{IsFaultOfAll, MeansSoundBytes};
 
 use data_encoding::laws::steps::whole_groups;
 use data_encoding::laws::{fault_stays, join_decode, join_fault, resume, round_trip, sound_text};
@@ -35,7 +35,7 @@ pub fn decode_pieces(
     ensures verdict { IfOk result (λ verdict. verdict
         ≡ verdict_of (fault_of encoding.now (flat_map (λ piece. piece.now) pieces.now))) }
     ensures means { IfOk result (λ verdict. OnOk verdict
-        (MeansSound encoding.now (flat_map (λ piece. piece.now) pieces.now))) }
+        (MeansSoundBytes encoding.now (flat_map (λ piece. piece.now) pieces.now))) }
 {
     encoding.bit_width();
     sound_text();
@@ -129,7 +129,7 @@ pub fn decoded_early(alloc: Global, front: &[u8]) -> Result<Vec<u8>, DecodeFault
     base64().decode(alloc, front)
 }
 
-// Decodes a piece up to its first fault, and returns how much of it was read, and the data.
+/// Decodes a piece up to its first fault. Returns the length that was read, and its data.
 fn decode_front(
     alloc: Global,
     encoding: &Encoding,

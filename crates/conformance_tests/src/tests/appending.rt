@@ -1,15 +1,15 @@
-//! Texts that are appended to texts, and data that comes in pieces.
+//! Texts that are appended to other texts, and data that comes in pieces.
 
 ghost use Rattle.std.specs.Prelude.{◌≤◌, length};
 
 use super::comparison::{Comparison, Differs};
-use super::rows::{bytes_of_length, text_of};
+use super::rows::{bytes_of_length, text_of_field};
 use data_encoding::{ENCODE_LIMIT, Encoding};
 use std::alloc::{AllocError, Global};
 use std::test::Fail;
 
-// Consumes an encoder. It is not a function, since that would take what the encoder borrows.
-macro_rules! finish {
+/// Ends an encoder. A function would take the output that the encoder borrows.
+macro_rules! finalize_or_abandon {
     ($encoder:ident) => {
         match $encoder.finalize() {
             Ok(()) => Ok(()),
@@ -21,22 +21,23 @@ macro_rules! finish {
     };
 }
 
-// What follows `Result: ` in a text.
-fn rest_of(alloc: Global, output: &String) -> Result<String, Fail> {
+/// Returns the text after `Result: `.
+fn text_after_prefix(alloc: Global, output: &String) -> Result<String, Fail> {
     let rest = output.as_str().strip_prefix("Result: ");
     Ok(String::from_str(alloc, rest.unwrap_or("another result"))?)
 }
 
-// What is appended for data.
-pub(super) fn appended(alloc: Global, encoding: &Encoding, data: &str) -> Result<String, Fail> {
+/// Returns the text that `encode_append` appends for `data`.
+pub(super) fn append_data(alloc: Global, encoding: &Encoding, data: &str) -> Result<String, Fail> {
     let mut output = String::from_str(alloc, "Result: ")?;
     if data.len() <= ENCODE_LIMIT {
         encoding.encode_append(data.as_bytes(), &mut output)?;
     }
-    rest_of(alloc, &output)
+    text_after_prefix(alloc, &output)
 }
 
-// Appends the text of the pieces; if memory runs out, that of the pieces before.
+/// Appends the text of `pieces`, which slashes separate. If memory runs out, appends the text of
+/// the pieces before.
 fn append_pieces(
     encoding: &Encoding,
     pieces: &str,
@@ -51,7 +52,7 @@ fn append_pieces(
         }
     }
     let ended = if is_finalized {
-        finish!(encoder)
+        finalize_or_abandon!(encoder)
     } else {
         encoder.abandon();
         Ok(())
@@ -60,25 +61,26 @@ fn append_pieces(
     ended
 }
 
-// What is appended for data that comes in pieces, to an empty text and to another.
-pub(super) fn appended_pieces(
+/// Returns the text that an encoder appends for `pieces`, if it appends the same to an empty text
+/// and to another.
+pub(super) fn append_pieces_twice(
     alloc: Global,
     encoding: &Encoding,
     pieces: &str,
     is_finalized: bool,
 ) -> Result<String, Fail> {
-    let pieces = text_of(alloc, pieces)?;
+    let pieces = text_of_field(alloc, pieces)?;
     let mut output = String::new(alloc);
     append_pieces(encoding, pieces.as_str(), &mut output, is_finalized)?;
     let mut other = String::from_str(alloc, "Result: ")?;
     append_pieces(encoding, pieces.as_str(), &mut other, is_finalized)?;
-    if rest_of(alloc, &other)? == output {
+    if text_after_prefix(alloc, &other)? == output {
         return Ok(output);
     }
     Ok(String::from_str(alloc, "another text after a text")?)
 }
 
-// Encodes data that is cut in two.
+/// Writes the text of `input`, cut at `position`, to `output`.
 pub(super) fn encode_halves(
     encoding: &Encoding,
     input: &[u8],
@@ -93,13 +95,13 @@ pub(super) fn encode_halves(
     let (first, second) = input.split_at(position);
     let one = encoder.append(first);
     let other = encoder.append(second);
-    let ended = finish!(encoder);
+    let ended = finalize_or_abandon!(encoder);
     one?;
     other?;
     ended
 }
 
-// Encodes byte by byte.
+/// Writes the text of `data`, appended byte by byte, to `output`.
 fn encode_bytes(encoding: &Encoding, data: &[u8], output: &mut String) -> Result<(), AllocError> {
     output.clear();
     let mut encoder = encoding.new_encoder(output);
@@ -109,13 +111,13 @@ fn encode_bytes(encoding: &Encoding, data: &[u8], output: &mut String) -> Result
             appended = encoder.append(&[*byte]);
         }
     }
-    let ended = finish!(encoder);
+    let ended = finalize_or_abandon!(encoder);
     appended?;
     ended
 }
 
-// Compares the texts of data that is cut anywhere.
-fn compare_cuts(comparison: &Comparison<'_>, input: &[u8]) -> Result<(), Differs> {
+/// Compares the texts of data in two pieces, cut anywhere, and byte by byte.
+fn compare_data_cuts(comparison: &Comparison<'_>, input: &[u8]) -> Result<(), Differs> {
     if input.len() > ENCODE_LIMIT {
         return Err(Differs {});
     }
@@ -133,11 +135,11 @@ fn compare_cuts(comparison: &Comparison<'_>, input: &[u8]) -> Result<(), Differs
     Err(Differs {})
 }
 
-// Compares the texts of each prefix of some data, however it is cut.
+/// Compares the texts of data of each length up to 200 bytes, however it is cut.
 pub(super) fn compare_data_pieces(comparison: &Comparison<'_>) -> Result<(), Differs> {
     let data = bytes_of_length(comparison.alloc, 200)?;
     for len in 0..=200 {
-        compare_cuts(comparison, data.get(..len).unwrap_or(&[]))?;
+        compare_data_cuts(comparison, data.get(..len).unwrap_or(&[]))?;
     }
     Ok(())
 }

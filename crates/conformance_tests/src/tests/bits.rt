@@ -5,7 +5,7 @@ ghost use Rattle.std.specs.Prelude.{◌<◌};
 use data_encoding::BitOrder;
 use std::alloc::AllocError;
 
-// Appends this many bits of a value.
+/// Appends the lowest `count` bits of `value`.
 pub(super) fn push_bits(
     bits: &mut Vec<bool>,
     order: BitOrder,
@@ -13,25 +13,25 @@ pub(super) fn push_bits(
     value: usize,
 ) -> Result<(), AllocError> {
     for index in 0..count {
-        let shift = weight(order, count, index);
+        let shift = weight_of_bit(order, count, index);
         bits.push(value.wrapping_shr(shift) % 2 == 1)?;
     }
     Ok(())
 }
 
-// The value of the bits of a symbol of this many, with zeros after the last.
-pub(super) fn value_of(order: BitOrder, width: u32, bits: &[bool]) -> usize {
+/// Returns the value of the bits of a symbol of `width` bits. Zeros follow the last bit.
+pub(super) fn value_of_bits(order: BitOrder, width: u32, bits: &[bool]) -> usize {
     let mut value = 0usize;
     for index in 0..width {
         if bits.get(index as usize) == Some(&true) {
-            value |= 1usize.wrapping_shl(weight(order, width, index));
+            value |= 1usize.wrapping_shl(weight_of_bit(order, width, index));
         }
     }
     value
 }
 
-// The weight (as a power of two) of bit `index` of `count`.
-fn weight(order: BitOrder, count: u32, index: u32) -> u32
+/// Returns the weight (as a power of two) of bit `index` of `count`.
+fn weight_of_bit(order: BitOrder, count: u32, index: u32) -> u32
     requires inside { index < count }
 {
     match order {
@@ -40,20 +40,20 @@ fn weight(order: BitOrder, count: u32, index: u32) -> u32
     }
 }
 
-// Appends the bytes of bits.
+/// Appends the bytes of `bits`.
 pub(super) fn push_bytes(
     bytes: &mut Vec<u8>,
     order: BitOrder,
     bits: &[bool],
 ) -> Result<(), AllocError> {
     for eight in bits.chunks(8) {
-        bytes.push(byte_of(order, eight))?;
+        bytes.push(byte_of_bits(order, eight))?;
     }
     Ok(())
 }
 
-// The byte of eight bits.
-fn byte_of(order: BitOrder, bits: &[bool]) -> u8 {
+/// Returns the byte of eight bits.
+fn byte_of_bits(order: BitOrder, bits: &[bool]) -> u8 {
     let mut byte = 0u8;
     for bit in bits {
         byte = match order {

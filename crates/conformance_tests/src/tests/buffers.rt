@@ -2,9 +2,9 @@
 
 ghost use Rattle.std.specs.Prelude.{◌≤◌, length};
 
-use super::judge::{Judge, Judgement};
+use super::oracle::{Expected, Oracle};
 use conformance::callers::buffers::decode_kept;
-use conformance::callers::kept::{encode_kept, fault_within, judges_ends, made_again};
+use conformance::callers::kept::{checks_ends, encode_kept, fault_within, made_again};
 use data_encoding::{
     DECODE_LIMIT, DecodeError, DecodeKind, Encoding, base64, base64_mime, base64_mime_permissive,
     base64_nopad, hexlower,
@@ -13,9 +13,9 @@ use encoding_stream::{BufferDecoder, Kept};
 use std::alloc::{AllocError, Global};
 use std::test::Fail;
 
-// Reads a piece of at most 17 bytes into exactly the room that is needed, and appends what is
-// written.
-fn read_on(
+/// Reads a piece of at most 17 bytes, and appends the bytes that are written. The buffer has
+/// exactly the needed room.
+fn read_piece(
     decoder: &mut BufferDecoder<'_>,
     piece: &[u8],
     output: &mut Vec<u8>,
@@ -29,12 +29,11 @@ fn read_on(
     output.extend_from_slice(&room[..written])
 }
 
-// Whether a text that comes in three pieces, with a decoder for each, is decoded or refused as the
-// judge does.
-fn is_cut_alike(
+/// Returns `true` if three decoders, one for each piece of `text`, have the results of the oracle.
+fn matches_in_three_pieces(
     alloc: Global,
     encoding: &Encoding,
-    want: &Judgement,
+    want: &Expected,
     text: &[u8],
     cuts: (usize, usize),
 ) -> Result<bool, AllocError>
@@ -47,7 +46,7 @@ fn is_cut_alike(
         let Some(mut decoder) = BufferDecoder::resumed(encoding, kept) else {
             return Ok(false);
         };
-        read_on(&mut decoder, piece, &mut output)?;
+        read_piece(&mut decoder, piece, &mut output)?;
         kept = decoder.kept();
     }
     let Some(decoder) = BufferDecoder::resumed(encoding, kept) else {
@@ -59,33 +58,33 @@ fn is_cut_alike(
     Ok(verdict.err() == want.fault && output == want.bytes)
 }
 
-// The same for every two positions.
-fn is_alike(
+/// Returns `true` if the results match wherever `text` is cut.
+fn matches_every_cut(
     alloc: Global,
     encoding: &Encoding,
-    want: &Judgement,
+    want: &Expected,
     text: &[u8],
 ) -> Result<bool, AllocError>
     requires short { length text.now ≤ 17 }
 {
     for second in 0..=text.len() {
         for first in 0..=second {
-            if !is_cut_alike(alloc, encoding, want, text, (first, second))? {
+            if !matches_in_three_pieces(alloc, encoding, want, text, (first, second))? {
                 return Ok(false);
             }
         }
-        if !is_kept_alike(alloc, encoding, want, text, second)? {
+        if !matches_decode_kept(alloc, encoding, want, text, second)? {
             return Ok(false);
         }
     }
     Ok(true)
 }
 
-// Whether the proved caller decodes the text, cut in two, in the same way.
-fn is_kept_alike(
+/// Returns `true` if `decode_kept` has the results of the oracle for `text`, cut at `cut`.
+fn matches_decode_kept(
     alloc: Global,
     encoding: &Encoding,
-    want: &Judgement,
+    want: &Expected,
     text: &[u8],
     cut: usize,
 ) -> Result<bool, AllocError>
@@ -112,18 +111,18 @@ fn is_kept_alike(
     Ok(filled.verdict.err() == want.fault && output == want.bytes)
 }
 
-// The fault of a text, if it is decoded as the judge does wherever it is cut.
-pub(super) fn kept(
+/// Returns the fault of `text`, if the results match the oracle wherever it is cut.
+pub(super) fn decode_every_cut(
     alloc: Global,
     encoding: &Encoding,
-    judge: Judge<'_>,
+    oracle: Oracle<'_>,
     text: &[u8],
 ) -> Result<String, Fail>
     requires short { length text.now ≤ 17 }
 {
-    let whole = judge.decode(alloc, text)?;
-    let want = judge.in_pieces(alloc, text, whole)?;
-    if !is_alike(alloc, encoding, &want, text)? {
+    let whole = oracle.decode(alloc, text)?;
+    let want = oracle.in_pieces(alloc, text, whole)?;
+    if !matches_every_cut(alloc, encoding, &want, text)? {
         return Ok(String::from_str(alloc, "decoded otherwise")?);
     }
     match want.fault {
@@ -132,9 +131,9 @@ pub(super) fn kept(
     }
 }
 
-// Whether a decoder of base64 continues from a text of this many bytes, with a fault or without, of
-// which this many are held.
-fn goes_on(len: usize, is_faulty: bool, count: usize) -> bool {
+/// Returns `true` if a decoder of base64 continues from a text of `len` bytes, with `count` of them
+/// held, and with a fault or without.
+fn resumes_after(len: usize, is_faulty: bool, count: usize) -> bool {
     let error = DecodeError {
         position: 0,
         kind: DecodeKind::Symbol,
@@ -151,8 +150,8 @@ fn goes_on(len: usize, is_faulty: bool, count: usize) -> bool {
     BufferDecoder::resumed(&base64(), kept).is_some()
 }
 
-// Whether a decoder continues from eight bytes of which three equal ones are held.
-fn holds(encoding: &Encoding, positions: (usize, usize, usize), byte: u8) -> bool {
+/// Returns `true` if a decoder continues from eight bytes, three of them held and equal.
+fn resumes_holding_three(encoding: &Encoding, positions: (usize, usize, usize), byte: u8) -> bool {
     let (first, second, third) = positions;
     let kept = Kept {
         len: 8,
@@ -165,8 +164,8 @@ fn holds(encoding: &Encoding, positions: (usize, usize, usize), byte: u8) -> boo
     BufferDecoder::resumed(encoding, kept).is_some()
 }
 
-// Whether a decoder continues from eight bytes with a fault.
-fn has_fault(encoding: &Encoding, position: usize, kind: DecodeKind) -> bool {
+/// Returns `true` if a decoder continues from eight bytes with a fault.
+fn resumes_with_fault(encoding: &Encoding, position: usize, kind: DecodeKind) -> bool {
     let kept = Kept {
         len: 8,
         fault: Some(DecodeError { position, kind }),
@@ -178,8 +177,8 @@ fn has_fault(encoding: &Encoding, position: usize, kind: DecodeKind) -> bool {
     BufferDecoder::resumed(encoding, kept).is_some()
 }
 
-// Whether a decoder continues from one byte, which is held, at its position or at another.
-fn holds_one(encoding: &Encoding, position: usize, ended: bool) -> bool {
+/// Returns `true` if a decoder continues from one held byte at `position`.
+fn resumes_holding_one(encoding: &Encoding, position: usize, ended: bool) -> bool {
     let kept = Kept {
         len: 1,
         fault: None,
@@ -191,8 +190,8 @@ fn holds_one(encoding: &Encoding, position: usize, ended: bool) -> bool {
     BufferDecoder::resumed(encoding, kept).is_some()
 }
 
-// Whether a decoder needs room, and after a fault none.
-fn asks_for_room() -> bool {
+/// Returns `true` if `most` asks for room before a fault, and for none after it.
+fn returns_room() -> bool {
     let encoding = base64();
     let mut decoder = BufferDecoder::new(&encoding);
     let asked = decoder.most(8);
@@ -203,7 +202,7 @@ fn asks_for_room() -> bool {
 }
 
 #[test]
-fn refuses_what_no_decoder_keeps(rt: HostRuntime) {
+fn resume_refuses_invalid_counts(rt: HostRuntime) {
     for (len, is_faulty, count, want) in [
         (DECODE_LIMIT, false, 3, true),
         (DECODE_LIMIT, true, 0, true),
@@ -213,13 +212,16 @@ fn refuses_what_no_decoder_keeps(rt: HostRuntime) {
         (2, false, 3, false),
         (7, true, 1, false),
     ] {
-        assert!(rt; goes_on(len, is_faulty, count) == want, "{len} and {count}");
+        assert!(rt;
+            resumes_after(len, is_faulty, count) == want,
+            "{len} and {count}"
+        );
     }
-    assert!(rt; asks_for_room());
+    assert!(rt; returns_room());
 }
 
 #[test]
-fn refuses_what_is_held_elsewhere(rt: HostRuntime) {
+fn resume_refuses_invalid_positions(rt: HostRuntime) {
     let mime = base64_mime();
     for (positions, byte, want) in [
         ((1, 3, 7), b'A', true),
@@ -232,17 +234,23 @@ fn refuses_what_is_held_elsewhere(rt: HostRuntime) {
         ((1, 3, 7), b'\n', false),
     ] {
         let (first, second, third) = positions;
-        let found = holds(&mime, positions, byte);
+        let found = resumes_holding_three(&mime, positions, byte);
         assert!(rt; found == want, "{first}, {second}, {third} and {byte}");
     }
     let hexadecimal = hexlower();
-    assert!(rt; holds_one(&hexadecimal, 0, false));
-    assert!(rt; !holds_one(&hexadecimal, 1000, false), "after the text");
-    assert!(rt; !holds_one(&hexadecimal, 0, true), "after a last group");
+    assert!(rt; resumes_holding_one(&hexadecimal, 0, false));
+    assert!(rt;
+        !resumes_holding_one(&hexadecimal, 1000, false),
+        "after the text"
+    );
+    assert!(rt;
+        !resumes_holding_one(&hexadecimal, 0, true),
+        "after a last group"
+    );
 }
 
 #[test]
-fn refuses_faults_that_no_group_has(rt: HostRuntime) {
+fn resume_refuses_impossible_faults(rt: HostRuntime) {
     let padded = base64();
     for (position, kind, want) in [
         (7, DecodeKind::Symbol, true),
@@ -252,27 +260,30 @@ fn refuses_faults_that_no_group_has(rt: HostRuntime) {
         (7, DecodeKind::Trailing, true),
         (4, DecodeKind::Length, false),
     ] {
-        assert!(rt; has_fault(&padded, position, kind) == want, "{position}");
+        assert!(rt;
+            resumes_with_fault(&padded, position, kind) == want,
+            "{position}"
+        );
     }
     let plain = base64_nopad();
-    assert!(rt; has_fault(&plain, 7, DecodeKind::Symbol));
+    assert!(rt; resumes_with_fault(&plain, 7, DecodeKind::Symbol));
     assert!(rt;
-        !has_fault(&plain, 7, DecodeKind::Padding),
+        !resumes_with_fault(&plain, 7, DecodeKind::Padding),
         "padding without padding"
     );
     let hexadecimal = hexlower();
-    assert!(rt; !has_fault(&hexadecimal, 7, DecodeKind::Padding));
-    assert!(rt; has_fault(&hexadecimal, 7, DecodeKind::Trailing));
+    assert!(rt; !resumes_with_fault(&hexadecimal, 7, DecodeKind::Padding));
+    assert!(rt; resumes_with_fault(&hexadecimal, 7, DecodeKind::Trailing));
     let permissive = base64_mime_permissive();
-    assert!(rt; has_fault(&permissive, 7, DecodeKind::Padding));
+    assert!(rt; resumes_with_fault(&permissive, 7, DecodeKind::Padding));
     assert!(rt;
-        !has_fault(&permissive, 7, DecodeKind::Trailing),
+        !resumes_with_fault(&permissive, 7, DecodeKind::Trailing),
         "trailing bits that are not checked"
     );
 }
 
-// Whether data in two pieces, cut here, has a text in three buffers.
-fn is_encoded(data: (&[u8], &[u8]), wanted: (&[u8], &[u8], &[u8])) -> bool
+/// Returns `true` if `encode_kept` writes the `wanted` texts for the two pieces of `data`.
+fn encodes_in_three(data: (&[u8], &[u8]), wanted: (&[u8], &[u8], &[u8])) -> bool
     requires first { length data.0.now ≤ 17 }
     requires second { length data.1.now ≤ 17 }
 {
@@ -291,10 +302,10 @@ fn is_encoded(data: (&[u8], &[u8]), wanted: (&[u8], &[u8], &[u8])) -> bool
 }
 
 #[test]
-fn goes_on_from_what_is_kept(rt: HostRuntime) {
-    assert!(rt; is_encoded((b"He", b"llo"), (b"", b"SGVs", b"bG8=")));
-    assert!(rt; is_encoded((b"Hello", b""), (b"SGVs", b"", b"bG8=")));
-    assert!(rt; is_encoded((b"", b"Hel"), (b"", b"SGVs", b"")));
+fn resume_from_kept_state(rt: HostRuntime) {
+    assert!(rt; encodes_in_three((b"He", b"llo"), (b"", b"SGVs", b"bG8=")));
+    assert!(rt; encodes_in_three((b"Hello", b""), (b"SGVs", b"", b"bG8=")));
+    assert!(rt; encodes_in_three((b"", b"Hel"), (b"", b"SGVs", b"")));
     let kept = Kept {
         len: 2,
         fault: None,
@@ -305,5 +316,5 @@ fn goes_on_from_what_is_kept(rt: HostRuntime) {
     };
     assert!(rt; fault_within(&hexlower(), kept, b"0!") == Some(1));
     assert!(rt; made_again(&base64_mime()) == base64_mime());
-    assert!(rt; judges_ends(&base64_nopad()) && judges_ends(&base64_mime_permissive()));
+    assert!(rt; checks_ends(&base64_nopad()) && checks_ends(&base64_mime_permissive()));
 }

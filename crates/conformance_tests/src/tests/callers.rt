@@ -1,10 +1,11 @@
-//! The callers, compared with rows: two texts are separated by a space.
+//! The callers, compared with rows.
 
 ghost use Rattle.std.specs.Prelude.{◌≤◌, length};
 
+use super::caller_rows::{Caller, TABLES};
 use super::predefined::{Case, case_of, named};
-use super::rows::{bytes_of, compare, field_of};
-use super::stored::is_stored;
+use super::rows::{bytes_of_field, compare_answer, show_bool, show_bytes};
+use super::stored::restores_layout;
 use conformance::callers::names::{
     BodyFault, comes_before, data_of_body, decoded_token, is_key, token_of,
 };
@@ -20,180 +21,36 @@ use data_encoding::{DECODE_LIMIT, DecodeFault, ENCODE_LIMIT, Encoding, base64_mi
 use std::alloc::{AllocError, Global};
 use std::test::Fail;
 
-// A caller, by what it returns.
-#[derive(Clone, Copy)]
-enum Caller {
-    AnyToken,
-    Back,
-    Body,
-    Early,
-    IsBefore,
-    IsKey,
-    IsOneText,
-    IsRefusedAlike,
-    IsSameName,
-    IsSortedBefore,
-    IsStored,
-    IsBuiltAgain,
-    LowerCase,
-    NoSymbol,
-    OddLength,
-    Pieces,
-    Rewrapped,
-    TextInTwo,
-    Token,
-    TokenOf,
-    Two,
-    UrlText,
-}
-
-// The names of RFC 5155, appendix A, for `example` and for `a.example`, are compared. The byte `B`
-// comes before `a`, and the value of `a` before that of `B`; 9 and A have the values 9 and 10.
-const TABLES: [(Caller, &str); 22] = [
-    (
-        Caller::AnyToken,
-        "\
-BASE64URL_NOPAD|-_8|\u{fb}\u{ff}
-BASE64URL_NOPAD||
-BASE64URL_NOPAD|-_9|none
-BASE64|AA==|none",
-    ),
-    (Caller::Back, "BASE64_MIME|Hello|Hello"),
-    (
-        Caller::Body,
-        "\
-BASE64_MIME|SGVs↵bG8=↵|Hello
-BASE64_MIME|SGVs↵bG!=↵|line 1, column 2: Symbol
-BASE64_MIME|SGVs←↵↵bG8|line 2, column 0: Length",
-    ),
-    (
-        Caller::Early,
-        "\
-BASE64|SGVs|Hel
-BASE64|SGVsbG8!|invalid symbol at 7",
-    ),
-    (
-        Caller::IsBefore,
-        "\
-BASE32HEX_NOPAD|94 A0|true
-BASE32HEX_NOPAD|A0 94|false
-BASE32HEX_NOPAD|94 9400|true
-BASE32HEX_NOPAD|94 94|false",
-    ),
-    (
-        Caller::IsKey,
-        "\
-BASE64URL_NOPAD|MDEyMzQ1Njc4OWFiY2Rl_w|true
-BASE64URL_NOPAD|MDEyMzQ1Njc4OWFiY2Rl|false",
-    ),
-    (
-        Caller::IsOneText,
-        "\
-HEXLOWER|4a 4a|true
-HEXLOWER|4a 4b|false
-HEXLOWER_PERMISSIVE|4a 4a|false
-HEXLOWER|4a 4A|invalid symbol at 1",
-    ),
-    (
-        Caller::IsRefusedAlike,
-        "\
-HEXLOWER|4G4|true
-HEXLOWER|4G|false",
-    ),
-    (
-        Caller::IsSameName,
-        "\
-BASE32_DNSSEC|0p9mhaveqvm6t7vbl5lop2u3t2rp3tom 0P9MHAVEQVM6T7VBL5LOP2U3T2RP3TOM|true
-BASE32_DNSSEC|0p9mhaveqvm6t7vbl5lop2u3t2rp3tom 35mthgpgcu1qg68fab165klnsnk3dpvl|false
-BASE32_DNSSEC|0p9mhaveqvm6t7vbl5lop2u3t2rp3tom 0p9mhaveqvm6t7vbl5lop2u3t2rp3to|false",
-    ),
-    (
-        Caller::IsSortedBefore,
-        "\
-BASE32_DNSSEC|a0 B0|true
-BASE32_DNSSEC|B0 a0|false
-BASE32_DNSSEC|A0 a0|false",
-    ),
-    (
-        Caller::IsStored,
-        "\
-BASE64_MIME|BASE64|true
-HEXLOWER|HEXLOWER_PERMISSIVE|true",
-    ),
-    (
-        Caller::IsBuiltAgain,
-        "\
-BASE64|BASE64|true
-BASE64|BASE64_NOPAD|false",
-    ),
-    (Caller::LowerCase, "BASE32_DNSSEC|0P9MHAVEqz|0p9mhaveqz"),
-    (Caller::NoSymbol, "HEXLOWER||invalid symbol at 1"),
-    (Caller::OddLength, "HEXLOWER||invalid length at 2"),
-    (
-        Caller::Pieces,
-        "\
-BASE64_MIME|8=|>Hello
-BASE64_MIME|8!|>Hel, invalid symbol at 9",
-    ),
-    (
-        Caller::Rewrapped,
-        "\
-BASE64_MIME|SGVsbG8sIHdv←↵cmxkIQ==←↵|SGVsb←↵G8sIH←↵dvcmx←↵kIQ==←↵
-BASE64_MIME|SGVs↵b|SGVsb←↵
-BASE64_MIME|↵|
-BASE64|SGVs|none",
-    ),
-    (Caller::TextInTwo, "BASE64|he llo|Result: aGVsbG8="),
-    (
-        Caller::Token,
-        "\
-BASE64URL_NOPAD|MDEyMzQ1Njc4OWFiY2Rl_w|0123456789abcde\u{ff}
-BASE64URL_NOPAD|MDEyMzQ1Njc4OWFiY2Rl_x|none",
-    ),
-    (
-        Caller::TokenOf,
-        "BASE64URL_NOPAD|0123456789abcde\u{ff}|MDEyMzQ1Njc4OWFiY2Rl_w",
-    ),
-    (
-        Caller::Two,
-        "\
-BASE64_MIME|SGVs←↵b G8=←↵|Hello
-BASE64_MIME|SGVs←↵b G!=|invalid symbol at 8",
-    ),
-    (Caller::UrlText, "BASE64|A+/A/w==|A-_A_w=="),
-];
-
-// How a result is written.
-fn told(alloc: Global, answer: Result<Vec<u8>, DecodeFault>) -> Result<String, Fail> {
+/// Returns the data of a decoding or its fault, as a row writes them.
+fn show_decoded(alloc: Global, answer: Result<Vec<u8>, DecodeFault>) -> Result<String, Fail> {
     match answer {
-        Ok(bytes) => Ok(field_of(alloc, &bytes)?),
+        Ok(bytes) => Ok(show_bytes(alloc, &bytes)?),
         Err(fault) => Ok(fault.to_string(alloc)?),
     }
 }
 
-// The same for data, or none.
-fn told_if_any(alloc: Global, answer: Result<Option<Vec<u8>>, AllocError>) -> Result<String, Fail> {
+/// Returns the data as a row writes it, or `none`.
+fn show_found(alloc: Global, answer: Result<Option<Vec<u8>>, AllocError>) -> Result<String, Fail> {
     match answer? {
-        Some(bytes) => Ok(field_of(alloc, &bytes)?),
+        Some(bytes) => Ok(show_bytes(alloc, &bytes)?),
         None => Ok(String::from_str(alloc, "none")?),
     }
 }
 
-// The same for yes or no.
-fn told_if_so(alloc: Global, answer: Result<bool, DecodeFault>) -> Result<String, Fail> {
+/// Returns `true`, `false` or the fault.
+fn show_truth(alloc: Global, answer: Result<bool, DecodeFault>) -> Result<String, Fail> {
     match answer {
-        Ok(true) => Ok(String::from_str(alloc, "true")?),
-        Ok(false) => Ok(String::from_str(alloc, "false")?),
+        Ok(is_so) => show_bool(alloc, is_so),
         Err(fault) => Ok(fault.to_string(alloc)?),
     }
 }
 
-// What is returned of the body of a key file: its data, or a line, a column and a kind.
-fn body(alloc: Global, input: &[u8]) -> Result<String, Fail>
+/// Returns the data of the body of a key file, or the line, the column and the kind of its fault.
+fn show_body(alloc: Global, input: &[u8]) -> Result<String, Fail>
     requires limit { length input.now ≤ DECODE_LIMIT }
 {
     match data_of_body(alloc, input) {
-        Ok(bytes) => Ok(field_of(alloc, &bytes)?),
+        Ok(bytes) => Ok(show_bytes(alloc, &bytes)?),
         Err(BodyFault::Text(place, kind)) => {
             let (line, column) = (place.line, place.column);
             Ok(format!(in alloc; "line {line}, column {column}: {kind:?}")?)
@@ -202,18 +59,18 @@ fn body(alloc: Global, input: &[u8]) -> Result<String, Fail>
     }
 }
 
-// The data of a prefix of whole groups.
-fn early(alloc: Global, input: &[u8]) -> Result<String, Fail>
+/// Returns the data of a prefix of whole groups.
+fn decode_whole_groups(alloc: Global, input: &[u8]) -> Result<String, Fail>
     requires limit { length input.now ≤ DECODE_LIMIT }
 {
     if input.len() % 4 != 0 {
         return Ok(String::from_str(alloc, "no whole groups")?);
     }
-    told(alloc, decoded_early(alloc, input))
+    show_decoded(alloc, decoded_early(alloc, input))
 }
 
-// The text of two pieces of data, appended to other text.
-fn text_in_two(
+/// Returns the text of two pieces of data after other text.
+fn append_in_two(
     alloc: Global,
     encoding: &Encoding,
     one: &[u8],
@@ -226,17 +83,16 @@ fn text_in_two(
     Ok(output)
 }
 
-// The data of a text in two pieces.
-fn two(alloc: Global, one: &[u8], other: &[u8]) -> Result<String, Fail> {
+/// Returns the data of a text in two pieces.
+fn decode_two_pieces(alloc: Global, one: &[u8], other: &[u8]) -> Result<String, Fail> {
     if one.len() > 100 || other.len() > 100 {
         return Ok(String::from_str(alloc, "too long")?);
     }
-    told(alloc, decode_in_two(alloc, &base64_mime(), one, other))
+    show_decoded(alloc, decode_in_two(alloc, &base64_mime(), one, other))
 }
 
-// What the pieces `SGVs` CR, LF `bG` and the last are decoded to, appended to a prompt, and their
-// fault.
-fn pieces(alloc: Global, last: &[u8]) -> Result<String, Fail> {
+/// Returns the data of the pieces `SGVs` CR, LF `bG` and `last` after a prompt, and their fault.
+fn decode_three_pieces(alloc: Global, last: &[u8]) -> Result<String, Fail> {
     let mut output = vec![in alloc; b'>']?;
     let pieces = [b"SGVs\r".as_slice(), b"\nbG".as_slice(), last];
     if last.len() > 2 {
@@ -249,29 +105,29 @@ fn pieces(alloc: Global, last: &[u8]) -> Result<String, Fail> {
             output.extend_from_slice(told.as_bytes())?;
         }
     }
-    Ok(field_of(alloc, &output)?)
+    Ok(show_bytes(alloc, &output)?)
 }
 
-// A text, changed in place.
-fn changed(alloc: Global, input: &[u8], is_url: bool) -> Result<String, Fail> {
+/// Returns a text that was changed in place, to base64url or to lower case.
+fn rewrite_text(alloc: Global, input: &[u8], is_url: bool) -> Result<String, Fail> {
     let mut text = input.to_vec(alloc)?;
     if is_url {
         to_base64url(&mut text);
     } else {
         to_lower_case(&mut text);
     }
-    Ok(field_of(alloc, &text)?)
+    Ok(show_bytes(alloc, &text)?)
 }
 
-// Whether a name sorts before another.
-fn is_sorted(alloc: Global, one: &[u8], other: &[u8]) -> Result<bool, AllocError> {
+/// Returns `true` if one name sorts before another.
+fn sorts_copies_before(alloc: Global, one: &[u8], other: &[u8]) -> Result<bool, AllocError> {
     let mut one = one.to_vec(alloc)?;
     let mut other = other.to_vec(alloc)?;
     Ok(sorts_before(&mut one, &mut other))
 }
 
-// What a caller returns for two encodings.
-fn returned_of_two(
+/// Returns the result of a caller for two encodings.
+fn call_with_encodings(
     alloc: Global,
     caller: Caller,
     encoding: &Encoding,
@@ -282,13 +138,13 @@ fn returned_of_two(
     };
     let is_so = match caller {
         Caller::IsBuiltAgain => is_built_again(alloc, encoding, &other)?,
-        _ => is_stored(encoding, &other),
+        _ => restores_layout(encoding, &other),
     };
-    told_if_so(alloc, Ok(is_so))
+    show_truth(alloc, Ok(is_so))
 }
 
-// What a caller returns for two texts.
-fn returned_of_two_texts(
+/// Returns the result of a caller for two texts.
+fn call_with_texts(
     alloc: Global,
     caller: Caller,
     encoding: &Encoding,
@@ -299,33 +155,33 @@ fn returned_of_two_texts(
     requires other_limit { length other.now ≤ DECODE_LIMIT }
 {
     match caller {
-        Caller::IsBefore => told_if_so(alloc, Ok(comes_before(one, other))),
-        Caller::IsOneText => told_if_so(alloc, is_one_text(alloc, encoding, one, other)),
-        Caller::IsSameName => told_if_so(alloc, Ok(is_same_name(one, other))),
-        Caller::IsSortedBefore => told_if_so(alloc, Ok(is_sorted(alloc, one, other)?)),
-        Caller::TextInTwo => text_in_two(alloc, encoding, one, other),
-        _ => two(alloc, one, other),
+        Caller::IsBefore => show_truth(alloc, Ok(comes_before(one, other))),
+        Caller::IsOneText => show_truth(alloc, is_one_text(alloc, encoding, one, other)),
+        Caller::IsSameName => show_truth(alloc, Ok(is_same_name(one, other))),
+        Caller::IsSortedBefore => show_truth(alloc, Ok(sorts_copies_before(alloc, one, other)?)),
+        Caller::TextInTwo => append_in_two(alloc, encoding, one, other),
+        _ => decode_two_pieces(alloc, one, other),
     }
 }
 
-// The same for two texts separated by a space.
-fn returned_of_texts(
+/// Returns the result of a caller for two texts, separated by a space.
+fn call_with_split_text(
     alloc: Global,
     caller: Caller,
     encoding: &Encoding,
     texts: &str,
 ) -> Result<String, Fail> {
     let (one, other) = texts.split_once(' ').unwrap_or((texts, ""));
-    let one = bytes_of(alloc, one)?;
-    let other = bytes_of(alloc, other)?;
+    let one = bytes_of_field(alloc, one)?;
+    let other = bytes_of_field(alloc, other)?;
     if one.len() > DECODE_LIMIT || other.len() > DECODE_LIMIT {
         return Ok(String::from_str(alloc, "too long")?);
     }
-    returned_of_two_texts(alloc, caller, encoding, &one, &other)
+    call_with_texts(alloc, caller, encoding, &one, &other)
 }
 
-// What a caller returns for a text or for data.
-fn returned(
+/// Returns the result of a caller for a text or for data.
+fn call_with_input(
     alloc: Global,
     caller: Caller,
     encoding: &Encoding,
@@ -335,57 +191,57 @@ fn returned(
     requires decoded { length input.now ≤ DECODE_LIMIT }
 {
     match caller {
-        Caller::AnyToken => told_if_any(alloc, data_of_token(alloc, encoding, input)),
-        Caller::Back => Ok(field_of(alloc, &streamed_back(alloc, encoding, input)?)?),
-        Caller::Body => body(alloc, input),
-        Caller::Early => early(alloc, input),
-        Caller::IsKey => told_if_so(alloc, Ok(is_key(input))),
-        Caller::IsRefusedAlike => told_if_so(alloc, Ok(is_refused_alike(alloc, encoding, input))),
-        Caller::LowerCase => changed(alloc, input, false),
-        Caller::NoSymbol => told(alloc, no_symbol(alloc)),
-        Caller::OddLength => told(alloc, odd_length(alloc)),
-        Caller::Pieces => pieces(alloc, input),
-        Caller::Rewrapped => told_if_any(alloc, rewrapped(alloc, encoding, input, 5)),
-        Caller::Token => told_if_any(alloc, decoded_token(alloc, input)),
+        Caller::AnyToken => show_found(alloc, data_of_token(alloc, encoding, input)),
+        Caller::Back => Ok(show_bytes(alloc, &streamed_back(alloc, encoding, input)?)?),
+        Caller::Body => show_body(alloc, input),
+        Caller::Early => decode_whole_groups(alloc, input),
+        Caller::IsKey => show_truth(alloc, Ok(is_key(input))),
+        Caller::IsRefusedAlike => show_truth(alloc, Ok(is_refused_alike(alloc, encoding, input))),
+        Caller::LowerCase => rewrite_text(alloc, input, false),
+        Caller::NoSymbol => show_decoded(alloc, no_symbol(alloc)),
+        Caller::OddLength => show_decoded(alloc, odd_length(alloc)),
+        Caller::Pieces => decode_three_pieces(alloc, input),
+        Caller::Rewrapped => show_found(alloc, rewrapped(alloc, encoding, input, 5)),
+        Caller::Token => show_found(alloc, decoded_token(alloc, input)),
         Caller::TokenOf => Ok(token_of(alloc, input)?),
-        _ => changed(alloc, input, true),
+        _ => rewrite_text(alloc, input, true),
     }
 }
 
-// What a caller returns for a row.
-fn returned_of_row(alloc: Global, caller: Caller, case: &Case<'_>) -> Result<String, Fail> {
+/// Returns the result of a caller for a row.
+fn call_for_row(alloc: Global, caller: Caller, case: &Case<'_>) -> Result<String, Fail> {
     match caller {
         Caller::IsBuiltAgain | Caller::IsStored => {
-            returned_of_two(alloc, caller, &case.encoding, case.input)
+            call_with_encodings(alloc, caller, &case.encoding, case.input)
         }
         Caller::IsBefore
         | Caller::IsOneText
         | Caller::IsSameName
         | Caller::IsSortedBefore
         | Caller::TextInTwo
-        | Caller::Two => returned_of_texts(alloc, caller, &case.encoding, case.input),
+        | Caller::Two => call_with_split_text(alloc, caller, &case.encoding, case.input),
         _ => {
-            let input = bytes_of(alloc, case.input)?;
+            let input = bytes_of_field(alloc, case.input)?;
             if input.len() > ENCODE_LIMIT || input.len() > DECODE_LIMIT {
                 return Ok(String::from_str(alloc, "too long")?);
             }
-            returned(alloc, caller, &case.encoding, &input)
+            call_with_input(alloc, caller, &case.encoding, &input)
         }
     }
 }
 
-// Fails if a caller returns something else.
-fn compare_row(alloc: Global, caller: Caller, line: &str) -> Result<(), Fail> {
+/// Compares the result of a caller with a row.
+fn compare_caller_row(alloc: Global, caller: Caller, line: &str) -> Result<(), Fail> {
     let case = case_of(alloc, line)?;
-    let answer = returned_of_row(alloc, caller, &case)?;
-    compare(alloc, line, answer.as_str(), case.want)
+    let answer = call_for_row(alloc, caller, &case)?;
+    compare_answer(alloc, line, answer.as_str(), case.want)
 }
 
 #[test]
-fn callers_return_what_rows_want(rt: HostRuntime) -> Result<(), Fail> {
+fn callers_match_rows(rt: HostRuntime) -> Result<(), Fail> {
     for (caller, lines) in &TABLES {
         for line in lines.split('\n') {
-            compare_row(rt.alloc(), *caller, line)?;
+            compare_caller_row(rt.alloc(), *caller, line)?;
         }
     }
     Ok(())

@@ -1,16 +1,15 @@
-//! Texts that are decoded by each call, at once and in pieces, and compared with the results of the
-//! judge.
+//! The results of each decoding call for a text, whole and in pieces, compared with the oracle.
 
 ghost use Rattle.std.specs.Prelude.{◌≡◌, ◌<◌, ◌≤◌, length};
 
-use super::judge::{Judge, Judgement};
-use super::pieces::{finish, push};
-use super::streams::is_decoded_by_stream;
+use super::oracle::{Expected, Oracle};
+use super::pieces::{finish_text, push_within_limit};
+use super::streams::stream_decodes;
 use data_encoding::{DECODE_LIMIT, DecodeError, DecodeFault, Encoding};
 use encoding_stream::Decoder;
 use std::alloc::{AllocError, Global};
 
-// A text is not decoded as the judge does, or memory ran out.
+/// The error if a result differs from the oracle, or memory runs out.
 #[derive(Drop)]
 pub(super) struct Differs {}
 
@@ -26,19 +25,24 @@ impl From<DecodeFault> for Differs {
     }
 }
 
-// The room for the data of a text, in bytes.
+/// The room for the data of a text, in bytes.
 const ROOM: usize = 576;
 
-// How many texts came in pieces, and how many times in all: cut at another position, or from a
-// reader; and how many times a decoding of a prefix was resumed.
+/// The numbers of comparisons.
 #[derive(Clone, Copy)]
 pub(super) struct Tally {
+    /// The texts that came in pieces.
     pub(super) texts: usize,
+
+    /// The decodings of these texts, each cut at another position or from a reader.
     pub(super) decodings: usize,
+
+    /// The decodings that were resumed after a prefix.
     pub(super) resumed: usize,
 }
 
 impl Tally {
+    /// Returns a tally of zeros.
     pub(super) fn zero() -> Tally {
         Tally {
             texts: 0,
@@ -48,88 +52,106 @@ impl Tally {
     }
 }
 
-// An encoding, what its results are compared with, and how many were compared.
+/// An encoding, its oracle, and the numbers of comparisons.
 #[derive(Drop)]
 pub(super) struct Comparison<'a> {
     pub(super) alloc: Global,
     pub(super) encoding: &'a Encoding,
-    pub(super) judge: Judge<'a>,
+    pub(super) oracle: Oracle<'a>,
     pub(super) tally: Tally,
-    // What a decoder appends; the vector is reused.
+
+    /// The output of a decoder. The vector is reused.
     output: Vec<u8>,
 }
 
 impl<'a> Comparison<'a> {
-    // One that continues a tally.
+    /// Returns a comparison that continues `tally`.
     pub(super) fn new(
         alloc: Global,
         encoding: &'a Encoding,
-        judge: Judge<'a>,
+        oracle: Oracle<'a>,
         tally: Tally,
     ) -> Comparison<'a> {
         Comparison {
             alloc,
             encoding,
-            judge,
+            oracle,
             tally,
             output: Vec::new(alloc),
         }
     }
 
-    // Compares the results for a text: at once, resumed and in pieces.
+    /// Compares the results for a text: at once, resumed and in pieces.
     pub(super) fn compare(&mut self, text: &[u8]) -> Result<(), Differs> {
         if text.len() > DECODE_LIMIT {
             return Err(Differs {});
         }
-        let want = self.judge.decode(self.alloc, text)?;
-        if !is_decoded_alike(self.alloc, self.encoding, &want, text)
-            || !is_written_alike(self.encoding, &want, text)
-            || !self.is_resumed_alike(&want, text)
+        let want = self.oracle.decode(self.alloc, text)?;
+        if !decode_matches(self.alloc, self.encoding, &want, text)
+            || !decode_mut_matches(self.encoding, &want, text)
+            || !self.matches_resumed(&want, text)
         {
             return Err(Differs {});
         }
-        let want = self.judge.in_pieces(self.alloc, text, want)?;
+        let want = self.oracle.in_pieces(self.alloc, text, want)?;
         self.compare_pieces(&want, text)
     }
 
-    // Whether a decoding of each prefix of a valid length that may be followed is resumed, with the
-    // result that is expected of the whole.
-    fn is_resumed_alike(&mut self, want: &Judgement, text: &[u8]) -> bool
+    /// Compares the results of `decode` and `decode_mut` for a text.
+    pub(super) fn compare_at_once(&self, text: &[u8]) -> Result<(), Differs> {
+        if text.len() > DECODE_LIMIT {
+            return Err(Differs {});
+        }
+        let want = self.oracle.decode(self.alloc, text)?;
+        let mut output = vec![in self.alloc; 0; text.len()]?;
+        if decode_matches(self.alloc, self.encoding, &want, text)
+            && decode_mut_matches_within(self.encoding, &want, text, &mut output)
+        {
+            return Ok(());
+        }
+        Err(Differs {})
+    }
+
+    /// Returns `true` if decoding resumes after each prefix that another text may follow, with the
+    /// result of the whole text.
+    ///
+    /// A prefix must have a valid length.
+    fn matches_resumed(&mut self, want: &Expected, text: &[u8]) -> bool
         requires limit { length text.now ≤ DECODE_LIMIT }
     {
         for position in 0..=text.len() {
             let mut output = [0; 16];
-            let Some((read, written)) = front_read(self.encoding, &text[..position], &mut output)
+            let Some((read, written)) = decode_prefix(self.encoding, &text[..position], &mut output)
             else {
                 continue;
             };
-            if !self.judge.may_be_followed(text.get(..read).unwrap_or(&[])) {
+            if !self.oracle.may_be_followed(text.get(..read).unwrap_or(&[])) {
                 continue;
             }
             self.tally.resumed = self.tally.resumed.wrapping_add(1);
-            if !is_completed(self.encoding, want, text, read, written, &mut output) {
+            if !completes_prefix(self.encoding, want, text, read, written, &mut output) {
                 return false;
             }
         }
         true
     }
 
-    // Compares the results for a text that is cut in two, at each position, and for one that comes
-    // byte by byte, in pieces and from a reader.
-    pub(super) fn compare_pieces(&mut self, want: &Judgement, text: &[u8]) -> Result<(), Differs> {
+    /// Compares the results for a text in two pieces, cut anywhere, and byte by byte, in pieces and
+    /// from a reader.
+    pub(super) fn compare_pieces(&mut self, want: &Expected, text: &[u8]) -> Result<(), Differs> {
         for position in 0..=text.len() {
             self.compare_cut(want, text, position, usize::MAX)?;
         }
         self.tally.texts = self.tally.texts.wrapping_add(1);
         self.compare_cut(want, text, 0, 1)?;
-        self.compare_read(want, text, 1)
+        self.compare_stream(want, text, 1)
     }
 
-    // Compares what a decoder appends and returns, which is pushed the text up to a position, and
-    // then in pieces of this many bytes.
+    /// Compares the output and the fault of a decoder. The first piece ends at `position`, and the
+    /// others have `size` bytes.
     pub(super) fn compare_cut(
         &mut self,
-        want: &Judgement,
+        want: &Expected,
         text: &[u8],
         position: usize,
         size: usize,
@@ -141,22 +163,22 @@ impl<'a> Comparison<'a> {
         self.output.clear();
         let (front, rest) = text.split_at(position);
         let mut decoder = Decoder::new(self.encoding);
-        push(&mut decoder, front, &mut self.output)?;
+        push_within_limit(&mut decoder, front, &mut self.output)?;
         for piece in rest.chunks(size) {
-            push(&mut decoder, piece, &mut self.output)?;
+            push_within_limit(&mut decoder, piece, &mut self.output)?;
         }
         let is_counted = decoder.len() == text.len();
-        let fault = finish(decoder, &mut self.output)?;
+        let fault = finish_text(decoder, &mut self.output)?;
         if is_counted && fault == want.fault && self.output == want.bytes {
             return Ok(());
         }
         Err(Differs {})
     }
 
-    // The same for a decoder whose output is cleared after each call.
+    /// Like `compare_cut`, for an output that is cleared after each call.
     pub(super) fn compare_drained(
         &mut self,
-        want: &Judgement,
+        want: &Expected,
         text: &[u8],
         position: usize,
         size: usize,
@@ -168,13 +190,13 @@ impl<'a> Comparison<'a> {
         let (front, rest) = text.split_at(position);
         let mut drained = Vec::new(self.alloc);
         let mut decoder = Decoder::new(self.encoding);
-        push(&mut decoder, front, &mut self.output)?;
+        push_within_limit(&mut decoder, front, &mut self.output)?;
         for piece in rest.chunks(size) {
             drain(&mut self.output, &mut drained)?;
-            push(&mut decoder, piece, &mut self.output)?;
+            push_within_limit(&mut decoder, piece, &mut self.output)?;
         }
         drain(&mut self.output, &mut drained)?;
-        let fault = finish(decoder, &mut self.output)?;
+        let fault = finish_text(decoder, &mut self.output)?;
         drain(&mut self.output, &mut drained)?;
         if fault == want.fault && drained == want.bytes {
             return Ok(());
@@ -182,33 +204,33 @@ impl<'a> Comparison<'a> {
         Err(Differs {})
     }
 
-    // Compares what a stream writes and returns, which is given this many bytes at a time.
-    pub(super) fn compare_read(
+    /// Compares the output and the fault of a stream that reads `most` bytes at a time.
+    pub(super) fn compare_stream(
         &mut self,
-        want: &Judgement,
+        want: &Expected,
         text: &[u8],
         most: usize,
     ) -> Result<(), Differs> {
         self.tally.decodings = self.tally.decodings.wrapping_add(1);
-        if is_decoded_by_stream(self.alloc, self.encoding, want, text, most) {
+        if stream_decodes(self.alloc, self.encoding, want, text, most) {
             return Ok(());
         }
         Err(Differs {})
     }
 }
 
-// Appends the output to what was drained before.
+/// Moves the output to the end of `drained`.
 fn drain(output: &mut Vec<u8>, drained: &mut Vec<u8>) -> Result<(), AllocError> {
     drained.extend_from_slice(output)?;
     output.clear();
     Ok(())
 }
 
-// Whether `decode` returns what the judge does.
-pub(super) fn is_decoded_alike(
+/// Returns `true` if `decode` returns the result of the oracle.
+pub(super) fn decode_matches(
     alloc: Global,
     encoding: &Encoding,
-    want: &Judgement,
+    want: &Expected,
     text: &[u8],
 ) -> bool
     requires limit { length text.now ≤ DECODE_LIMIT }
@@ -220,17 +242,17 @@ pub(super) fn is_decoded_alike(
     }
 }
 
-// Whether `decode_mut` reads and writes as much of the text as the judge does, and the same bytes.
-pub(super) fn is_written_alike(encoding: &Encoding, want: &Judgement, text: &[u8]) -> bool
+/// Returns `true` if `decode_mut` reads and writes as far as the oracle, and writes the same bytes.
+pub(super) fn decode_mut_matches(encoding: &Encoding, want: &Expected, text: &[u8]) -> bool
     requires limit { length text.now ≤ DECODE_LIMIT }
 {
-    is_written_within(encoding, want, text, &mut [0; ROOM])
+    decode_mut_matches_within(encoding, want, text, &mut [0; ROOM])
 }
 
-// The same into an output that may have more room.
-pub(super) fn is_written_within(
+/// Like `decode_mut_matches`, for an output that may have more room.
+pub(super) fn decode_mut_matches_within(
     encoding: &Encoding,
-    want: &Judgement,
+    want: &Expected,
     text: &[u8],
     output: &mut [u8],
 ) -> bool
@@ -253,9 +275,10 @@ pub(super) fn is_written_within(
     is_same && written == want.bytes.len() && output.starts_with(&want.bytes)
 }
 
-// How far a prefix of a text is read, and how many bytes are written, if its length is that of a
-// text of few bytes.
-pub(super) fn front_read(
+/// Returns the length of `front` that is read, and the number of bytes that are written.
+///
+/// Returns `None` if `front` has an invalid length or means too many bytes for `output`.
+pub(super) fn decode_prefix(
     encoding: &Encoding,
     front: &[u8],
     output: &mut [u8],
@@ -275,11 +298,11 @@ pub(super) fn front_read(
     }
 }
 
-// Whether decoding the rest of a text, of which this much was read and this many bytes were
-// written, gives what is expected of the whole.
-fn is_completed(
+/// Returns `true` if decoding the rest of `text` completes the result of the whole text, after
+/// `read` characters and `written` bytes.
+fn completes_prefix(
     encoding: &Encoding,
-    want: &Judgement,
+    want: &Expected,
     text: &[u8],
     read: usize,
     written: usize,
@@ -293,7 +316,7 @@ fn is_completed(
     let rest = &text[read..];
     let len = match encoding.decode_len(rest.len()) {
         Ok(len) => len,
-        Err(error) => return is_further(want.fault, read, error),
+        Err(error) => return is_moved_fault(want.fault, read, error),
     };
     if len > output.len() - written {
         return false;
@@ -302,12 +325,12 @@ fn is_completed(
         Ok(count) => {
             want.fault.is_none() && output.get(..written + count) == Some(want.bytes.as_slice())
         }
-        Err(partial) => is_further(want.fault, read, partial.error),
+        Err(partial) => is_moved_fault(want.fault, read, partial.error),
     }
 }
 
-// Whether a fault is the other, with this many bytes added to its position.
-fn is_further(fault: Option<DecodeError>, read: usize, error: DecodeError) -> bool {
+/// Returns `true` if `fault` is `error`, with `read` added to its position.
+fn is_moved_fault(fault: Option<DecodeError>, read: usize, error: DecodeError) -> bool {
     match fault {
         Some(fault) => {
             fault.kind == error.kind && fault.position.checked_sub(read) == Some(error.position)

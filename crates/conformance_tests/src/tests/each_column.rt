@@ -1,22 +1,23 @@
-//! Data of one line and of three, and of a few bytes more. The texts are the texts of the judge,
-//! and mean the data.
+//! Data of one line and of three, and of a few bytes more. The texts are compared with the oracle,
+//! and decoded again.
 
 use super::comparison::{Comparison, Differs};
-use super::judge::Judgement;
-use super::round_trips::compare_whole;
+use super::oracle::Expected;
+use super::round_trips::compare_round_trip;
 use super::rows::bytes_of_length;
 
-// Lines of eight groups or more are encoded in lanes if up to eight more bytes follow them.
+/// Compares data of one line and of three, and a few bytes more.
+// Lines of eight groups or more are encoded with SIMD if up to eight more bytes follow them.
 pub(super) fn compare_lines(comparison: &Comparison<'_>) -> Result<(), Differs> {
     let line = comparison.encoding.encode_align();
     let data = bytes_of_length(comparison.alloc, line.wrapping_mul(3).wrapping_add(8))?;
     for lines in [1usize, 3] {
         for more in [0, 3, 4, 7, 8] {
             let len = line.wrapping_mul(lines).wrapping_add(more);
-            let mut want = Judgement::new(comparison.alloc);
+            let mut want = Expected::new(comparison.alloc);
             want.bytes
                 .extend_from_slice(data.get(..len).unwrap_or(&[]))?;
-            compare_whole(comparison, &want)?;
+            compare_round_trip(comparison, &want)?;
         }
     }
     Ok(())

@@ -3,13 +3,13 @@
 ghost use Rattle.std.specs.Prelude.{◌≤◌, length};
 
 use super::appending::encode_halves;
-use super::comparison::{Comparison, Differs, is_decoded_alike};
-use super::judge::Judgement;
+use super::comparison::{Comparison, Differs, decode_matches};
+use super::oracle::Expected;
 use super::rows::bytes_of_length;
 use data_encoding::{DECODE_LIMIT, ENCODE_LIMIT};
 
-// Compares the texts of data that is appended at once and in two pieces, and that of data that is
-// written to a text.
+/// Compares `text` with the text of `input`: appended at once and in two pieces, and written with a
+/// buffer.
 fn compare_appended(comparison: &Comparison<'_>, input: &[u8], text: &str) -> Result<(), Differs>
     requires limit { length input.now ≤ ENCODE_LIMIT }
 {
@@ -27,17 +27,17 @@ fn compare_appended(comparison: &Comparison<'_>, input: &[u8], text: &str) -> Re
     Err(Differs {})
 }
 
-// Compares the data of the text of data, at once and in two pieces.
-fn compare_len(comparison: &mut Comparison<'_>, input: &[u8]) -> Result<(), Differs> {
+/// Compares `input` with the data of its text, at once and in two pieces.
+fn compare_round_trip_len(comparison: &mut Comparison<'_>, input: &[u8]) -> Result<(), Differs> {
     if input.len() > ENCODE_LIMIT {
         return Err(Differs {});
     }
     let text = comparison.encoding.encode(comparison.alloc, input)?;
     compare_appended(comparison, input, text.as_str())?;
-    let mut want = Judgement::new(comparison.alloc);
+    let mut want = Expected::new(comparison.alloc);
     want.bytes.extend_from_slice(input)?;
     if text.len() > DECODE_LIMIT
-        || !is_decoded_alike(
+        || !decode_matches(
             comparison.alloc,
             comparison.encoding,
             &want,
@@ -49,11 +49,11 @@ fn compare_len(comparison: &mut Comparison<'_>, input: &[u8]) -> Result<(), Diff
     comparison.compare_cut(&want, text.as_bytes(), text.len() / 2, usize::MAX)
 }
 
-// The same for data of each length.
+/// Compares data of each length.
 pub(super) fn compare_each_length(comparison: &mut Comparison<'_>) -> Result<(), Differs> {
     let data = bytes_of_length(comparison.alloc, 8200)?;
     for len in 0..=8200 {
-        compare_len(comparison, data.get(..len).unwrap_or(&[]))?;
+        compare_round_trip_len(comparison, data.get(..len).unwrap_or(&[]))?;
     }
     Ok(())
 }

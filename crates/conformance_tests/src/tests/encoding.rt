@@ -7,8 +7,8 @@ use data_encoding::{DECODE_LIMIT, ENCODE_LIMIT, Encoding, Specification};
 use std::alloc::Global;
 use std::test::Fail;
 
-// Whether the text is written to an output of its length, and returned.
-pub(super) fn writes(encoding: &Encoding, input: &[u8], text: &[u8]) -> bool
+/// Returns `true` if `encode_mut` and `encode_mut_str` write `text` to an output of its length.
+pub(super) fn encode_mut_writes(encoding: &Encoding, input: &[u8], text: &[u8]) -> bool
     requires limit { length input.now ≤ ENCODE_LIMIT }
 {
     let mut output = [0; 80];
@@ -28,27 +28,31 @@ pub(super) fn writes(encoding: &Encoding, input: &[u8], text: &[u8]) -> bool
     is_text && &output[..len] == text
 }
 
-// The text of data that each call writes.
-pub(super) fn encoded(alloc: Global, encoding: &Encoding, input: &[u8]) -> Result<String, Fail>
+/// Returns the text of data, if each call writes it.
+pub(super) fn encode_by_each_call(
+    alloc: Global,
+    encoding: &Encoding,
+    input: &[u8],
+) -> Result<String, Fail>
     requires limit { length input.now ≤ ENCODE_LIMIT }
 {
     let text = encoding.encode(alloc, input)?;
-    if writes(encoding, input, text.as_bytes()) {
+    if encode_mut_writes(encoding, input, text.as_bytes()) {
         return Ok(text);
     }
     Ok(String::from_str(alloc, "written otherwise")?)
 }
 
-// Whether the data comes back from its text.
-pub(super) fn is_there_and_back(alloc: Global, specification: &Specification, data: &[u8]) -> bool {
+/// Returns `true` if the text of `data` is decoded to `data`.
+pub(super) fn round_trips(alloc: Global, specification: &Specification, data: &[u8]) -> bool {
     match there_and_back(alloc, specification, data) {
         Ok(bytes) => bytes.as_slice() == data,
         Err(_) => false,
     }
 }
 
-// The text of data, if it is decoded to the data; a caller encodes and decodes it too.
-pub(super) fn both(
+/// Returns the text of `input`, if it is decoded to `input`, also by a caller.
+pub(super) fn encode_and_decode(
     alloc: Global,
     encoding: &Encoding,
     specification: &Specification,
@@ -56,10 +60,10 @@ pub(super) fn both(
 ) -> Result<String, Fail>
     requires limit { length input.now ≤ ENCODE_LIMIT }
 {
-    let text = encoded(alloc, encoding, input)?;
+    let text = encode_by_each_call(alloc, encoding, input)?;
     if text.len() <= DECODE_LIMIT
         && encoding.decode(alloc, text.as_bytes())?.as_slice() == input
-        && is_there_and_back(alloc, specification, input)
+        && round_trips(alloc, specification, input)
     {
         return Ok(text);
     }

@@ -1,12 +1,13 @@
-//! Short texts that have ignored bytes among others, for every width and both orders.
+//! Short texts with ignored bytes, for every width and both orders.
 
 ghost use Rattle.std.specs.Prelude.{◌<◌, ◌≤◌, length};
 
 use super::comparison::{Comparison, Differs};
-use super::short_texts::{pad, telling_symbols};
+use super::damage::{CallSet, compare_damaged};
+use super::short_texts::{extreme_symbols, pad};
 
-// Compares the text unchanged, and with a byte that is no symbol after this one.
-fn compare_beside(
+/// Compares the text unchanged, and with a faulty byte after `position`.
+fn compare_next_byte(
     comparison: &mut Comparison<'_>,
     text: &mut [u8],
     position: usize,
@@ -18,16 +19,10 @@ fn compare_beside(
     if next == text.len() {
         return Ok(());
     }
-    let own = text[next];
-    for byte in [b'!', b'='] {
-        text[next] = byte;
-        comparison.compare(text)?;
-    }
-    text[next] = own;
-    Ok(())
+    compare_damaged(comparison, text, next, b"!=", CallSet::All)
 }
 
-// Compares the text with an ignored byte at any position, and with two at any pair of positions.
+/// Compares the text with an ignored byte at any position, and with two at any two positions.
 fn compare_ignored_bytes(comparison: &mut Comparison<'_>, text: &[u8]) -> Result<(), Differs>
     requires short { length text.now ≤ 16 }
 {
@@ -36,7 +31,7 @@ fn compare_ignored_bytes(comparison: &mut Comparison<'_>, text: &[u8]) -> Result
         let own = &mut own[..text.len()];
         own.copy_from_slice(text);
         own[first] = b'-';
-        compare_beside(comparison, own, first)?;
+        compare_next_byte(comparison, own, first)?;
         for second in first + 1..text.len() {
             own[second] = b'-';
             comparison.compare(own)?;
@@ -46,13 +41,17 @@ fn compare_ignored_bytes(comparison: &mut Comparison<'_>, text: &[u8]) -> Result
     Ok(())
 }
 
-// Compares texts of a symbol with an ignored byte or two, and with this much padding after one or
-// more groups.
-fn compare_symbol(comparison: &mut Comparison<'_>, symbol: u8, len: usize) -> Result<(), Differs>
+/// Compares texts of a symbol with one or two ignored bytes. If there is padding, any amount of it
+/// ends one of the groups.
+fn compare_ignored_in_symbols(
+    comparison: &mut Comparison<'_>,
+    symbol: u8,
+    len: usize,
+) -> Result<(), Differs>
     requires short { len ≤ 16 }
 {
-    let size = comparison.judge.group_len();
-    let (shortest, most) = match comparison.judge.padding {
+    let size = comparison.oracle.group_len();
+    let (shortest, most) = match comparison.oracle.padding {
         Some(_) => (size.min(len), size),
         None => (len, 0),
     };
@@ -66,22 +65,22 @@ fn compare_symbol(comparison: &mut Comparison<'_>, symbol: u8, len: usize) -> Re
     Ok(())
 }
 
-// Texts of up to a group and two bytes, of symbols without bits, with one bit and with all, and
-// texts of ignored bytes only.
+/// Compares texts of up to a group and two bytes, with symbols of no bits, one bit and all bits,
+/// and texts of ignored bytes.
 pub(super) fn compare_ignored(comparison: &mut Comparison<'_>) -> Result<(), Differs> {
     for len in 0..=16 {
         comparison.compare(&[b'-'; 16][..len])?;
     }
-    for symbol in telling_symbols(comparison.judge.symbols) {
-        for len in 0..comparison.judge.group_len().min(8) + 3 {
-            compare_symbol(comparison, symbol, len)?;
+    for symbol in extreme_symbols(comparison.oracle.symbols) {
+        for len in 0..comparison.oracle.group_len().min(8) + 3 {
+            compare_ignored_in_symbols(comparison, symbol, len)?;
         }
     }
     Ok(())
 }
 
-// Compares the text unchanged, and with a faulty byte at any position but this one.
-fn compare_faults_beside(
+/// Compares the text unchanged, and with a faulty byte at any position except `ignored`.
+fn compare_faults_around(
     comparison: &mut Comparison<'_>,
     text: &mut [u8],
     ignored: usize,
@@ -103,9 +102,9 @@ fn compare_faults_beside(
     Ok(())
 }
 
-// Compares texts of a symbol that end with this much padding, with an ignored byte at any position,
-// and beside it none that is faulty, or one at any other.
-fn compare_faults_of(
+/// Compares texts of a symbol that end with padding, with an ignored byte at any position and at
+/// most one faulty byte at another.
+fn compare_faults_in_symbols(
     comparison: &mut Comparison<'_>,
     symbol: u8,
     len: usize,
@@ -118,30 +117,30 @@ fn compare_faults_of(
         let text = &mut text[..len];
         pad(text, padding);
         text[ignored] = b'-';
-        compare_faults_beside(comparison, text, ignored)?;
+        compare_faults_around(comparison, text, ignored)?;
     }
     Ok(())
 }
 
-// Texts of up to two groups and one byte, of symbols without bits and with all, in which one byte
-// is ignored, and none or another is faulty.
+/// Compares texts of up to two groups and one byte, with symbols of no bits and of all bits. One
+/// byte is ignored, and at most one is faulty.
 pub(super) fn compare_faults(comparison: &mut Comparison<'_>) -> Result<(), Differs> {
-    let judge = comparison.judge;
-    let [zero, _, last] = telling_symbols(judge.symbols);
-    let size = judge.group_len().min(8);
-    let most = if judge.padding.is_some() { size } else { 0 };
+    let oracle = comparison.oracle;
+    let [zero, _, last] = extreme_symbols(oracle.symbols);
+    let size = oracle.group_len().min(8);
+    let most = if oracle.padding.is_some() { size } else { 0 };
     for symbol in [zero, last] {
         for len in 0..2 * size + 2 {
             for padding in 0..=most.min(len) {
-                compare_faults_of(comparison, symbol, len, padding)?;
+                compare_faults_in_symbols(comparison, symbol, len, padding)?;
             }
         }
     }
     Ok(())
 }
 
-// Compares the text with an ignored byte before it, after it, and between any two of its bytes.
-fn compare_spread(comparison: &mut Comparison<'_>, text: &[u8]) -> Result<(), Differs>
+/// Compares the text with an ignored byte before it, after it, and between any two of its bytes.
+fn compare_each_insertion(comparison: &mut Comparison<'_>, text: &[u8]) -> Result<(), Differs>
     requires short { length text.now ≤ 16 }
 {
     for place in 0..=text.len() {
@@ -154,19 +153,19 @@ fn compare_spread(comparison: &mut Comparison<'_>, text: &[u8]) -> Result<(), Di
     Ok(())
 }
 
-// Two groups with any two lengths of padding, and an ignored byte at any position.
-pub(super) fn compare_pairs(comparison: &mut Comparison<'_>) -> Result<(), Differs> {
-    let size = comparison.judge.group_len();
+/// Compares two groups with any two lengths of padding, and an ignored byte at any position.
+pub(super) fn compare_ignored_pairs(comparison: &mut Comparison<'_>) -> Result<(), Differs> {
+    let size = comparison.oracle.group_len();
     if size > 8 {
         return Err(Differs {});
     }
-    for symbol in telling_symbols(comparison.judge.symbols) {
+    for symbol in extreme_symbols(comparison.oracle.symbols) {
         for first in 0..=size {
             for second in 0..=size {
                 let mut text = [symbol; 16];
                 pad(&mut text[..size], first);
                 pad(&mut text[size..2 * size], second);
-                compare_spread(comparison, &text[..2 * size])?;
+                compare_each_insertion(comparison, &text[..2 * size])?;
             }
         }
     }

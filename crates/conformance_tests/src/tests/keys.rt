@@ -1,4 +1,4 @@
-//! The callers about keys, about faults that follow from bytes, and about pairs of data or texts.
+//! The callers with keys, with faults that follow from bytes, and with pairs of data or texts.
 
 use conformance::callers::buffers::fault_so_far;
 use conformance::callers::keys::{
@@ -20,7 +20,7 @@ fn keys_of_tokens(rt: HostRuntime) {
 }
 
 #[test]
-fn digits_that_are_wrong(rt: HostRuntime) {
+fn first_invalid_digit(rt: HostRuntime) {
     assert_eq!(rt; first_wrong(b"48656c6c6f"), None);
     assert_eq!(rt; first_wrong(b"48656C6g"), Some(5));
     assert_eq!(rt; first_wrong(b"\xff0"), Some(0));
@@ -28,13 +28,13 @@ fn digits_that_are_wrong(rt: HostRuntime) {
 }
 
 #[test]
-fn digests_by_length(rt: HostRuntime) {
+fn digest_length(rt: HostRuntime) {
     assert!(rt; is_digest(b"da39a3ee5e6b4b0d3255bfef95601890AFD80709"));
     assert!(rt; !is_digest(b"da39a3ee5e6b4b0d3255bfef95601890afd807"));
 }
 
 #[test]
-fn keys_that_are_equal(rt: HostRuntime) -> Result<(), Fail> {
+fn equal_keys(rt: HostRuntime) -> Result<(), Fail> {
     assert!(rt; is_same_key(rt.alloc(), &base32(), b"key", b"key")?);
     assert!(rt; !is_same_key(rt.alloc(), &base32(), b"key", b"key\0")?);
     assert!(rt; !is_same_key(rt.alloc(), &base64_mime(), b"key", b"")?);
@@ -42,7 +42,7 @@ fn keys_that_are_equal(rt: HostRuntime) -> Result<(), Fail> {
 }
 
 #[test]
-fn places_after_a_front(rt: HostRuntime) -> Result<(), Fail> {
+fn fault_after_prefix(rt: HostRuntime) -> Result<(), Fail> {
     assert_eq!(rt; place_after(rt.alloc(), b"SGVsbG!8", 4)?, Some(2));
     assert_eq!(rt; place_after(rt.alloc(), b"SG!sbG!8", 4)?, None);
     assert_eq!(rt; place_after(rt.alloc(), b"SGVsbG8", 4)?, None);
@@ -51,7 +51,7 @@ fn places_after_a_front(rt: HostRuntime) -> Result<(), Fail> {
 }
 
 #[test]
-fn texts_and_data_in_order(rt: HostRuntime) -> Result<(), Fail> {
+fn order_of_texts(rt: HostRuntime) -> Result<(), Fail> {
     let (one, other) = texts_in_order(rt.alloc(), b"a", b"b")?;
     assert!(rt; one.as_bytes() < other.as_bytes());
     assert!(rt; !is_sorted_by_texts());
@@ -63,7 +63,7 @@ fn texts_and_data_in_order(rt: HostRuntime) -> Result<(), Fail> {
 }
 
 #[test]
-fn faults_so_far(rt: HostRuntime) {
+fn fault_of_prefix(rt: HostRuntime) {
     let mut output = [0; 32];
     let fault = DecodeError {
         position: 2,

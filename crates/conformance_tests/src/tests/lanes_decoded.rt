@@ -1,34 +1,33 @@
-//! Texts of several groups, with another byte at each position, for every width and both orders.
-//! The bytes read and written are those that lists of bits give.
+//! Texts of several groups, with another byte at each position, for every width and both orders,
+//! compared with the oracle.
 
-use super::comparison::{Comparison, Differs, is_written_alike};
+use super::comparison::{Comparison, Differs, decode_mut_matches};
 use data_encoding::{Character, DECODE_LIMIT, DecodeError, DecodeKind, Encoding};
 use std::alloc::{AllocError, Global};
 
-// One or two turns of eight groups, with a group fewer, exactly, and one more.
+/// The numbers of groups: one less than one or two iterations, exactly as many, and one more.
 const GROUPS: [usize; 7] = [7, 8, 9, 15, 16, 17, 33];
 
-// A number of characters that is several turns of eight groups, of every width.
+/// A number of characters that is several iterations in every width.
 const LONG: usize = 704;
 
-// The room for the data of a text, in bytes.
+/// The room for the data of a text, in bytes.
 const ROOM: usize = 576;
 
-// Bytes that are no symbols of some encodings, among them those next to ranges of symbols.
+/// Bytes that are invalid in some encodings, among them the neighbours of ranges of symbols.
 const DAMAGE: [u8; 11] = [128, 255, b'/', b':', b'@', b'[', b'`', b'{', b'=', b'\n', 0];
 
-// Compares what `decode_mut` returns for a text with what the judge returns: the fault, how much
-// was read before it, and the bytes that were written.
-fn compare_text(comparison: &Comparison<'_>, text: &[u8]) -> Result<(), Differs> {
-    let want = comparison.judge.decode(comparison.alloc, text)?;
-    if text.len() <= DECODE_LIMIT && is_written_alike(comparison.encoding, &want, text) {
+/// Compares the result of `decode_mut`: the fault, the length that was read, and the bytes.
+fn compare_decode_mut(comparison: &Comparison<'_>, text: &[u8]) -> Result<(), Differs> {
+    let want = comparison.oracle.decode(comparison.alloc, text)?;
+    if text.len() <= DECODE_LIMIT && decode_mut_matches(comparison.encoding, &want, text) {
         return Ok(());
     }
     Err(Differs {})
 }
 
-// Symbols in turn, each after another one at each position of a group.
-fn text_of(alloc: Global, symbols: &[u8], len: usize) -> Result<Vec<u8>, AllocError> {
+/// Returns a text of `len` symbols, with another sequence in each group.
+fn cycle_symbols(alloc: Global, symbols: &[u8], len: usize) -> Result<Vec<u8>, AllocError> {
     let mut text = Vec::with_capacity(alloc, len)?;
     let mut index = 0usize;
     for _ in 0..len {
@@ -38,9 +37,9 @@ fn text_of(alloc: Global, symbols: &[u8], len: usize) -> Result<Vec<u8>, AllocEr
     Ok(text)
 }
 
-// Whether a text with an invalid byte at a position is refused there, with the groups before it
-// read and their bytes written.
-fn is_refused_there(
+/// Returns `true` if `decode_mut` reports the invalid byte at `position`, and has decoded the
+/// groups before it.
+fn stops_at_invalid_byte(
     encoding: &Encoding,
     text: &[u8],
     data: &[u8],
@@ -73,57 +72,57 @@ fn is_refused_there(
     }
 }
 
-// Compares a text with another byte at a position.
-fn compare_damaged(
+/// Compares a text with each byte of `DAMAGE` at `position`.
+fn compare_damaged_group(
     comparison: &Comparison<'_>,
     text: &mut [u8],
     data: &[u8],
     position: usize,
 ) -> Result<(), Differs> {
-    let group = comparison.judge.group_len();
+    let group = comparison.oracle.group_len();
     for byte in DAMAGE {
         if position < text.len() {
             text[position] = byte;
         }
         match comparison.encoding.interpret_byte(byte) {
             Character::Invalid => {
-                if !is_refused_there(comparison.encoding, text, data, position, group) {
+                if !stops_at_invalid_byte(comparison.encoding, text, data, position, group) {
                     return Err(Differs {});
                 }
             }
-            _ => compare_text(comparison, text)?,
+            _ => compare_decode_mut(comparison, text)?,
         }
     }
     Ok(())
 }
 
-// Compares a text of this many groups, unchanged, and with each other byte at each position.
-fn compare_groups(comparison: &Comparison<'_>, groups: usize) -> Result<(), Differs> {
-    let len = groups.wrapping_mul(comparison.judge.group_len());
-    let mut text = text_of(comparison.alloc, comparison.judge.symbols, len)?;
-    let data = comparison.judge.decode(comparison.alloc, &text)?.bytes;
+/// Compares a text of `groups` groups, unchanged, and with another byte at each position.
+fn compare_damaged_groups(comparison: &Comparison<'_>, groups: usize) -> Result<(), Differs> {
+    let len = groups.wrapping_mul(comparison.oracle.group_len());
+    let mut text = cycle_symbols(comparison.alloc, comparison.oracle.symbols, len)?;
+    let data = comparison.oracle.decode(comparison.alloc, &text)?.bytes;
     for position in 0..text.len() {
         if position < text.len() {
             let own = text[position];
-            compare_damaged(comparison, &mut text, &data, position)?;
+            compare_damaged_group(comparison, &mut text, &data, position)?;
             if position < text.len() {
                 text[position] = own;
             }
         }
     }
-    compare_text(comparison, &text)
+    compare_decode_mut(comparison, &text)
 }
 
-// Compares damaged texts of some groups.
+/// Compares damaged texts of a few groups.
 pub(super) fn compare_few_groups(comparison: &Comparison<'_>) -> Result<(), Differs> {
     for groups in GROUPS {
-        compare_groups(comparison, groups)?;
+        compare_damaged_groups(comparison, groups)?;
     }
     Ok(())
 }
 
-// Compares a long damaged text.
+/// Compares a long damaged text.
 pub(super) fn compare_many_groups(comparison: &Comparison<'_>) -> Result<(), Differs> {
-    let groups = (LONG / comparison.judge.group_len()).wrapping_add(9);
-    compare_groups(comparison, groups)
+    let groups = (LONG / comparison.oracle.group_len()).wrapping_add(9);
+    compare_damaged_groups(comparison, groups)
 }

@@ -1,6 +1,6 @@
-//! Laws, the messages of faults, and data of many bytes.
+//! The laws, the messages of faults, and data of many bytes.
 
-use super::encoding::is_there_and_back;
+use super::encoding::round_trips;
 use super::rows::{bytes_of_length, row_of};
 use data_encoding::laws::steps::pieces;
 use data_encoding::laws::{
@@ -12,7 +12,7 @@ use encoding_stream::StreamFault;
 use std::alloc::{AllocError, Global};
 use std::test::Fail;
 
-// A law is a call that does nothing.
+/// Calls each law. A law has no effect.
 fn call_laws() {
     specification_again();
     join_encode();
@@ -27,8 +27,8 @@ fn call_laws() {
     pieces();
 }
 
-// How each fault is displayed.
-fn printed(alloc: Global) -> Result<String, AllocError> {
+/// Returns the message of each fault.
+fn print_faults(alloc: Global) -> Result<String, AllocError> {
     let kind = DecodeKind::Padding;
     let fault = DecodeFault::from(DecodeError { position: 7, kind });
     let memory = DecodeFault::OutOfMemory;
@@ -39,23 +39,23 @@ fn printed(alloc: Global) -> Result<String, AllocError> {
 }
 
 #[test]
-fn prints_each_fault(rt: HostRuntime) -> Result<(), Fail> {
+fn fault_messages(rt: HostRuntime) -> Result<(), Fail> {
     let want = "invalid padding length at 7; out of memory; read failed; write failed; \
         invalid padding length at 4; input too long";
-    assert_eq!(rt; printed(rt.alloc())?.as_str(), want);
+    assert_eq!(rt; print_faults(rt.alloc())?.as_str(), want);
     Ok(())
 }
 
-// Whether this many bytes come back from their text.
-fn come_back(alloc: Global, count: usize) -> Result<bool, Fail> {
+/// Returns `true` if the text of `count` bytes is decoded to these bytes.
+fn round_trips_len(alloc: Global, count: usize) -> Result<bool, Fail> {
     let specification = row_of(alloc, "base64|most|check|||0||||")?.specification;
     let input = bytes_of_length(alloc, count)?;
-    Ok(is_there_and_back(alloc, &specification, &input))
+    Ok(round_trips(alloc, &specification, &input))
 }
 
 #[test]
-fn many_bytes_come_back(rt: HostRuntime) -> Result<(), Fail> {
+fn round_trip_many_bytes(rt: HostRuntime) -> Result<(), Fail> {
     call_laws();
-    assert!(rt; come_back(rt.alloc(), 20_000)?);
+    assert!(rt; round_trips_len(rt.alloc(), 20_000)?);
     Ok(())
 }

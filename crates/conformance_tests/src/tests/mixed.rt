@@ -3,13 +3,13 @@
 
 ghost use Rattle.std.specs.Prelude.{◌<◌};
 
-use super::comparison::{Comparison, Differs, is_decoded_alike, is_written_within};
-use super::long_texts::compare_cuts;
+use super::comparison::{Comparison, Differs};
+use super::damage::{CallSet, compare_damaged};
+use super::long_texts::compare_long_cuts;
 use super::rows::bytes_of_length;
-use data_encoding::DECODE_LIMIT;
 use std::alloc::AllocError;
 
-// Appends the bytes, with this many ignored ones after each few of them.
+/// Appends `bytes`, with `count` ignored bytes after each `every` of them.
 fn push_broken(
     text: &mut Vec<u8>,
     bytes: &[u8],
@@ -27,7 +27,7 @@ fn push_broken(
     Ok(())
 }
 
-// Appends the bytes, with none to two ignored ones after each of them.
+/// Appends `bytes`, with none to two ignored bytes after each of them.
 fn push_scattered(text: &mut Vec<u8>, bytes: &[u8], seed: u32) -> Result<(), AllocError> {
     let mut state = seed;
     for byte in bytes {
@@ -40,7 +40,7 @@ fn push_scattered(text: &mut Vec<u8>, bytes: &[u8], seed: u32) -> Result<(), All
     Ok(())
 }
 
-// Encodes data of `8 * eighths` symbols plus `more` bytes.
+/// Returns the text of data of `8 * eighths` symbols plus `more` bytes.
 fn text_of_length(
     comparison: &Comparison<'_>,
     eighths: usize,
@@ -48,58 +48,43 @@ fn text_of_length(
 ) -> Result<Vec<u8>, AllocError> {
     let len = eighths.wrapping_mul(comparison.encoding.bit_width());
     let data = bytes_of_length(comparison.alloc, len.wrapping_add(more))?;
-    comparison.judge.encode(comparison.alloc, &data)
+    comparison.oracle.encode(comparison.alloc, &data)
 }
 
-// Compares the results for a text at once, and how much of it is read and written.
-fn compare_whole(comparison: &Comparison<'_>, text: &[u8]) -> Result<(), Differs> {
-    if text.len() > DECODE_LIMIT {
-        return Err(Differs {});
-    }
-    let want = comparison.judge.decode(comparison.alloc, text)?;
-    let mut output = [0; 2304];
-    if is_decoded_alike(comparison.alloc, comparison.encoding, &want, text)
-        && is_written_within(comparison.encoding, &want, text, &mut output)
-    {
-        return Ok(());
-    }
-    Err(Differs {})
+/// Compares the results for a text at once, and in a few pieces.
+fn compare_at_once_and_cut(comparison: &mut Comparison<'_>, text: &[u8]) -> Result<(), Differs> {
+    comparison.compare_at_once(text)?;
+    compare_long_cuts(comparison, text)
 }
 
-// The same, and in a few pieces.
-fn compare_both(comparison: &mut Comparison<'_>, text: &[u8]) -> Result<(), Differs> {
-    compare_whole(comparison, text)?;
-    compare_cuts(comparison, text)
-}
-
-// How many bytes come before one that is ignored: within each kind of group, and up to a run that
-// is decoded by itself.
+/// The numbers of bytes before an ignored byte: within each kind of group, and up to a run that is
+/// decoded separately.
 const EVERY: [usize; 19] = [
     1, 2, 3, 4, 5, 6, 7, 8, 9, 15, 16, 30, 31, 32, 33, 34, 63, 65, 70,
 ];
 
-// Compares the text with ignored bytes after each few bytes, or after some.
+/// Compares the text with ignored bytes after each few bytes, and scattered.
 fn compare_broken(comparison: &mut Comparison<'_>, bytes: &[u8]) -> Result<(), Differs> {
     for every in EVERY {
         for count in 2..4 {
             let mut text = Vec::new(comparison.alloc);
             push_broken(&mut text, bytes, every, count)?;
-            compare_whole(comparison, &text)?;
+            comparison.compare_at_once(&text)?;
         }
         let mut text = Vec::new(comparison.alloc);
         push_broken(&mut text, bytes, every, 1)?;
-        compare_both(comparison, &text)?;
+        compare_at_once_and_cut(comparison, &text)?;
     }
     for seed in 0..10 {
         let mut text = Vec::new(comparison.alloc);
         push_scattered(&mut text, bytes, seed)?;
-        compare_both(comparison, &text)?;
+        compare_at_once_and_cut(comparison, &text)?;
     }
     Ok(())
 }
 
-// Compares short texts one after another, each with ignored bytes among its own, and after a longer
-// one.
+/// Compares joined short texts, each with ignored bytes among its own, and some after a longer
+/// text.
 fn compare_joined(comparison: &mut Comparison<'_>, most: usize) -> Result<(), Differs>
     requires some { 0 < most }
 {
@@ -112,12 +97,13 @@ fn compare_joined(comparison: &mut Comparison<'_>, most: usize) -> Result<(), Di
                 push_broken(&mut text, &text_of_length(comparison, 20, 0)?, every, 1)?;
             }
         }
-        compare_both(comparison, &text)?;
+        compare_at_once_and_cut(comparison, &text)?;
     }
     Ok(())
 }
 
-// Texts with ignored bytes at many places: of whole groups, with an unfinished one, and joined.
+/// Compares texts with ignored bytes at many places: of whole groups, with an unfinished group, and
+/// joined.
 pub(super) fn compare_mixed(comparison: &mut Comparison<'_>) -> Result<(), Differs> {
     for (eighths, more) in [(4, 0), (12, 1), (85, 0), (85, 2)] {
         let bytes = text_of_length(comparison, eighths, more)?;
@@ -129,36 +115,35 @@ pub(super) fn compare_mixed(comparison: &mut Comparison<'_>) -> Result<(), Diffe
     Ok(())
 }
 
-// Where a text is damaged: near the ends of the first blocks that are gathered.
-fn is_telling(position: usize, len: usize) -> bool {
+/// Returns `true` if a text is damaged at `position`: near the ends of the first blocks that are
+/// gathered, and near its end.
+fn is_near_block_end(position: usize, len: usize) -> bool {
     let near = [0, 16, 32, 48, 64, 80, 96, 112, 128, 592, 624];
     near.iter().any(|place| position.abs_diff(*place) < 4) || position.wrapping_add(9) >= len
 }
 
-// Compares the text with another byte at each telling position.
-fn compare_damaged(comparison: &mut Comparison<'_>, text: &mut [u8]) -> Result<(), Differs> {
+/// Compares the text with another byte near the end of each block.
+fn compare_damage_near_blocks(
+    comparison: &mut Comparison<'_>,
+    text: &mut [u8],
+) -> Result<(), Differs> {
     for position in 0..text.len() {
-        if !is_telling(position, text.len()) {
+        if !is_near_block_end(position, text.len()) {
             continue;
         }
-        let own = text[position];
-        for byte in [b'!', b'=', b'-'] {
-            text[position] = byte;
-            compare_whole(comparison, text)?;
-        }
-        text[position] = own;
+        compare_damaged(comparison, text, position, b"!=-", CallSet::AtOnce)?;
     }
     Ok(())
 }
 
-// The same texts with faults.
+/// Compares texts with ignored bytes at many places, and with faults.
 pub(super) fn compare_mixed_faults(comparison: &mut Comparison<'_>) -> Result<(), Differs> {
     for (eighths, more) in [(12, 1), (75, 1)] {
         let bytes = text_of_length(comparison, eighths, more)?;
         for every in [1, 3, 5, 9, 31] {
             let mut text = Vec::new(comparison.alloc);
             push_broken(&mut text, &bytes, every, 1)?;
-            compare_damaged(comparison, &mut text)?;
+            compare_damage_near_blocks(comparison, &mut text)?;
         }
     }
     Ok(())

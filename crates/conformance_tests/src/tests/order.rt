@@ -4,21 +4,27 @@ use data_encoding::{ENCODE_LIMIT, Encoding};
 use std::alloc::Global;
 use std::test::Fail;
 
-fn text(alloc: Global, encoding: &Encoding, input: &[u8]) -> Result<String, Fail> {
+/// Returns the text of `input`, or an empty text if it is too long.
+fn encode_within_limit(alloc: Global, encoding: &Encoding, input: &[u8]) -> Result<String, Fail> {
     if input.len() > ENCODE_LIMIT {
         return Ok(String::new(alloc));
     }
     Ok(encoding.encode(alloc, input)?)
 }
 
-// Whether the texts of these two are in order.
-fn in_order(alloc: Global, encoding: &Encoding, one: &[u8], other: &[u8]) -> Result<bool, Fail> {
-    let first = text(alloc, encoding, one)?;
-    let second = text(alloc, encoding, other)?;
+/// Returns `true` if the text of `one` comes before the text of `other`.
+fn texts_ascend(
+    alloc: Global,
+    encoding: &Encoding,
+    one: &[u8],
+    other: &[u8],
+) -> Result<bool, Fail> {
+    let first = encode_within_limit(alloc, encoding, one)?;
+    let second = encode_within_limit(alloc, encoding, other)?;
     Ok(first.as_bytes() < second.as_bytes())
 }
 
-// The number of symbols, and the difference of bytes whose first symbols are neighbours.
+/// Returns the number of symbols, and the difference of bytes with neighbouring first symbols.
 fn count_and_step(encoding: &Encoding) -> (u8, u8) {
     match encoding.bit_width() {
         1 => (2, 128),
@@ -30,13 +36,13 @@ fn count_and_step(encoding: &Encoding) -> (u8, u8) {
     }
 }
 
-// Whether the texts of bytes that start with the bits of a symbol, followed by zeros, are in order.
+/// Returns `true` if the texts of bytes with the bits of a symbol, followed by zeros, are in order.
 fn symbols_ascend(alloc: Global, encoding: &Encoding) -> Result<bool, Fail> {
     let (count, step) = count_and_step(encoding);
     let mut byte: u8 = 0;
     for _ in 1..count {
         let next = byte.saturating_add(step);
-        if !in_order(alloc, encoding, &[byte], &[next])? {
+        if !texts_ascend(alloc, encoding, &[byte], &[next])? {
             return Ok(false);
         }
         byte = next;
@@ -44,12 +50,12 @@ fn symbols_ascend(alloc: Global, encoding: &Encoding) -> Result<bool, Fail> {
     Ok(true)
 }
 
-// Whether no pair of data is found whose texts are not in order.
+/// Returns `true` if no pair of data is found with texts in another order.
 pub(super) fn keeps_order(alloc: Global, encoding: &Encoding) -> Result<bool, Fail> {
     Ok(
-        in_order(alloc, encoding, &[0], &[1])?
-            && in_order(alloc, encoding, &[1], &[count_and_step(encoding).0])?
-            && in_order(alloc, encoding, &[0], &[0, 0])?
+        texts_ascend(alloc, encoding, &[0], &[1])?
+            && texts_ascend(alloc, encoding, &[1], &[count_and_step(encoding).0])?
+            && texts_ascend(alloc, encoding, &[0], &[0, 0])?
             && symbols_ascend(alloc, encoding)?,
     )
 }

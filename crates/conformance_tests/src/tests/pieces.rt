@@ -1,13 +1,13 @@
 //! Texts that come in pieces, cut anywhere.
 
-use super::rows::{bytes_of, field_of};
+use super::rows::{bytes_of_field, show_bytes};
 use data_encoding::{DECODE_LIMIT, DecodeError, Encoding};
 use encoding_stream::Decoder;
 use std::alloc::{AllocError, Global};
 use std::test::Fail;
 
-// Pushes a piece of a text that is within the limit.
-pub(super) fn push(
+/// Pushes a piece, if the text stays within its limit.
+pub(super) fn push_within_limit(
     decoder: &mut Decoder<'_>,
     piece: &[u8],
     output: &mut Vec<u8>,
@@ -19,8 +19,8 @@ pub(super) fn push(
     decoder.push(piece, output)
 }
 
-// The fault of the whole text.
-pub(super) fn finish(
+/// Ends a text. Returns its fault.
+pub(super) fn finish_text(
     decoder: Decoder<'_>,
     output: &mut Vec<u8>,
 ) -> Result<Option<DecodeError>, AllocError> {
@@ -30,25 +30,25 @@ pub(super) fn finish(
     }
 }
 
-// Moves what a call has appended to an answer, followed by a slash.
-fn move_bytes(alloc: Global, output: &mut Vec<u8>, answer: &mut String) -> Result<(), AllocError> {
-    answer.push_str(field_of(alloc, output)?.as_str())?;
+/// Moves the output to the end of an answer, followed by a slash.
+fn move_output(alloc: Global, output: &mut Vec<u8>, answer: &mut String) -> Result<(), AllocError> {
+    answer.push_str(show_bytes(alloc, output)?.as_str())?;
     output.clear();
     answer.push('/')
 }
 
-// What is appended for each piece of a text and at its end, and the fault. A slash separates two
-// pieces, and what is appended for each.
-pub(super) fn pieces(alloc: Global, encoding: &Encoding, text: &str) -> Result<String, Fail> {
+/// Returns the output for each piece of a text and for its end, and the fault. A slash separates
+/// two pieces, and two outputs.
+pub(super) fn show_pieces(alloc: Global, encoding: &Encoding, text: &str) -> Result<String, Fail> {
     let mut decoder = Decoder::new(encoding);
     let mut answer = String::new(alloc);
     let mut output = Vec::new(alloc);
     for piece in text.split('/') {
-        push(&mut decoder, &bytes_of(alloc, piece)?, &mut output)?;
-        move_bytes(alloc, &mut output, &mut answer)?;
+        push_within_limit(&mut decoder, &bytes_of_field(alloc, piece)?, &mut output)?;
+        move_output(alloc, &mut output, &mut answer)?;
     }
-    let fault = finish(decoder, &mut output)?;
-    move_bytes(alloc, &mut output, &mut answer)?;
+    let fault = finish_text(decoder, &mut output)?;
+    move_output(alloc, &mut output, &mut answer)?;
     if let Some(error) = fault {
         answer.push_str(error.to_string(alloc)?.as_str())?;
     }

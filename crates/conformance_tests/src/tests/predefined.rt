@@ -1,6 +1,6 @@
 //! The predefined encodings, by name.
 
-use super::rows::{ends_of, row_of};
+use super::rows::{last_fields, row_of};
 use data_encoding::{
     Encoding, EncodingRef, Specification, base32, base32_dnscurve, base32_dnscurve_ref,
     base32_dnssec, base32_dnssec_ref, base32_nopad, base32_nopad_nocase, base32_nopad_nocase_ref,
@@ -14,7 +14,7 @@ use data_encoding::{
 use std::alloc::Global;
 use std::test::Fail;
 
-// An encoding and its specification, and for a row, the input and what is expected.
+/// An encoding and its specification. For a row, also the input and the expected result.
 #[derive(Drop)]
 pub(super) struct Case<'a> {
     pub(super) encoding: Encoding,
@@ -23,7 +23,7 @@ pub(super) struct Case<'a> {
     pub(super) want: &'a str,
 }
 
-// The encoding with a name, as a value and by reference.
+/// Returns the encoding with a name, as a value and by reference.
 pub(super) fn named(name: &str) -> Option<(Encoding, EncodingRef<'static>)> {
     Some(match name {
         "HEXLOWER" => (hexlower(), hexlower_ref()),
@@ -48,7 +48,7 @@ pub(super) fn named(name: &str) -> Option<(Encoding, EncodingRef<'static>)> {
     })
 }
 
-// The case of a row whose encoding is a name or a specification.
+/// Returns the case of a row with the name or the specification of an encoding.
 pub(super) fn case_of(alloc: Global, line: &str) -> Result<Case<'_>, Fail> {
     let (name, rest) = line.split_once('|').unwrap_or((line, ""));
     let Some((encoding, _)) = named(name) else {
@@ -60,7 +60,7 @@ pub(super) fn case_of(alloc: Global, line: &str) -> Result<Case<'_>, Fail> {
             want: row.want,
         });
     };
-    let (input, want) = ends_of(&mut rest.split('|'));
+    let (input, want) = last_fields(&mut rest.split('|'));
     Ok(Case {
         specification: encoding.specification(alloc)?,
         encoding,

@@ -2,7 +2,7 @@
 
 ghost use Rattle.std.specs.Prelude.{◌≤◌, length};
 
-use super::encoding::writes;
+use super::encoding::encode_mut_writes;
 use super::predefined::named;
 use conformance::callers::referenced::{
     decode_exactly, decode_first, decode_next, encode_exactly, encode_first, encode_next,
@@ -13,7 +13,7 @@ use data_encoding::{
     predefined_names, predefined_number, predefined_numbered,
 };
 
-// The names, in the order of their numbers.
+/// The names, in the order of their numbers.
 const NAMES: &str = "\
 HEXLOWER
 HEXLOWER_PERMISSIVE
@@ -34,10 +34,11 @@ BASE64_MIME_PERMISSIVE
 BASE64URL
 BASE64URL_NOPAD";
 
+/// The data that each encoding encodes.
 const DATA: &[u8; 6] = b"foobar";
 
-// Whether both encode the data to the same text, and the reference decodes it.
-fn are_alike(encoding: &Encoding, reference: &EncodingRef<'_>) -> bool {
+/// Returns `true` if both encode the data to the same text, and the reference decodes it.
+fn reference_matches(encoding: &Encoding, reference: &EncodingRef<'_>) -> bool {
     let mut text = [0; 64];
     let mut data = [0; 64];
     let len = encoding.encode_len(6);
@@ -51,29 +52,29 @@ fn are_alike(encoding: &Encoding, reference: &EncodingRef<'_>) -> bool {
         return false;
     }
     encode_exactly(reference, DATA, &mut text[..len])
-        && writes(encoding, DATA, &text[..len])
+        && encode_mut_writes(encoding, DATA, &text[..len])
         && decode_exactly(reference, &text[..len], &mut data[..most]) == Some(6)
         && data[..6] == DATA[..]
         && reference.encoding() == *encoding
 }
 
-// Whether the encoding with a name and its reference are alike.
-fn is_alike(name: &str) -> bool {
+/// Returns `true` if the encoding `name` and its reference match.
+fn named_reference_matches(name: &str) -> bool {
     match named(name) {
-        Some((encoding, reference)) => are_alike(&encoding, &reference),
+        Some((encoding, reference)) => reference_matches(&encoding, &reference),
         None => false,
     }
 }
 
 #[test]
-fn references_are_alike(rt: HostRuntime) {
+fn references_match_values(rt: HostRuntime) {
     for name in NAMES.split('\n') {
-        assert!(rt; is_alike(name), "{name}");
+        assert!(rt; named_reference_matches(name), "{name}");
     }
 }
 
-// Whether the number is that of the name, and both are those of its encoding.
-fn is_numbered(number: u32, name: &str) -> bool {
+/// Returns `true` if `number` and `name` belong to each other and to one encoding.
+fn has_number(number: u32, name: &str) -> bool {
     let (Some((encoding, _)), Some(by_name)) = (named(name), predefined(name)) else {
         return false;
     };
@@ -87,10 +88,10 @@ fn is_numbered(number: u32, name: &str) -> bool {
 }
 
 #[test]
-fn names_and_numbers(rt: HostRuntime) {
+fn names_match_numbers(rt: HostRuntime) {
     let mut number = 0;
     for name in NAMES.split('\n') {
-        assert!(rt; is_numbered(number, name), "{name}");
+        assert!(rt; has_number(number, name), "{name}");
         if number < 18 {
             number += 1;
         }
@@ -101,11 +102,11 @@ fn names_and_numbers(rt: HostRuntime) {
 }
 
 #[test]
-fn names_are_listed(rt: HostRuntime) {
+fn listed_names(rt: HostRuntime) {
     assert_eq!(rt; predefined_names().strip_suffix("\n"), Some(NAMES));
 }
 
-// Whether data that comes in two pieces has these two texts of whole blocks.
+/// Returns `true` if the blocks of data in two pieces have the texts `front_text` and `next_text`.
 fn encodes_in_two(
     encoding: &EncodingRef<'_>,
     front: &[u8],
@@ -127,7 +128,7 @@ fn encodes_in_two(
         && other.get(..in_next).unwrap_or(&[]) == next_text
 }
 
-// Whether the whole groups of a text that comes in two pieces mean these bytes.
+/// Returns `true` if the whole groups of a text in two pieces mean `front_data` and `next_data`.
 fn decodes_in_two(
     encoding: &EncodingRef<'_>,
     front: &[u8],

@@ -1,19 +1,23 @@
-//! Rows of tables, in which a bar separates two fields.
+//! Rows of tables. A bar separates two fields.
 
 use data_encoding::{BitOrder, Specification};
 use std::alloc::{AllocError, Global};
 use std::str::Split;
 use std::test::Fail;
 
+/// The symbols of base32.
 const BASE32: &str = "ABCDEFGHIJKLMNOPQRSTUVWXYZ234567";
 
+/// The symbols of base32hex.
 const BASE32HEX: &str = "0123456789ABCDEFGHIJKLMNOPQRSTUV";
 
+/// The symbols of BASE32_DNSCURVE.
 const DNSCURVE: &str = "0123456789bcdfghjklmnpqrstuvwxyz";
 
+/// The symbols of base64.
 const BASE64: &str = "ABCDEFGHIJKLMNOPQRSTUVWXYZabcdefghijklmnopqrstuvwxyz0123456789+/";
 
-// The fields of a row: a specification, what is done with it, and the result.
+/// The fields of a row: a specification, the input, and the expected result.
 #[derive(Drop)]
 pub(super) struct Row<'a> {
     pub(super) specification: Specification,
@@ -21,14 +25,23 @@ pub(super) struct Row<'a> {
     pub(super) want: &'a str,
 }
 
-// The symbols, the bit that comes first, whether texts may not be concatenated and whether trailing
-// bits are checked, the padding, the ignored bytes, the width of a line, the separator, and the
-// texts of the translation; then the input, if there is one, and what is expected.
+/// Returns the fields of a row:
+///
+/// - the symbols,
+/// - `least` if the least significant bit comes first,
+/// - `single` if texts may not be concatenated, and `check` if trailing bits are checked,
+/// - the padding,
+/// - the ignored bytes,
+/// - the width of a line,
+/// - the separator,
+/// - the two texts of the translation,
+/// - the input, if there is one,
+/// - the expected result.
 pub(super) fn row_of(alloc: Global, line: &str) -> Result<Row<'_>, Fail> {
     let mut fields = line.split('|');
     let mut specification = Specification::new(alloc);
-    specify(&mut specification, &mut fields)?;
-    let (input, want) = ends_of(&mut fields);
+    set_fields(&mut specification, &mut fields)?;
+    let (input, want) = last_fields(&mut fields);
     Ok(Row {
         specification,
         input,
@@ -36,45 +49,49 @@ pub(super) fn row_of(alloc: Global, line: &str) -> Result<Row<'_>, Fail> {
     })
 }
 
-// The next field, or nothing if there is none.
-fn next_of<'a>(fields: &mut Split<'a, char>) -> &'a str {
+/// Returns the next field, or an empty text if there is none.
+fn next_field<'a>(fields: &mut Split<'a, char>) -> &'a str {
     fields.next().unwrap_or("")
 }
 
-// The input, if there is one, and what is expected: the last two fields, or the last.
-pub(super) fn ends_of<'a>(fields: &mut Split<'a, char>) -> (&'a str, &'a str) {
-    let tenth = next_of(fields);
+/// Returns the input and the expected result: the last two fields, or the last. The input may be
+/// missing.
+pub(super) fn last_fields<'a>(fields: &mut Split<'a, char>) -> (&'a str, &'a str) {
+    let tenth = next_field(fields);
     match fields.next() {
         Some(eleventh) => (tenth, eleventh),
         None => ("", tenth),
     }
 }
 
-// Sets what the fields of a specification contain.
-fn specify(specification: &mut Specification, fields: &mut Split<'_, char>) -> Result<(), Fail> {
-    put(&mut specification.symbols, symbols_named(next_of(fields)))?;
+/// Sets the fields of a specification.
+fn set_fields(specification: &mut Specification, fields: &mut Split<'_, char>) -> Result<(), Fail> {
+    push_meant(
+        &mut specification.symbols,
+        named_symbols(next_field(fields)),
+    )?;
     set_rules(specification, fields);
-    put_ignored(specification, next_of(fields))?;
-    specification.wrap.width = next_of(fields).parse()?;
-    put_separator(specification, next_of(fields))?;
-    put(&mut specification.translate.from, next_of(fields))?;
-    put(&mut specification.translate.to, next_of(fields))?;
+    put_ignored(specification, next_field(fields))?;
+    specification.wrap.width = next_field(fields).parse()?;
+    put_separator(specification, next_field(fields))?;
+    push_meant(&mut specification.translate.from, next_field(fields))?;
+    push_meant(&mut specification.translate.to, next_field(fields))?;
     Ok(())
 }
 
-// Sets the bit that comes first, the two rules, and the padding.
+/// Sets the bit order, the two rules, and the padding.
 fn set_rules(specification: &mut Specification, fields: &mut Split<'_, char>) {
-    if next_of(fields) == "least" {
+    if next_field(fields) == "least" {
         specification.bit_order = BitOrder::LeastSignificantFirst;
     }
-    let rules = next_of(fields);
+    let rules = next_field(fields);
     specification.concatenate = !rules.starts_with("single");
     specification.check_trailing_bits = rules.ends_with("check");
-    specification.padding = next_of(fields).chars().next();
+    specification.padding = next_field(fields).chars().next();
 }
 
-// The symbols of a field, which may be the name of an alphabet.
-fn symbols_named(name: &str) -> &str {
+/// Returns the symbols of a field. It may be the name of an alphabet.
+fn named_symbols(name: &str) -> &str {
     match name {
         "binary" => "01",
         "quaternary" => "0123",
@@ -88,8 +105,8 @@ fn symbols_named(name: &str) -> &str {
     }
 }
 
-// The character that is meant by one of a row: arrows mean control characters.
-fn meant(character: char) -> char {
+/// Returns the meaning of a character of a row: arrows mean control characters.
+fn meant_character(character: char) -> char {
     match character {
         '↵' => '\n',
         '←' => '\r',
@@ -98,17 +115,18 @@ fn meant(character: char) -> char {
     }
 }
 
-fn put(text: &mut String, field: &str) -> Result<(), AllocError> {
+/// Appends the characters that `field` means.
+fn push_meant(text: &mut String, field: &str) -> Result<(), AllocError> {
     for character in field.chars() {
-        text.push(meant(character))?;
+        text.push(meant_character(character))?;
     }
     Ok(())
 }
 
-// Sets the ignored bytes of a field, which may mean each ASCII character that is no symbol.
+/// Sets the ignored bytes of a field. `others` means each ASCII character that is not a symbol.
 fn put_ignored(specification: &mut Specification, field: &str) -> Result<(), AllocError> {
     if field != "others" {
-        return put(&mut specification.ignore, field);
+        return push_meant(&mut specification.ignore, field);
     }
     for byte in 0..128u8 {
         if !specification.symbols.as_bytes().contains(&byte) {
@@ -118,7 +136,7 @@ fn put_ignored(specification: &mut Specification, field: &str) -> Result<(), All
     Ok(())
 }
 
-// Sets the separator of a field, which may mean the longest: 255 dashes, or as many line feeds.
+/// Sets the separator of a field. The longest ones have names: 255 dashes or line feeds.
 pub(super) fn put_separator(
     specification: &mut Specification,
     field: &str,
@@ -128,7 +146,7 @@ pub(super) fn put_separator(
     let character = match field {
         "dashes" => '-',
         "feeds" => '\n',
-        _ => return put(separator, field),
+        _ => return push_meant(separator, field),
     };
     for _ in 0..255u8 {
         separator.push(character)?;
@@ -136,27 +154,30 @@ pub(super) fn put_separator(
     Ok(())
 }
 
-// The text that a field means. Its pieces are separated by broken bars, and a piece may be a count
-// and what is repeated that many times, after a multiplication sign.
-pub(super) fn text_of(alloc: Global, field: &str) -> Result<String, Fail> {
+/// Returns the text of a field.
+///
+/// Broken bars separate its pieces. A piece may be a count and a text, with a multiplication sign
+/// between them. The text is then repeated.
+pub(super) fn text_of_field(alloc: Global, field: &str) -> Result<String, Fail> {
     let mut text = String::new(alloc);
     for part in field.split('¦') {
         let (count, repeated) = part.split_once('×').unwrap_or(("1", part));
-        put_repeated(&mut text, count.parse()?, repeated)?;
+        push_repeated(&mut text, count.parse()?, repeated)?;
     }
     Ok(text)
 }
 
-fn put_repeated(text: &mut String, count: usize, field: &str) -> Result<(), AllocError> {
+/// Appends the text of `field`, `count` times.
+fn push_repeated(text: &mut String, count: usize, field: &str) -> Result<(), AllocError> {
     for _ in 0..count {
-        put(text, field)?;
+        push_meant(text, field)?;
     }
     Ok(())
 }
 
-// The bytes that a field means, each written as the character of its code.
-pub(super) fn bytes_of(alloc: Global, field: &str) -> Result<Vec<u8>, Fail> {
-    let text = text_of(alloc, field)?;
+/// Returns the bytes of a field. Each is written as the character of its code.
+pub(super) fn bytes_of_field(alloc: Global, field: &str) -> Result<Vec<u8>, Fail> {
+    let text = text_of_field(alloc, field)?;
     let mut bytes = Vec::with_capacity(alloc, text.len())?;
     for character in text.chars() {
         bytes.push(u8::try_from(character).unwrap_or(b'?'))?;
@@ -164,15 +185,20 @@ pub(super) fn bytes_of(alloc: Global, field: &str) -> Result<Vec<u8>, Fail> {
     Ok(bytes)
 }
 
-// Fails if an answer is not what a row expects, and names both.
-pub(super) fn compare(alloc: Global, line: &str, answer: &str, want: &str) -> Result<(), Fail> {
-    if text_of(alloc, want)?.as_str() == answer {
+/// Compares an answer with a row. The failure names both.
+pub(super) fn compare_answer(
+    alloc: Global,
+    line: &str,
+    answer: &str,
+    want: &str,
+) -> Result<(), Fail> {
+    if text_of_field(alloc, want)?.as_str() == answer {
         return Ok(());
     }
     Err(Fail::new(format_args!("{line}, and not: {answer}")))
 }
 
-// This many bytes, which are not all the same.
+/// Returns `len` bytes that are not all equal.
 pub(super) fn bytes_of_length(alloc: Global, len: usize) -> Result<Vec<u8>, AllocError> {
     let mut bytes = Vec::new(alloc);
     for index in 0..len {
@@ -181,11 +207,16 @@ pub(super) fn bytes_of_length(alloc: Global, len: usize) -> Result<Vec<u8>, Allo
     Ok(bytes)
 }
 
-// The bytes as a row writes them.
-pub(super) fn field_of(alloc: Global, bytes: &[u8]) -> Result<String, AllocError> {
+/// Returns the bytes as a row writes them.
+pub(super) fn show_bytes(alloc: Global, bytes: &[u8]) -> Result<String, AllocError> {
     let mut field = String::new(alloc);
     for byte in bytes {
         field.push(char::from(*byte))?;
     }
     Ok(field)
+}
+
+/// Returns `true` or `false`, as a row writes them.
+pub(super) fn show_bool(alloc: Global, is_so: bool) -> Result<String, Fail> {
+    Ok(String::from_str(alloc, if is_so { "true" } else { "false" })?)
 }

@@ -1,10 +1,10 @@
-//! The callers about runs, and about the symbols of a group.
+//! The callers with runs, and with the symbols of a group.
 
 use conformance::callers::runs::{decode_run, first_no_symbol};
 use data_encoding::{DecodeError, DecodeKind, DecodePartial, base32, base64, base64_mime};
 
 #[test]
-fn runs_of_lines(rt: HostRuntime) {
+fn runs_without_ignored_bytes(rt: HostRuntime) {
     let mut output = [0; 6];
     let partial = DecodePartial {
         read: 4,
@@ -28,7 +28,7 @@ fn runs_of_lines(rt: HostRuntime) {
 }
 
 #[test]
-fn symbols_of_groups(rt: HostRuntime) {
+fn first_other_byte(rt: HostRuntime) {
     assert_eq!(rt; first_no_symbol(&base64(), b"QR"), None);
     assert_eq!(rt; first_no_symbol(&base64(), b"Q=Q="), Some(1));
     assert_eq!(rt; first_no_symbol(&base64_mime(), b"QUI\n"), Some(3));

@@ -3,13 +3,13 @@
 ghost use Rattle.std.specs.Prelude.{◌≤◌};
 
 use super::comparison::{Comparison, Differs};
+use super::damage::compare_damaged_anywhere;
 
-// Compares the texts that have one byte, at any position, among zeros: each that is ASCII, and two
-// others.
-fn compare_bytes_of(comparison: &mut Comparison<'_>, len: usize) -> Result<(), Differs>
+/// Compares texts of zeros with one other byte: each ASCII byte and two others, at any position.
+fn compare_each_ascii_byte(comparison: &mut Comparison<'_>, len: usize) -> Result<(), Differs>
     requires short { len ≤ 17 }
 {
-    let Some(zero) = comparison.judge.symbols.first() else {
+    let Some(zero) = comparison.oracle.symbols.first() else {
         return Err(Differs {});
     };
     let mut text = [*zero; 17];
@@ -23,28 +23,18 @@ fn compare_bytes_of(comparison: &mut Comparison<'_>, len: usize) -> Result<(), D
     Ok(())
 }
 
-// Texts of up to 17 symbols: two of the longest groups, and one more.
+/// Compares texts of up to 17 symbols: two of the longest groups, and one more.
 pub(super) fn compare_bytes(comparison: &mut Comparison<'_>) -> Result<(), Differs> {
     for len in 0..18 {
-        compare_bytes_of(comparison, len)?;
+        compare_each_ascii_byte(comparison, len)?;
     }
     Ok(())
 }
 
-// Compares the text unchanged, and with another byte at each position.
-fn compare_damaged(comparison: &mut Comparison<'_>, text: &mut [u8]) -> Result<(), Differs> {
-    for position in 0..text.len() {
-        let own = text[position];
-        for byte in [128, 255, b'!', b'='] {
-            text[position] = byte;
-            comparison.compare(text)?;
-        }
-        text[position] = own;
-    }
-    comparison.compare(text)
-}
+/// The bytes that replace the bytes of a text.
+const DAMAGE: [u8; 4] = [128, 255, b'!', b'='];
 
-// Replaces this many bytes at the end of a group by padding.
+/// Replaces the last `count` bytes of a group by padding.
 pub(super) fn pad(group: &mut [u8], count: usize) {
     let symbols = group.len().saturating_sub(count);
     for index in symbols..group.len() {
@@ -52,9 +42,9 @@ pub(super) fn pad(group: &mut [u8], count: usize) {
     }
 }
 
-// Compares two groups with any two lengths of padding.
-fn compare_pairs(comparison: &mut Comparison<'_>, symbol: u8) -> Result<(), Differs> {
-    let len = comparison.judge.group_len();
+/// Compares two groups with any two lengths of padding.
+fn compare_padded_pairs(comparison: &mut Comparison<'_>, symbol: u8) -> Result<(), Differs> {
+    let len = comparison.oracle.group_len();
     if len > 8 {
         return Err(Differs {});
     }
@@ -63,23 +53,23 @@ fn compare_pairs(comparison: &mut Comparison<'_>, symbol: u8) -> Result<(), Diff
             let mut text = [symbol; 16];
             pad(&mut text[..len], first);
             pad(&mut text[len..2 * len], second);
-            compare_damaged(comparison, &mut text[..2 * len])?;
+            compare_damaged_anywhere(comparison, &mut text[..2 * len], &DAMAGE)?;
         }
     }
     Ok(())
 }
 
-// Compares texts of one symbol, of up to two groups and one byte.
-fn compare_lengths(comparison: &mut Comparison<'_>, symbol: u8) -> Result<(), Differs> {
+/// Compares texts of one symbol, of up to two groups and one byte.
+fn compare_each_text_length(comparison: &mut Comparison<'_>, symbol: u8) -> Result<(), Differs> {
     let mut text = [symbol; 17];
     for len in 0..=text.len() {
-        compare_damaged(comparison, &mut text[..len])?;
+        compare_damaged_anywhere(comparison, &mut text[..len], &DAMAGE)?;
     }
     Ok(())
 }
 
-// The symbols of the values 0 and 1, and the last, whose bits are all set.
-pub(super) fn telling_symbols(symbols: &[u8]) -> [u8; 3] {
+/// Returns the symbols of the values 0 and 1, and the symbol with all bits set.
+pub(super) fn extreme_symbols(symbols: &[u8]) -> [u8; 3] {
     match symbols {
         [zero, one, .., last] => [*zero, *one, *last],
         [zero, one] => [*zero, *one, *one],
@@ -87,12 +77,12 @@ pub(super) fn telling_symbols(symbols: &[u8]) -> [u8; 3] {
     }
 }
 
-// Texts of symbols without bits, with one bit and with all; if there is padding, also padded.
+/// Compares texts of symbols with no bits, one bit and all bits, with and without padding.
 pub(super) fn compare_symbols(comparison: &mut Comparison<'_>) -> Result<(), Differs> {
-    for symbol in telling_symbols(comparison.judge.symbols) {
-        compare_lengths(comparison, symbol)?;
-        if comparison.judge.padding.is_some() {
-            compare_pairs(comparison, symbol)?;
+    for symbol in extreme_symbols(comparison.oracle.symbols) {
+        compare_each_text_length(comparison, symbol)?;
+        if comparison.oracle.padding.is_some() {
+            compare_padded_pairs(comparison, symbol)?;
         }
     }
     Ok(())

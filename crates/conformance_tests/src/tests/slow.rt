@@ -6,8 +6,10 @@ use std::alloc::Global;
 use std::io;
 use std::io::{ErrorKind, Read, Write};
 
-// Gives at most this many bytes in each call, and records the most that it was asked for. The call
-// after this many good ones is interrupted, and later calls succeed again.
+/// A reader that gives at most `most` bytes in each call, and records the greatest length that it
+/// was asked for.
+///
+/// The call after `good` calls is interrupted. Later calls succeed.
 #[derive(Drop)]
 pub(super) struct Slow<'a> {
     bytes: &'a [u8],
@@ -33,16 +35,23 @@ impl Read for Slow<'_> {
     }
 }
 
-// The call that a writer fails once.
+/// The call that a writer fails once.
 #[derive(Clone, Copy)]
 pub(super) enum Failure {
+    /// None.
     Nothing,
+
+    /// A write is interrupted.
     Write,
+
+    /// A write takes no bytes.
     Take,
+
+    /// The flush is interrupted.
     Flush,
 }
 
-// Takes at most this many bytes in each call, and fails once after this many good writes.
+/// A writer that takes at most `most` bytes in each call, and fails once after `good` writes.
 #[derive(Drop)]
 pub(super) struct Narrow {
     pub(super) bytes: Vec<u8>,
@@ -55,6 +64,7 @@ pub(super) struct Narrow {
 }
 
 impl Narrow {
+    /// Returns a writer without bytes.
     pub(super) fn new(alloc: Global, most: usize, failure: Failure, good: usize) -> Narrow {
         Narrow {
             bytes: Vec::new(alloc),
@@ -94,7 +104,7 @@ impl Write for Narrow {
     }
 }
 
-// What a stream has done.
+/// The effect of a stream.
 #[derive(Drop)]
 pub(super) struct Outcome {
     pub(super) result: Result<(), StreamFault>,
@@ -106,7 +116,7 @@ pub(super) struct Outcome {
 }
 
 impl Outcome {
-    // What was done, from a reader and a writer that were watched.
+    /// Returns the effect on a reader and a writer that were watched.
     pub(super) fn of(
         answer: Result<(), StreamFault>,
         reader: Watch<Slow<'_>>,
@@ -124,8 +134,8 @@ impl Outcome {
         }
     }
 
-    // This fault was returned, or none; the bytes were written, and flushed once, after the last
-    // write.
+    /// Returns `true` if the result is `fault`, or Ok if that is `None`, and `bytes` was written,
+    /// and flushed once, after the last write.
     pub(super) fn is_whole(&self, fault: Option<StreamFault>, bytes: &[u8]) -> bool {
         self.result.err() == fault
             && self.writer.bytes.as_slice() == bytes
@@ -133,7 +143,8 @@ impl Outcome {
             && self.writer.writes_when_flushed == self.writer.writes
     }
 
-    // The fault was returned, its watch has failed, and a prefix of the bytes was written.
+    /// Returns `true` if the result is `fault`, its watch has failed, and a prefix of `bytes` was
+    /// written.
     pub(super) fn is_fault(&self, fault: StreamFault, bytes: &[u8]) -> bool {
         self.result == Err(fault)
             && self.read_failed == (fault == StreamFault::Read)
@@ -142,6 +153,7 @@ impl Outcome {
     }
 }
 
+/// Returns a reader of `bytes` without a failure.
 pub(super) fn reader_of(bytes: &[u8], most: usize) -> Slow<'_> {
     Slow {
         bytes,

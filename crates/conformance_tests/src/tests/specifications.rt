@@ -1,14 +1,15 @@
-//! Specifications from which encodings are built, and specifications that are refused.
+//! Specifications that encodings are built from, and specifications that are refused.
 
+use super::original_table;
 use super::predefined::case_of;
-use super::rows::{compare, row_of};
-use super::table;
+use super::rows::{compare_answer, row_of};
 use conformance::callers::symbols_of;
 use data_encoding::spec::{Specification, SpecificationError};
 use data_encoding::{BitOrder, Encoding, SpecificationParts, base64_mime};
 use std::alloc::{AllocError, Global};
 use std::test::Fail;
 
+/// The refusals of specifications.
 const JUDGEMENTS: &str = "\
 |most|check|||0||||invalid number of symbols
 010|most|check|||0||||invalid number of symbols
@@ -56,15 +57,15 @@ base64|most|check|||7|\
 0\u{7f}|most|check||\u{7f}|0||||'\\u{7f}' has conflicting definitions
 01|most|check|||0||a|\u{7f}|'\\u{7f}' is undefined";
 
-// The symbols that are asked for, or that no encoding has them.
+/// The symbols of encodings, or `none` for a refusal.
 const SYMBOLS: &str = "\
 ba|most|check|||0||||ba
 hex|most|check|||0||ABCDEF|abcdef|0123456789abcdef
 abc|most|check|||0||||none
 aa|most|check|||0||||none";
 
-// The specification of the encoding: whether texts may not be concatenated, its check, padding,
-// ignored bytes, lines and translation.
+/// The specifications of encodings: `single` if texts may not be concatenated, the check, the
+/// padding, the ignored bytes, the lines and the translation.
 const DESCRIPTIONS: &str = "\
 binary|most||||0||||true/None//0///
 octal|most||||0||||false/None//0///
@@ -78,8 +79,9 @@ octal|most|check|=||0||~|=|true/Some('=')//0//~/=
 base64|most|single check|||0||||true/None//0///
 base64|most|single check|=||0||||single/true/Some('=')//0///";
 
-// Specifications, how a copy is written, and a new one with its lines and its translation. Each
-// field of the first differs from that of a new specification.
+/// Specifications, a copy of each, and a new specification with its lines and its translation.
+///
+/// Each field of the first differs from the field of a new specification.
 const COPIES: [(&str, &str, &str); 3] = [
     (
         "base64|least|single|.|~|76|↵|!?|AB|",
@@ -98,8 +100,8 @@ const COPIES: [(&str, &str, &str); 3] = [
     ),
 ];
 
-// A specification as a row writes it, besides its symbols and the order of its bits.
-fn described(alloc: Global, specification: &Specification) -> Result<String, AllocError> {
+/// Returns a specification as a row writes it, without its symbols and its bit order.
+fn show_specification(alloc: Global, specification: &Specification) -> Result<String, AllocError> {
     let single = if specification.concatenate {
         ""
     } else {
@@ -115,7 +117,7 @@ fn described(alloc: Global, specification: &Specification) -> Result<String, All
     format!(in alloc; "{single}{check}/{padding:?}/{ignored}/{width}/{separator}/{from}/{to}")
 }
 
-// The fields of the specification, as bytes.
+/// Returns the fields of the specification as bytes.
 fn parts_of(specification: &Specification) -> SpecificationParts<'_> {
     SpecificationParts {
         symbols: specification.symbols.as_bytes(),
@@ -131,9 +133,9 @@ fn parts_of(specification: &Specification) -> SpecificationParts<'_> {
     }
 }
 
-// Whether the encoding that is built from the bytes of a specification is the same, also as plain
-// data.
-fn is_built_alike(
+/// Returns `true` if `by_parts`, built from the bytes of the specification, equals `built`, also as
+/// plain data.
+fn builds_alike(
     alloc: Global,
     built: &Result<Encoding, SpecificationError>,
     by_parts: Result<Encoding, SpecificationError>,
@@ -149,7 +151,7 @@ fn is_built_alike(
     })
 }
 
-// The sum of bytes, each times its position.
+/// Returns the sum of `bytes`, each times its position.
 fn sum_of(bytes: &[u8]) -> u64 {
     let mut sum: u64 = 0;
     let mut position: u64 = 0;
@@ -160,8 +162,9 @@ fn sum_of(bytes: &[u8]) -> u64 {
     sum
 }
 
-// The length of a layout and its sum, if the encoding is built from its specification again.
-fn summed(alloc: Global, encoding: &Encoding) -> Result<String, Fail> {
+/// Returns the length of a layout and its sum, if the encoding is built again from its
+/// specification.
+fn show_layout_sum(alloc: Global, encoding: &Encoding) -> Result<String, Fail> {
     if encoding.specification(alloc)?.encoding()? != *encoding {
         return Ok(String::from_str(alloc, "builds another")?);
     }
@@ -170,15 +173,15 @@ fn summed(alloc: Global, encoding: &Encoding) -> Result<String, Fail> {
     Ok(format!(in alloc; "{len} bytes, {sum}")?)
 }
 
-// The symbols that a caller finds.
-fn symbols(alloc: Global, specification: &Specification) -> Result<String, AllocError> {
+/// Returns the symbols that a caller finds.
+fn show_symbols(alloc: Global, specification: &Specification) -> Result<String, AllocError> {
     match symbols_of(alloc, specification)? {
         Some(symbols) => Ok(symbols),
         None => String::from_str(alloc, "none"),
     }
 }
 
-// What is asked about a specification.
+/// A result for a specification.
 #[derive(Clone, Copy)]
 enum Asked {
     Encoding,
@@ -187,57 +190,57 @@ enum Asked {
     Symbols,
 }
 
+/// The rows of each result.
 const TABLES: [(Asked, &str); 4] = [
     (Asked::Encoding, JUDGEMENTS),
     (Asked::Description, DESCRIPTIONS),
-    (Asked::Sum, table::ROWS),
+    (Asked::Sum, original_table::ROWS),
     (Asked::Symbols, SYMBOLS),
 ];
 
-// What is built from a specification: an encoding, of which what is asked for is written, or a
-// refusal.
-fn built(alloc: Global, specification: &Specification, asked: Asked) -> Result<String, Fail> {
+/// Returns a result for the encoding that is built from a specification, or the refusal.
+fn show_built(alloc: Global, specification: &Specification, asked: Asked) -> Result<String, Fail> {
     let built = specification.encoding();
-    if !is_built_alike(alloc, &built, parts_of(specification).encoding())? {
+    if !builds_alike(alloc, &built, parts_of(specification).encoding())? {
         return Ok(String::from_str(alloc, "built otherwise by its parts")?);
     }
     match built {
         Ok(encoding) => match asked {
-            Asked::Description => Ok(described(alloc, &encoding.specification(alloc)?)?),
-            Asked::Sum => summed(alloc, &encoding),
+            Asked::Description => Ok(show_specification(alloc, &encoding.specification(alloc)?)?),
+            Asked::Sum => show_layout_sum(alloc, &encoding),
             _ => Ok(String::from_str(alloc, "an encoding")?),
         },
         Err(error) => Ok(error.to_string(alloc)?),
     }
 }
 
-// Fails if something else is built from a specification.
-fn compare_row(alloc: Global, asked: Asked, line: &str) -> Result<(), Fail> {
+/// Compares a result for a specification with a row.
+fn compare_specification_row(alloc: Global, asked: Asked, line: &str) -> Result<(), Fail> {
     let row = row_of(alloc, line)?;
     let answer = match asked {
-        Asked::Symbols => symbols(alloc, &row.specification)?,
-        _ => built(alloc, &row.specification, asked)?,
+        Asked::Symbols => show_symbols(alloc, &row.specification)?,
+        _ => show_built(alloc, &row.specification, asked)?,
     };
-    compare(alloc, line, answer.as_str(), row.want)
+    compare_answer(alloc, line, answer.as_str(), row.want)
 }
 
 #[test]
-fn specifications_build_what_rows_want(rt: HostRuntime) -> Result<(), Fail> {
-    assert!(rt; table::ROWS.split('\n').count() == 200);
+fn specifications_match_rows(rt: HostRuntime) -> Result<(), Fail> {
+    assert!(rt; original_table::ROWS.split('\n').count() == 200);
     for (asked, lines) in &TABLES {
         for line in lines.split('\n') {
-            compare_row(rt.alloc(), *asked, line)?;
+            compare_specification_row(rt.alloc(), *asked, line)?;
         }
     }
     Ok(())
 }
 
-// Whether the symbols and the order of the bits are the same.
+/// Returns `true` if the symbols and the bit orders are equal.
 fn has_symbols_of(one: &Specification, other: &Specification) -> bool {
     one.symbols.as_str() == other.symbols.as_str() && one.bit_order == other.bit_order
 }
 
-// A new specification with the lines and the translation of another.
+/// Returns a new specification with the lines and the translation of another.
 fn with_parts_of(alloc: Global, other: &Specification) -> Result<Specification, AllocError> {
     let mut parts = Specification::new(alloc);
     parts.wrap = other.wrap.try_clone()?;
@@ -245,9 +248,9 @@ fn with_parts_of(alloc: Global, other: &Specification) -> Result<Specification, 
     Ok(parts)
 }
 
-// Whether the copy of a specification is written like this, and a new one with its lines and
-// translation like that.
-fn is_copied(
+/// Returns `true` if the copy of a specification is written as `want`, and a new one with its lines
+/// and translation as `parts`.
+fn copies_as(
     alloc: Global,
     specification: &Specification,
     want: &str,
@@ -256,27 +259,27 @@ fn is_copied(
     let copy = specification.try_clone()?;
     Ok(
         has_symbols_of(&copy, specification)
-            && described(alloc, &copy)?.as_str() == want
-            && described(alloc, &with_parts_of(alloc, &copy)?)?.as_str() == parts,
+            && show_specification(alloc, &copy)?.as_str() == want
+            && show_specification(alloc, &with_parts_of(alloc, &copy)?)?.as_str() == parts,
     )
 }
 
-// Whether the specification of a row, and of the encoding that is built from it, are copied.
-fn are_copied(alloc: Global, line: &str, want: &str, parts: &str) -> Result<bool, Fail> {
+/// Returns `true` if the specification of a row is copied, and the copy builds the same encoding.
+fn copies_row_as(alloc: Global, line: &str, want: &str, parts: &str) -> Result<bool, Fail> {
     let case = case_of(alloc, line)?;
     let again = case.specification.try_clone()?.encoding()?;
-    Ok(again == case.encoding && is_copied(alloc, &case.specification, want, parts)?)
+    Ok(again == case.encoding && copies_as(alloc, &case.specification, want, parts)?)
 }
 
 #[test]
-fn specifications_are_copied(rt: HostRuntime) -> Result<(), Fail> {
+fn specification_copies(rt: HostRuntime) -> Result<(), Fail> {
     for (line, want, parts) in &COPIES {
-        assert!(rt; are_copied(rt.alloc(), line, want, parts)?, "{line}");
+        assert!(rt; copies_row_as(rt.alloc(), line, want, parts)?, "{line}");
     }
     Ok(())
 }
 
-// A specification with these symbols, lines of this width that end with LF, and translations.
+/// Returns a specification with the given symbols, lines that end with LF, and translations.
 fn parts_with<'a>(symbols: &'a [u8], wrap_width: usize, from: &'a [u8]) -> SpecificationParts<'a> {
     SpecificationParts {
         symbols,
@@ -292,8 +295,8 @@ fn parts_with<'a>(symbols: &'a [u8], wrap_width: usize, from: &'a [u8]) -> Speci
     }
 }
 
-// Why a specification is refused, in its `Debug` form.
-fn refusal(
+/// Returns the refusal of a specification, in its `Debug` form.
+fn show_refusal(
     alloc: Global,
     symbols: &[u8],
     wrap_width: usize,
@@ -308,13 +311,13 @@ fn refusal(
     }
 }
 
-// Whether an encoding with lines is the same as plain data.
-fn is_plain() -> bool {
+/// Returns `true` if an encoding with lines is the same as plain data.
+fn plain_data_matches() -> bool {
     let plain = base64_mime().to_plain();
     plain.encoding() == base64_mime() && plain.encoding().encode_len(1) == 6
 }
 
-// Bytes, the width of lines, what is translated, and why they are refused.
+/// The symbols, the width of lines, the translated bytes, and the refusal.
 const REFUSALS: [(&[u8], usize, &[u8], &str); 7] = [
     (b"abc", 0, b"", "BadSize"),
     (b"0\xff", 0, b"", "NotAscii"),
@@ -326,11 +329,11 @@ const REFUSALS: [(&[u8], usize, &[u8], &str); 7] = [
 ];
 
 #[test]
-fn refusals_are_returned(rt: HostRuntime) -> Result<(), Fail> {
+fn refusals(rt: HostRuntime) -> Result<(), Fail> {
     for (symbols, wrap_width, from, want) in &REFUSALS {
-        let answer = refusal(rt.alloc(), symbols, *wrap_width, from)?;
-        compare(rt.alloc(), want, answer.as_str(), want)?;
+        let answer = show_refusal(rt.alloc(), symbols, *wrap_width, from)?;
+        compare_answer(rt.alloc(), want, answer.as_str(), want)?;
     }
-    assert!(rt; is_plain());
+    assert!(rt; plain_data_matches());
     Ok(())
 }

@@ -12,7 +12,7 @@ use std::alloc::Global;
 use std::fmt;
 use std::test::Fail;
 
-// A writer that fails at each call.
+/// A writer that fails at each call.
 #[derive(Drop)]
 struct Refusing {}
 
@@ -22,8 +22,9 @@ impl fmt::Write for Refusing {
     }
 }
 
-// Whether the encoding comes back, its layout is not that of the other, and no layout is empty.
-pub(super) fn is_stored(encoding: &Encoding, other: &Encoding) -> bool {
+/// Returns `true` if the encoding is restored from its layout, its layout is not the layout of
+/// `other`, and no layout is empty.
+pub(super) fn restores_layout(encoding: &Encoding, other: &Encoding) -> bool {
     let bytes = encoding.internal_implementation();
     let is_back = match restored(encoding) {
         Some(back) => back == *encoding,
@@ -36,8 +37,8 @@ pub(super) fn is_stored(encoding: &Encoding, other: &Encoding) -> bool {
         && !stands_for_some(b"")
 }
 
-// Whether the text of the byte is appended.
-fn is_finalized(encoding: &Encoding, byte: u8, output: &mut String) -> bool {
+/// Returns `true` if the text of `byte` is appended by `finalized`.
+fn appends_by_finalized(encoding: &Encoding, byte: u8, output: &mut String) -> bool {
     let mut encoder = encoding.new_encoder(output);
     let is_taken = encoder.append(&[byte]).is_ok();
     match finalized(encoder) {
@@ -49,19 +50,19 @@ fn is_finalized(encoding: &Encoding, byte: u8, output: &mut String) -> bool {
     }
 }
 
-// Whether the texts are appended to the string.
-fn grows(alloc: Global) -> Result<bool, Fail> {
+/// Returns `true` if the callers append their texts.
+fn appends_texts(alloc: Global) -> Result<bool, Fail> {
     let mut output = String::from_str(alloc, "Payload: ")?;
     let is_ok = write_at_end(&hexlower(), b"Hello", &mut output).is_ok();
-    encoded_at_second_try(&base32(), b"Hello world", &mut output)?;
-    encoded_at_second_try(&base64_mime(), b"", &mut output)?;
-    let is_last = is_finalized(&base64(), b'!', &mut output);
+    encoded_at_second_try(&base32(), b"Hello ", b"world", &mut output)?;
+    encoded_at_second_try(&base64_mime(), b"", b"", &mut output)?;
+    let is_last = appends_by_finalized(&base64(), b'!', &mut output);
     let want = "Payload: 48656c6c6fJBSWY3DPEB3W64TMMQ======IQ==";
     Ok(is_ok && is_last && output.as_str() == want)
 }
 
-// Whether the text of two bytes is written, and appended to a log.
-fn is_logged(alloc: Global) -> Result<bool, Fail> {
+/// Returns `true` if the text of two bytes is written, and appended to a log.
+fn logs_text(alloc: Global) -> Result<bool, Fail> {
     let mut log = String::from_str(alloc, "log: ")?;
     let mut output = [0; 4];
     let encoding = hexlower();
@@ -72,9 +73,9 @@ fn is_logged(alloc: Global) -> Result<bool, Fail> {
     Ok(log.as_str() == "log: 6869" && output.as_slice() == "6869".as_bytes())
 }
 
-// Whether a text is decoded to an output that has room for one byte: memory is there, and no mark
-// is appended.
-fn is_decoded_unmarked(alloc: Global) -> Result<bool, Fail> {
+/// Returns `true` if a text is decoded to an output with room for one byte, without a mark, since
+/// memory suffices.
+fn decodes_without_mark(alloc: Global) -> Result<bool, Fail> {
     let encoding = base64();
     let mut decoder = Decoder::new(&encoding);
     let mut output = Vec::with_capacity(alloc, 1)?;
@@ -84,8 +85,8 @@ fn is_decoded_unmarked(alloc: Global) -> Result<bool, Fail> {
     Ok(is_pushed && finished.is_some() && output.as_slice() == b"Hel".as_slice())
 }
 
-// Whether no data is displayed by a writer that fails at each call, and data is not.
-fn shows_no_data() -> bool {
+/// Returns `true` if a writer that fails at each call displays empty data, and no other data.
+fn displays_no_data() -> bool {
     let mut plain = fmt::Formatter::new(Refusing {});
     show_nothing(&base64_mime(), &mut plain).is_ok()
         && write!(plain, "{}", base64().encode_display(b"")).is_ok()
@@ -93,10 +94,24 @@ fn shows_no_data() -> bool {
 }
 
 #[test]
-fn callers_append_and_show(rt: HostRuntime) -> Result<(), Fail> {
-    assert!(rt; grows(rt.alloc())?);
-    assert!(rt; is_logged(rt.alloc())?);
-    assert!(rt; is_decoded_unmarked(rt.alloc())?);
-    assert!(rt; shows_no_data());
+fn append_texts(rt: HostRuntime) -> Result<(), Fail> {
+    assert!(rt; appends_texts(rt.alloc())?);
     Ok(())
+}
+
+#[test]
+fn log_text(rt: HostRuntime) -> Result<(), Fail> {
+    assert!(rt; logs_text(rt.alloc())?);
+    Ok(())
+}
+
+#[test]
+fn decode_without_mark(rt: HostRuntime) -> Result<(), Fail> {
+    assert!(rt; decodes_without_mark(rt.alloc())?);
+    Ok(())
+}
+
+#[test]
+fn display_no_data(rt: HostRuntime) {
+    assert!(rt; displays_no_data());
 }

@@ -1,25 +1,25 @@
 //! Data that is encoded, and texts that are decoded, from a reader to a writer.
 
 use super::comparison::{Comparison, Differs};
-use super::judge::Judgement;
-use super::rows::{bytes_of_length, field_of};
+use super::oracle::Expected;
+use super::rows::{bytes_of_length, show_bytes};
 use super::slow::{Failure, Narrow, Outcome, Slow, reader_of};
 use data_encoding::{ENCODE_LIMIT, Encoding, hexlower};
 use encoding_stream::{StreamFault, Watch, decode_stream, encode_stream};
 use std::alloc::{AllocError, Global};
 use std::test::Fail;
 
-// The room for the text of what a stream reads at a time.
+/// The room for the text of the bytes that a stream reads at a time.
 const ROOM: usize = 49_152;
 
-// The direction of a stream.
+/// The direction of a stream.
 #[derive(Clone, Copy)]
 enum Way {
     Encode,
     Decode,
 }
 
-// A stream, what it reads, and what it writes if no call fails.
+/// A stream, its input, and its output if no call fails.
 #[derive(Clone, Copy)]
 struct Stream<'a> {
     way: Way,
@@ -29,7 +29,8 @@ struct Stream<'a> {
     output: &'a [u8],
 }
 
-fn run(way: Way, encoding: &Encoding, reader: Slow<'_>, writer: Narrow) -> Outcome {
+/// Returns the effect of a stream from `reader` to `writer`.
+fn run_stream(way: Way, encoding: &Encoding, reader: Slow<'_>, writer: Narrow) -> Outcome {
     let mut reader = Watch::new(reader);
     let mut writer = Watch::new(writer);
     let result = match way {
@@ -39,7 +40,8 @@ fn run(way: Way, encoding: &Encoding, reader: Slow<'_>, writer: Narrow) -> Outco
     Outcome::of(result, reader, writer)
 }
 
-// Runs a stream that reads at most this many bytes in a call, and writes at most that many.
+/// Returns the effect of a stream that reads at most `most_read` bytes in a call, and writes at
+/// most `most_written`.
 fn run_slowly(
     alloc: Global,
     way: Way,
@@ -48,14 +50,15 @@ fn run_slowly(
     (most_read, most_written): (usize, usize),
 ) -> Outcome {
     let writer = Narrow::new(alloc, most_written, Failure::Nothing, 0);
-    run(way, encoding, reader_of(input, most_read), writer)
+    run_stream(way, encoding, reader_of(input, most_read), writer)
 }
 
-// Whether a stream writes and returns what is expected of a text.
-pub(super) fn is_decoded_by_stream(
+/// Returns `true` if a stream that reads and writes at most `most` bytes has the expected result
+/// for `text`.
+pub(super) fn stream_decodes(
     alloc: Global,
     encoding: &Encoding,
-    want: &Judgement,
+    want: &Expected,
     text: &[u8],
     most: usize,
 ) -> bool {
@@ -66,13 +69,17 @@ pub(super) fn is_decoded_by_stream(
     run_slowly(alloc, Way::Decode, encoding, text, (most, most)).is_whole(fault, &want.bytes)
 }
 
-// What is written and returned, separated by a slash: by a stream that reads and writes as much as
-// possible in a call, and by one that reads and writes a byte.
-pub(super) fn streamed(alloc: Global, encoding: &Encoding, text: &[u8]) -> Result<String, Fail> {
+/// Returns the output and the fault of a stream, separated by a slash, if a stream that reads and
+/// writes single bytes has the same.
+pub(super) fn show_decode_stream(
+    alloc: Global,
+    encoding: &Encoding,
+    text: &[u8],
+) -> Result<String, Fail> {
     let got = run_slowly(alloc, Way::Decode, encoding, text, (usize::MAX, usize::MAX));
     let slow = run_slowly(alloc, Way::Decode, encoding, text, (1, 1));
     let fault = got.result.err();
-    let mut answer = field_of(alloc, &got.writer.bytes)?;
+    let mut answer = show_bytes(alloc, &got.writer.bytes)?;
     if !got.is_whole(fault, &got.writer.bytes) || !slow.is_whole(fault, &got.writer.bytes) {
         answer.push_str("/streamed otherwise")?;
     }
@@ -83,19 +90,26 @@ pub(super) fn streamed(alloc: Global, encoding: &Encoding, text: &[u8]) -> Resul
     Ok(answer)
 }
 
-// What is written for data.
-pub(super) fn written(alloc: Global, encoding: &Encoding, data: &[u8]) -> Result<String, Fail> {
+/// Returns the text of `data` that a stream writes.
+pub(super) fn show_encode_stream(
+    alloc: Global,
+    encoding: &Encoding,
+    data: &[u8],
+) -> Result<String, Fail> {
     let got = run_slowly(alloc, Way::Encode, encoding, data, (usize::MAX, usize::MAX));
-    let mut answer = field_of(alloc, &got.writer.bytes)?;
+    let mut answer = show_bytes(alloc, &got.writer.bytes)?;
     if !got.is_whole(None, &got.writer.bytes) {
         answer.push_str("/streamed otherwise")?;
     }
     Ok(answer)
 }
 
-// The reads and writes for this many bytes if each call takes all that it is given, and the most
-// that one read asked for.
-pub(super) fn encode_calls(alloc: Global, encoding: &Encoding, len: &str) -> Result<String, Fail> {
+/// Returns the numbers of reads and writes for `len` bytes, and the greatest length of a read.
+pub(super) fn show_encode_calls(
+    alloc: Global,
+    encoding: &Encoding,
+    len: &str,
+) -> Result<String, Fail> {
     let bytes = bytes_of_length(alloc, len.parse()?)?;
     let most = (usize::MAX, usize::MAX);
     let got = run_slowly(alloc, Way::Encode, encoding, &bytes, most);
@@ -103,8 +117,8 @@ pub(super) fn encode_calls(alloc: Global, encoding: &Encoding, len: &str) -> Res
     Ok(format!(in alloc; "{reads} reads of {asked}, {writes} writes")?)
 }
 
-// The reads for a text, and the most that one asked for.
-pub(super) fn decode_reads(
+/// Returns the number of reads for a text, and the greatest length of a read.
+pub(super) fn show_decode_reads(
     alloc: Global,
     encoding: &Encoding,
     text: &[u8],
@@ -115,9 +129,10 @@ pub(super) fn decode_reads(
     Ok(format!(in alloc; "{reads} reads of {asked}")?)
 }
 
-// Compares what the stream of this many bytes writes with what `encode` returns, if a read gives at
-// most a given number of bytes, and a write takes at most another.
-fn compare_len(
+/// Compares the output of a stream of `len` bytes with the text of `encode`.
+///
+/// `most` has the most bytes of a read and of a write.
+fn compare_stream_len(
     comparison: &Comparison<'_>,
     len: usize,
     most: (usize, usize),
@@ -135,31 +150,31 @@ fn compare_len(
     Err(Differs {})
 }
 
-// The same for data of some lengths, read by some thousand bytes and byte by byte.
+/// Compares streams of some lengths, read in pieces of a thousand bytes and byte by byte.
 pub(super) fn compare_streams(comparison: &Comparison<'_>) -> Result<(), Differs> {
     let most = comparison.encoding.encode_piece_len(ROOM);
     for len in [0, 1, 2, 5, most - 1, most, most.saturating_add(1)] {
-        compare_len(comparison, len, (1000, usize::MAX))?;
+        compare_stream_len(comparison, len, (1000, usize::MAX))?;
     }
-    compare_len(comparison, 300, (1, 1))
+    compare_stream_len(comparison, 300, (1, 1))
 }
 
 impl Stream<'_> {
-    // Whether the read after this many good ones ends a stream, and nothing is flushed.
+    /// Returns `true` if the read after `good` reads ends a stream, and nothing is flushed.
     fn ends_at_read(&self, good: usize) -> bool {
         let mut reader = reader_of(self.input, 1000);
         reader.good = good;
         let writer = Narrow::new(self.alloc, usize::MAX, Failure::Nothing, 0);
-        let got = run(self.way, self.encoding, reader, writer);
+        let got = run_stream(self.way, self.encoding, reader, writer);
         got.is_fault(StreamFault::Read, self.output)
             && got.reads == good.wrapping_add(1)
             && got.writer.flushes == 0
     }
 
-    // Whether the write after this many good ones ends a stream, and nothing is flushed.
+    /// Returns `true` if the write after `good` writes ends a stream, and nothing is flushed.
     fn ends_at_write(&self, failure: Failure, good: usize) -> bool {
         let writer = Narrow::new(self.alloc, 1000, failure, good);
-        let got = run(
+        let got = run_stream(
             self.way,
             self.encoding,
             reader_of(self.input, usize::MAX),
@@ -170,10 +185,10 @@ impl Stream<'_> {
             && got.writer.flushes == 0
     }
 
-    // Whether a flush that fails ends a stream that has written all.
+    /// Returns `true` if a flush that fails ends a stream, after the whole output was written.
     fn ends_at_flush(&self, most_read: usize, most_written: usize) -> bool {
         let writer = Narrow::new(self.alloc, most_written, Failure::Flush, 0);
-        let got = run(
+        let got = run_stream(
             self.way,
             self.encoding,
             reader_of(self.input, most_read),
@@ -184,8 +199,8 @@ impl Stream<'_> {
             && got.writer.flushes == 1
     }
 
-    // How many times a stream reads at most a thousand bytes, and writes as many.
-    fn calls(&self) -> (usize, usize) {
+    /// Returns the numbers of reads and writes of a stream, with a thousand bytes each.
+    fn count_calls(&self) -> (usize, usize) {
         let reads = run_slowly(
             self.alloc,
             self.way,
@@ -204,9 +219,10 @@ impl Stream<'_> {
         (reads, whole.writer.writes)
     }
 
-    // Whether a stream makes this many calls, and the first that fails ends it.
+    /// Returns `true` if a stream makes `reads` reads and `writes` writes, and the first that fails
+    /// ends it.
     fn ends_at_any_call(&self, (reads, writes): (usize, usize)) -> bool {
-        if self.calls() != (reads, writes) {
+        if self.count_calls() != (reads, writes) {
             return false;
         }
         for good in 0..reads {
@@ -225,16 +241,16 @@ impl Stream<'_> {
     }
 }
 
-// The reads and writes of a stream that encodes, and of one that decodes, a thousand bytes at a
-// time.
+/// The numbers of reads and writes of a stream that encodes, and of one that decodes, with a
+/// thousand bytes each.
 #[derive(Clone, Copy)]
 pub(super) struct Calls {
     pub(super) encode: (usize, usize),
     pub(super) decode: (usize, usize),
 }
 
-// Whether the first call that fails ends the stream of some data, and of its text.
-fn ends(
+/// Returns `true` if the first call that fails ends the stream of `data`, or of its text.
+fn ends_at_failures(
     comparison: &Comparison<'_>,
     way: Way,
     data: &[u8],
@@ -255,8 +271,8 @@ fn ends(
     stream.ends_at_any_call(calls)
 }
 
-// Whether the first call that fails ends the stream of a text with a byte that is no symbol in one
-// of the last groups.
+/// Returns `true` if the first call that fails ends the stream of a text with an invalid byte in
+/// one of the last groups.
 fn ends_before_fault(
     comparison: &Comparison<'_>,
     text: &mut [u8],
@@ -267,19 +283,19 @@ fn ends_before_fault(
     }
     let position = text.len() - 10;
     text[position] = b'!';
-    let whole = comparison.judge.decode(comparison.alloc, text)?;
-    let want = comparison.judge.in_pieces(comparison.alloc, text, whole)?;
-    Ok(want.fault.is_some() && ends(comparison, Way::Decode, &want.bytes, text, calls))
+    let whole = comparison.oracle.decode(comparison.alloc, text)?;
+    let want = comparison.oracle.in_pieces(comparison.alloc, text, whole)?;
+    Ok(want.fault.is_some() && ends_at_failures(comparison, Way::Decode, &want.bytes, text, calls))
 }
 
-// Compares how streams of 60,000 bytes, and of the text of 30,000, end.
+/// Compares the ends of streams of 60,000 bytes, and of the text of 30,000.
 pub(super) fn compare_ends(comparison: &Comparison<'_>, calls: Calls) -> Result<(), Differs> {
     let data = bytes_of_length(comparison.alloc, 60_000)?;
     let half = data.get(..30_000).unwrap_or(&[]);
-    let text = comparison.judge.encode(comparison.alloc, &data)?;
-    let mut half_text = comparison.judge.encode(comparison.alloc, half)?;
-    if ends(comparison, Way::Encode, &data, &text, calls.encode)
-        && ends(comparison, Way::Decode, half, &half_text, calls.decode)
+    let text = comparison.oracle.encode(comparison.alloc, &data)?;
+    let mut half_text = comparison.oracle.encode(comparison.alloc, half)?;
+    if ends_at_failures(comparison, Way::Encode, &data, &text, calls.encode)
+        && ends_at_failures(comparison, Way::Decode, half, &half_text, calls.decode)
         && ends_before_fault(comparison, &mut half_text, calls.decode)?
     {
         return Ok(());
@@ -287,7 +303,8 @@ pub(super) fn compare_ends(comparison: &Comparison<'_>, calls: Calls) -> Result<
     Err(Differs {})
 }
 
-// Whether a flush that fails ends the stream of a short text, by two bytes and three.
+/// Returns `true` if a flush that fails ends the stream of a short text, read by two bytes and
+/// written by three.
 pub(super) fn ends_at_short_flush(alloc: Global) -> bool {
     let short = Stream {
         way: Way::Encode,

@@ -9,7 +9,7 @@ use std::fmt;
 use std::fmt::Write;
 use std::test::Fail;
 
-// The call by which a text is written.
+/// The call that writes a text.
 #[derive(Clone, Copy)]
 pub(super) enum Writer {
     Buffer,
@@ -17,8 +17,7 @@ pub(super) enum Writer {
     Display,
 }
 
-// A writer that counts its calls, fails once after this many good ones, and keeps what they were
-// given.
+/// A writer that records the texts of its calls, and fails once after `good` calls.
 #[derive(Drop)]
 struct Calls {
     text: String,
@@ -28,6 +27,7 @@ struct Calls {
 }
 
 impl Calls {
+    /// Returns a writer without calls.
     fn new(alloc: Global, good: usize) -> Calls {
         Calls {
             text: String::new(alloc),
@@ -51,8 +51,8 @@ impl fmt::Write for Calls {
     }
 }
 
-// Writes the text, and returns whether that succeeds.
-fn is_written(encoding: &Encoding, input: &[u8], calls: &mut Calls, writer: Writer) -> bool
+/// Writes the text of `input`. Returns `true` if that succeeds.
+fn writes_text(encoding: &Encoding, input: &[u8], calls: &mut Calls, writer: Writer) -> bool
     requires limit { length input.now ≤ ENCODE_LIMIT }
 {
     match writer {
@@ -64,8 +64,8 @@ fn is_written(encoding: &Encoding, input: &[u8], calls: &mut Calls, writer: Writ
     }
 }
 
-// Whether the call after this many good ones ends the writing, and those before it were given as
-// much of the text as if none failed.
+/// Returns `true` if the call after `calls.good` calls ends the writing, and the calls before it
+/// were the same as in `whole`.
 fn ends_at_call(
     encoding: &Encoding,
     input: &[u8],
@@ -75,13 +75,13 @@ fn ends_at_call(
 ) -> bool
     requires limit { length input.now ≤ ENCODE_LIMIT }
 {
-    !is_written(encoding, input, &mut calls, writer)
+    !writes_text(encoding, input, &mut calls, writer)
         && calls.count == calls.good.wrapping_add(1)
         && whole.lengths.get(..calls.good) == Some(calls.lengths.as_slice())
         && whole.text.as_str().starts_with(calls.text.as_str())
 }
 
-// Whether each call that fails ends the writing.
+/// Returns `true` if each call that fails ends the writing.
 fn ends_at_each_call(
     alloc: Global,
     encoding: &Encoding,
@@ -99,8 +99,8 @@ fn ends_at_each_call(
     true
 }
 
-// The lengths of what the calls of a writer are given for data, if its text is written.
-fn lengths_of(
+/// Returns the lengths of the parts that are written for `input`, if they are its text.
+fn show_lengths(
     alloc: Global,
     encoding: &Encoding,
     input: &[u8],
@@ -109,7 +109,7 @@ fn lengths_of(
     requires limit { length input.now ≤ ENCODE_LIMIT }
 {
     let mut whole = Calls::new(alloc, usize::MAX);
-    let is_ok = is_written(encoding, input, &mut whole, writer);
+    let is_ok = writes_text(encoding, input, &mut whole, writer);
     let is_text = encoding.encode(alloc, input)? == whole.text;
     if !is_ok || !is_text || !ends_at_each_call(alloc, encoding, input, &whole, writer) {
         return String::from_str(alloc, "written otherwise");
@@ -118,8 +118,8 @@ fn lengths_of(
     format!(in alloc; "{lengths:?}")
 }
 
-// The same for this many bytes.
-pub(super) fn written_by(
+/// Returns the lengths of the parts that are written for `len` bytes.
+pub(super) fn show_calls(
     alloc: Global,
     encoding: &Encoding,
     writer: Writer,
@@ -129,11 +129,12 @@ pub(super) fn written_by(
     if input.len() > ENCODE_LIMIT {
         return Ok(String::from_str(alloc, "too long")?);
     }
-    Ok(lengths_of(alloc, encoding, &input, writer)?)
+    Ok(show_lengths(alloc, encoding, &input, writer)?)
 }
 
-// The text of data after other text, and in a wider field: a width and a fill change nothing.
-pub(super) fn displayed(
+/// Returns the text of `input` after other text, and in a wider field. A width and a fill change
+/// nothing.
+pub(super) fn show_displayed(
     alloc: Global,
     encoding: &Encoding,
     input: &[u8],

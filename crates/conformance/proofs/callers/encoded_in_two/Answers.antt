@@ -2,7 +2,7 @@ use Rattle.std.proofs.Common.{◌≡◌, false, rules, Result, Ok, Err, OnOk, is
 use Rattle.std.proofs.lemmas.Result.{IfOk-at_ok}
 use Rattle.conformance.proofs.callers.encoded_in_two.Goals as goal
 
--- what holds if there is no error
+-- a property of Ok holds if there is no error
 where_ok : {T E P : Type 0} (result : Result T E) → false ≡ is_err result → OnOk result P → P
 where_ok (Ok x) none holds = holds
 where_ok (Err error) none holds = cc

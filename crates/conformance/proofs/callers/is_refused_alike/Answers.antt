@@ -5,7 +5,7 @@ use Rattle.data_encoding.specs.declared.error.DecodeError.{DecodeError}
 use Rattle.data_encoding.specs.declared.error.DecodeFault.TheVariants.{Error}
 use Rattle.data_encoding.specs.Fault.{sound_bytes}
 use Rattle.data_encoding.specs.Lengths.{length_fault, most_bytes}
-use Rattle.conformance.proofs.FaultLemmas.{refused_len, refused-length}
+use Rattle.conformance.proofs.FaultLemmas.{length-of-refusal, refused-length}
 use Rattle.conformance.proofs.callers.is_refused_alike.Goals as goal
 use Rattle.conformance.proofs.callers.is_refused_alike.Goals.{in-Ok-decode, in-Err-Error, in-Err-OutOfMemory}
 
@@ -15,7 +15,7 @@ returns-after-decode c =
     let text = c.args.text.now in
     let error = c.in-Err.error in
     let fault : length_fault base (length text) ≡ Some error =
-    refused_len (length_fault base (length text)) (most_bytes base (length text)) error
+    length-of-refusal (length_fault base (length text)) (most_bytes base (length text)) error
     (sym c.in-Err.ensures.value) in
     let answer : c.decode.result ≡ Err (Error error) =
     refused-length base text error (λ bytes. sound_bytes base text ≡ bytes.items) c.decode.result

@@ -3,7 +3,7 @@ use Rattle.std.proofs.Common.{⊎_elim, ◌<◌, ◌∙◌, sym, subst}
 use Rattle.std.proofs.lemmas.List.Elements.{All-from_get_or}
 use Rattle.std.specs.Prelude.{All}
 use Rattle.data_encoding.specs.Grammar.{Means}
-use Rattle.conformance.proofs.FaultLemmas.{no_error}
+use Rattle.conformance.proofs.FaultLemmas.{error-not-memory}
 use Rattle.conformance.proofs.callers.there_and_back.Goals as goal
 
 pub returns-in-Ok-decode-clause-same : goal.returns-in-Ok-decode-clause-same
@@ -31,6 +31,6 @@ returns-in-Err-Error-clause-no_fault c =
     subst (λ t. Means base t input) (sym (c.as_bytes.ensures.value ∙ c.in_ok-text.ensures.text))
     (c.round_trip.ensures base is input fits) in
     λ error h. ⊎_elim (λ none. false≢true none)
-    (λ memory. no_error c.decode.result c.in-Err-Error.field-0 c.in-Err-Error.error
+    (λ memory. error-not-memory c.decode.result c.in-Err-Error.field-0 c.in-Err-Error.error
     c.in-Err-Error.field-0-is c.in-Err-Error.is (c.in-Err-Error.is ∙ memory))
     (c.in-Err-Error.ensures.accepted input means)

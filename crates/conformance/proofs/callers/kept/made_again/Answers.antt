@@ -4,21 +4,21 @@ use Rattle.data_encoding.specs.Base.{Base}
 use Rattle.data_encoding.specs.Fields.{base_of}
 use Rattle.conformance.proofs.callers.kept.made_again.Goals as goal
 
-ok-one : {one other : Base} → ◌≡◌ {A = Result Base Refusal} (Ok one) (Ok other) → one ≡ other
-ok-one is = cc
+Ok-injective : {one other : Base} → ◌≡◌ {A = Result Base Refusal} (Ok one) (Ok other) → one ≡ other
+Ok-injective is = cc
 
-no-error : {refusal : Refusal} {base : Base}
+Err-not-Ok : {refusal : Refusal} {base : Base}
     → ◌≡◌ {A = Result Base Refusal} (Err refusal) (Ok base) → ⊥
-no-error is = absurd (cc is)
+Err-not-Ok is = absurd (cc is)
 
 pub unreachable-requires : goal.unreachable-requires
 unreachable-requires c =
-    no-error (sym c.in-Err.ensures.refused
+    Err-not-Ok (sym c.in-Err.ensures.refused
     ∙ ap base_of (c.parts.ensures ∙ c.specification_bytes-given.ensures)
     ∙ c.specification_again.ensures c.args.encoding.now c.group_len.ensures.base)
 
 pub returns : goal.returns
 returns c =
-    ok-one (sym c.in-Ok.ensures.is_built
+    Ok-injective (sym c.in-Ok.ensures.is_built
     ∙ ap base_of (c.parts.ensures ∙ c.specification_bytes-given.ensures)
     ∙ c.specification_again.ensures c.args.encoding.now c.group_len.ensures.base)

@@ -5,7 +5,7 @@ use Rattle.data_encoding.specs.Grammar.{Means}
 use Rattle.data_encoding.specs.Lengths.{decoded_len, length_fault, most_bytes}
 use Rattle.data_encoding.specs.Predefined.{hexlower_permissive_fields}
 use Rattle.data_encoding.specs.Text.{text_of}
-use Rattle.conformance.proofs.NameLemmas.{counted, equal-tested, is_built-seen}
+use Rattle.conformance.proofs.NameLemmas.{len-count, equal-tested, is_built-seen}
 use Rattle.conformance.proofs.callers.keys.is_digest.Goals as goal
 
 pub returns : goal.returns
@@ -27,7 +27,7 @@ returns c =
           let again = ap (decoded_len seen) same
           ∙ c.tight.ensures.again seen is rules.padding rules.wrapping some in
           c.tight.ensures.most seen is rules.padding rules.ignores text bytes means
-          ∙ counted (length_fault seen (length text)) (most_bytes seen (length text)) 20 again),
+          ∙ len-count (length_fault seen (length text)) (most_bytes seen (length text)) 20 again),
       (λ twenty.
           equal-tested (length text) c.encode_len.result
           (c.tight.ensures.fixed seen is rules.padding rules.ignores text bytes some means

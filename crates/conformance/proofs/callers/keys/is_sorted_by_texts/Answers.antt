@@ -3,7 +3,7 @@ use Rattle.std.proofs.lemmas.Bool.{false≢true}
 use Rattle.data_encoding.specs.Base.{Base, symbol}
 use Rattle.data_encoding.specs.Order.{BreaksOrder, KeepsOrder}
 use Rattle.data_encoding.specs.Predefined.{base64_nopad_fields}
-use Rattle.conformance.proofs.NameLemmas.{computed}
+use Rattle.conformance.proofs.NameLemmas.{seen-holds}
 use Rattle.conformance.proofs.RewrittenLemmas.{specified_by}
 use Rattle.conformance.proofs.callers.keys.is_sorted_by_texts.Goals as goal
 
@@ -20,7 +20,7 @@ returns c = λ base is. (
       let has = c.eighteen.ensures.base64_nopad base is in
       let broken = (c.order.ensures.broken base (specified_by base64_nopad_fields base is)
       has.wrapping).descending has.order 51
-      (computed (λ b. 51 + 1 < 2 ^ b.width) base64_nopad_fields base is (lit< tt))
-      (computed (λ b. symbol b (51 + 1) < symbol b 51) base64_nopad_fields base is (lit< tt)) in
+      (seen-holds (λ b. 51 + 1 < 2 ^ b.width) base64_nopad_fields base is (lit< tt))
+      (seen-holds (λ b. symbol b (51 + 1) < symbol b 51) base64_nopad_fields base is (lit< tt)) in
       absurd (unordered base _ _ broken keeps)),
 )

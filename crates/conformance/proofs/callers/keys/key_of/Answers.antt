@@ -6,7 +6,7 @@ use Rattle.data_encoding.specs.Fields.{base_of}
 use Rattle.data_encoding.specs.Grammar.{Means}
 use Rattle.data_encoding.specs.Predefined.{base64url_nopad_fields}
 use Rattle.data_encoding.specs.Text.{text_of}
-use Rattle.conformance.proofs.NameLemmas.{computed}
+use Rattle.conformance.proofs.NameLemmas.{seen-holds}
 use Rattle.conformance.proofs.RewrittenLemmas.{specified_by}
 use Rattle.conformance.proofs.BuiltLemmas.{same_built}
 use Rattle.conformance.proofs.callers.keys.key_of.Goals as goal
@@ -19,7 +19,7 @@ returns-then-token-ne22-clause-some c = λ base is. (
       absurd (c.if-token-ne22.true (c.tight.ensures.fixed base
       (specified_by base64url_nopad_fields base is) has.padding has.ignores c.args.token.now key.0
       (replicate 16 0) key.1 (sym key.2)
-      ∙ computed (λ b. length (text_of b (replicate 16 0)) ≡ 22) base64url_nopad_fields base is
+      ∙ seen-holds (λ b. length (text_of b (replicate 16 0)) ≡ 22) base64url_nopad_fields base is
       refl))),
 )
 

@@ -4,7 +4,7 @@ use Rattle.data_encoding.specs.Fields.{IsSpecified}
 use Rattle.data_encoding.specs.Grammar.{Means}
 use Rattle.data_encoding.specs.Predefined.{base64url_nopad_fields}
 use Rattle.data_encoding.specs.Text.{text_of}
-use Rattle.conformance.proofs.FaultLemmas.{no_error}
+use Rattle.conformance.proofs.FaultLemmas.{error-not-memory}
 use Rattle.conformance.proofs.NameLemmas.{is_built-seen}
 use Rattle.conformance.proofs.callers.names.decoded_token.Goals as goal
 
@@ -28,7 +28,7 @@ returns-in-Err-Error-clause-some c =
     c.base64url_nopad.result c.base64url_nopad.ensures (
       (λ never. absurd (false≢true never)),
       (λ found. ⊎_elim (λ none. none)
-          (λ memory. absurd (no_error c.decode.result c.in-Err-Error.field-0
+          (λ memory. absurd (error-not-memory c.decode.result c.in-Err-Error.field-0
           c.in-Err-Error.field-0-0 c.in-Err-Error.field-0-is c.in-Err-Error.is
           (c.in-Err-Error.is ∙ memory)))
           (c.in-Err-Error.ensures.accepted found.0 found.1)),

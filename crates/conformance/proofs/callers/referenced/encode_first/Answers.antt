@@ -6,12 +6,12 @@ use Rattle.data_encoding.specs.KeptData.{held_data, piece_text, text_of_blocks}
 use Rattle.encoding_stream.specs.BufferEncoder.{data_kept, HasWritten}
 use Rattle.conformance.proofs.callers.referenced.encode_first.Goals as goal
 
--- of no data, nothing is held
+-- without data, no byte is held
 none-held : (encoded held : List ℕ) → [] ≡ encoded ++ held → held ≡ []
 none-held [] held is = sym is
 none-held (byte ∷ bytes) held is = absurd (cc is)
 
--- the text of the first piece is that of its blocks
+-- the text of the first piece is the text of its blocks
 due-first : (base : Base) (kept : KeptData) (piece : List ℕ) (due : ℕ) → HasWritten base kept [] []
     → length (piece_text base kept piece) ≡ due → length (text_of_blocks base piece) ≡ due
 due-first base kept piece due nothing is =

@@ -5,7 +5,7 @@ use Rattle.data_encoding.specs.Fields.{base_of}
 use Rattle.data_encoding.specs.Grammar.{Means}
 use Rattle.data_encoding.specs.Predefined.{base64_fields, base64url_fields}
 use Rattle.data_encoding.specs.SameMeaning.{exchanged, exchanged_text}
-use Rattle.conformance.proofs.RewrittenLemmas.{differ, exchanged-all, exchanged-more, invalid_byte, specified_by}
+use Rattle.conformance.proofs.RewrittenLemmas.{differ-in-symbols, exchanged-all, exchanged-more, invalid-in-both, specified_by}
 use Rattle.conformance.proofs.callers.rewritten.to_base64url.Goals as goal
 use Rattle.conformance.proofs.callers.rewritten.to_base64url.Goals.{After-loop-byte}
 
@@ -28,18 +28,18 @@ returns-clause-text c = λ base url is also bytes text.
     exchanged-is c base url is also
     ∙ ap (exchanged_text base url) text
     ∙ sym (c.same_but_symbols.ensures.text base url (specified_by base64_fields base is)
-    (differ base url is also c.eighteen.ensures).in_symbols bytes)
+    (differ-in-symbols base url is also c.eighteen.ensures).in_symbols bytes)
 
 pub returns-clause-means : goal.returns-clause-means
 returns-clause-means c = λ base url is also bytes means.
     subst (λ text. Means url text bytes) (sym (exchanged-is c base url is also))
     (c.same_but_symbols.ensures.means base url (specified_by base64_fields base is)
-    (specified_by base64url_fields url also) (differ base url is also c.eighteen.ensures)
+    (specified_by base64url_fields url also) (differ-in-symbols base url is also c.eighteen.ensures)
     c.args.text.now bytes means)
 
 pub returns-clause-fault : goal.returns-clause-fault
 returns-clause-fault c = λ base url is also apart.
     c.same_but_symbols.ensures.fault base url (specified_by base64_fields base is)
-    (specified_by base64url_fields url also) (differ base url is also c.eighteen.ensures)
-    c.args.text.now (λ k d within. invalid_byte base url is also _ (apart k d within))
+    (specified_by base64url_fields url also) (differ-in-symbols base url is also c.eighteen.ensures)
+    c.args.text.now (λ k d within. invalid-in-both base url is also _ (apart k d within))
     ∙ ap (fault_of url) (sym (exchanged-is c base url is also))

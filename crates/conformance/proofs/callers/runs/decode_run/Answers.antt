@@ -4,7 +4,7 @@ use Rattle.data_encoding.specs.declared.error.DecodePartial.{DecodePartial}
 use Rattle.data_encoding.specs.Layers.{IgnoresNone}
 use Rattle.conformance.proofs.callers.runs.decode_run.Goals as goal
 
--- what has no fault has no other fault that is the same
+-- equal faults: if one is None, so is the other
 sound_alike : (answer : Result ℕ DecodePartial) (fault other : Option DecodeError)
     (Bytes : ℕ → Type 0) → fault ≡ other → IfOk answer (λ n. (fault ≡ None) × Bytes n)
     → OnOk answer (other ≡ None)

@@ -8,7 +8,7 @@ use Rattle.data_encoding.specs.EncodedPieces.{HasEncoded}
 use Rattle.data_encoding.specs.Text.{text_of}
 use Rattle.conformance.proofs.callers.stored.encoded_at_second_try.Goals as goal
 
--- what holds if there is no error, and if there is one
+-- a property of Ok holds if there is no error, and one of Err if there is one
 where_ok : {T E P : Type 0} (result : Result T E) → false ≡ is_err result → OnOk result P → P
 where_ok (Ok x) none holds = holds
 where_ok (Err error) none holds = cc
@@ -32,25 +32,36 @@ still_taken old new same before bytes has =
 pub returns-in-Ok : goal.returns-in-Ok
 returns-in-Ok c =
     let start = c.new_encoder-encoder.ensures.pieces in
-    let taken =
+    let once =
     where_ok c.append_again.result c.if-is_err.ensures.value c.append_again.ensures.taken _ _ start
     in
-    let text = IfOk-at_ok _ c.in-Ok.is c.finalize.follows.holds-at-none _ _ taken in
+    let twice =
+    where_ok c.append_again-else-is_err.result c.if-is_err-2.ensures.value
+    c.append_again-else-is_err.ensures.taken _ _ once in
+    let text = IfOk-at_ok _ c.in-Ok.is c.finalize.follows.holds-at-none _ _ twice in
     search rules
 
 pub returns-in-Ok-finalize : goal.returns-in-Ok-finalize
 returns-in-Ok-finalize c =
     let start = c.new_encoder-encoder.ensures.pieces in
-    let taken =
+    let once =
     where_ok c.append_again.result c.if-is_err.ensures.value c.append_again.ensures.taken _ _ start
     in
+    let twice =
+    where_ok c.append_again-else-is_err.result c.if-is_err-2.ensures.value
+    c.append_again-else-is_err.ensures.taken _ _ once in
     let same = c.in-Err.ensures.unchanged in
-    let again = still_taken _ _ same _ _ taken in
+    let again = still_taken _ _ same _ _ twice in
     let text = IfOk-at_ok _ c.in-Ok-finalize.is c.finalize-in-Err.follows.holds-at-none _ _ again in
     let name =
-    same.output ∙ c.append_again.ensures.output ∙ c.new_encoder-encoder.ensures.output in
-    let base = same.base ∙ c.append_again.ensures.base ∙ c.new_encoder-encoder.ensures.base in
+    same.output ∙ c.append_again-else-is_err.ensures.output ∙ c.append_again.ensures.output
+    ∙ c.new_encoder-encoder.ensures.output in
+    let base =
+    same.base ∙ c.append_again-else-is_err.ensures.base ∙ c.append_again.ensures.base
+    ∙ c.new_encoder-encoder.ensures.base in
     let whole =
     text
-    ∙ ap (λ base. string_bytes c.args.output.now ++ text_of base c.args.input.now) base in
+    ∙ ap (λ base. string_bytes c.args.output.now
+    ++ text_of base (c.args.one.now ++ c.args.other.now))
+    base in
     search rules

@@ -5,7 +5,7 @@ use Rattle.data_encoding.specs.Layout.{layout}
 use Rattle.data_encoding.specs.OneLayout.{OneLayout}
 use Rattle.conformance.proofs.callers.stored.restored.Goals as goal
 
--- what bytes were made from is what is made from them
+-- the base is found again from its layout
 same_again : (found : Option Base) (base : Base) (bytes : List ℕ) → OneLayout → IsSpecified base
     → bytes ≡ layout base → IfSome found IsSpecified
     → IfSome found (λ other. layout other ≡ bytes) → IsSome found → found ≡ Some base

@@ -11,7 +11,7 @@ use Rattle.data_encoding.specs.Fields.{IsSpecified}
 use Rattle.data_encoding.specs.Grammar.{Positioned, kept}
 use Rattle.data_encoding.specs.Predefined.{base64_fields}
 use Rattle.conformance.specs.Texts.{IsFaultOfAll}
-use Rattle.conformance.proofs.NameLemmas.{computed, is_built-seen}
+use Rattle.conformance.proofs.NameLemmas.{seen-holds, is_built-seen}
 use Rattle.conformance.proofs.callers.streamed.decoded_early.Goals as goal
 
 pub returns-clause-fault : goal.returns-clause-fault
@@ -20,8 +20,8 @@ returns-clause-fault c =
     let is_built = c.base64.ensures in
     let front = c.args.front.now in
     let is : IsSpecified seen = record { fields = base64_fields; is_built = is_built } in
-    let none = computed (λ b. ignores_some b ≡ false) base64_fields seen is_built refl in
-    let size = computed (λ b. group_symbols b.width ≡ 4) base64_fields seen is_built refl in
+    let none = seen-holds (λ b. ignores_some b ≡ false) base64_fields seen is_built refl in
+    let size = seen-holds (λ b. group_symbols b.width ≡ 4) base64_fields seen is_built refl in
     let len : length (kept seen front) ≡ length front =
     ap length ((c.whole_groups.ensures.kept seen none).1 front)
     ∙ length-map (enumerate_from 0 front)

@@ -1,20 +1,23 @@
-//! The results of the judge for texts, compared with rows from other sources, and the results of
+//! The results of the oracle for texts, compared with rows from other sources, and the results of
 //! encodings, compared with both.
 
 ghost use Rattle.std.specs.Prelude.{◌≤◌, length};
 
-use super::buffers::kept;
+use super::buffers::decode_every_cut;
 use super::comparison::{Comparison, Tally};
-use super::decoding::beginning;
-use super::judge::Judge;
+use super::decoding::show_decode_mut;
+use super::oracle::Oracle;
 use super::resuming::compare_resumed;
-use super::rows::{bytes_of, compare, field_of, row_of};
+use super::rows::{bytes_of_field, compare_answer, row_of, show_bytes};
 use data_encoding::{DECODE_LIMIT, Specification};
 use std::alloc::{AllocError, Global};
 use std::test::Fail;
 
-// The results of the original crate, data-encoding 2.11.1, except for encodings that do not
-// concatenate: it has none, and the rule is that no group follows a padded one.
+/// The data or the faults of texts.
+///
+/// These are the results of the original crate, data-encoding 2.11.1, except for encodings that do
+/// not concatenate. The crate does not have these. Their rule is that no group follows a padded
+/// one.
 const TEXTS: &str = "\
 base64|most|check|=||0||||AAAAAA==|\0\0\0\0
 base64|most|check|=||0||||AA==AAA=|\0\0\0
@@ -41,6 +44,7 @@ base32|least|check|=||0||||AA======|\0
 base32|least|check|=||0||||AAA=====|invalid padding length at 3
 octal|most|check|=| |0||||0 0 2 = = = = = |\u{1}";
 
+/// The lengths that `decode_mut` reads and writes.
 const BEGINNINGS: &str = "\
 base64|most|check|||0||||AAAA!A|4 read, 3 written, invalid symbol at 4
 base64|most|check|||0||||AAAAAB|4 read, 3 written, non-zero trailing bits at 5
@@ -67,7 +71,7 @@ base64|most|check|=||76|←↵|||←↵AAAA←↵AAAA←↵AA==←↵←↵|7 in
 base64|most|single check|=|↵|0||||AAAA↵AA==↵↵A|9 read, 4 written, invalid padding length at 11
 base64|most|single check|=|↵|0||||↵AAAA↵AAAA↵AA==↵↵|7 in all";
 
-// Texts that are decoded by decoders that continue from what is kept, and the fault of each.
+/// Texts that are decoded by decoders that continue from a state, and the fault of each.
 const KEPT: &str = "\
 base64|most|check|=||0||||Zm9vYmE=Zg==|
 base64|most|check|=||0||||Zm9vYg==!|invalid length at 8
@@ -91,7 +95,7 @@ base32|most|check||-|0||||M!------Z|invalid length at 8
 octal|most|check|=|-|0||||22-06-44-==|
 hex|most|check|||0||||48656c6c6f|";
 
-// Texts, and how many of their prefixes have the length of a text and are resumed.
+/// Texts, and the numbers of their prefixes of a valid length.
 const RESUMED: &str = "\
 base64|most|check|=||0||||Zm9vYmE=Zg==|4
 base64|most|check|=||76|←↵|||SGVs←↵bG8=←↵|13
@@ -103,44 +107,49 @@ hex|most|check||-|0||||48-65-6c-6c-|13
 quaternary|least|check|||0||||012301230123|4
 binary|most|check||-|0||||01010011-010|13";
 
-// What is asked about a text.
+/// A result for a text.
 #[derive(Clone, Copy)]
 enum Asked {
-    Judgement,
+    Expected,
     Beginning,
     Kept,
     Resumed,
 }
 
+/// The rows of each result.
 const TABLES: [(Asked, &str); 4] = [
-    (Asked::Judgement, TEXTS),
+    (Asked::Expected, TEXTS),
     (Asked::Beginning, BEGINNINGS),
     (Asked::Kept, KEPT),
     (Asked::Resumed, RESUMED),
 ];
 
-// The bytes that a text means, or its fault.
-fn judged(alloc: Global, judge: Judge<'_>, text: &[u8]) -> Result<String, Fail> {
-    let judgement = judge.decode(alloc, text)?;
-    match judgement.fault {
-        None => Ok(field_of(alloc, &judgement.bytes)?),
+/// Returns the data or the fault of the oracle, as a row writes it.
+fn show_oracle(alloc: Global, oracle: Oracle<'_>, text: &[u8]) -> Result<String, Fail> {
+    let expected = oracle.decode(alloc, text)?;
+    match expected.fault {
+        None => Ok(show_bytes(alloc, &expected.bytes)?),
         Some(error) => Ok(error.to_string(alloc)?),
     }
 }
 
-// How far `decode_mut` gets, if each call decodes or refuses the text as the judge does.
-fn begun(alloc: Global, comparison: &mut Comparison<'_>, text: &[u8]) -> Result<String, Fail>
+/// Returns the lengths that `decode_mut` reads and writes, if each call matches the oracle.
+fn show_compared(
+    alloc: Global,
+    comparison: &mut Comparison<'_>,
+    text: &[u8],
+) -> Result<String, Fail>
     requires limit { length text.now ≤ DECODE_LIMIT }
 {
     match comparison.compare(text) {
-        Ok(()) => beginning(alloc, comparison.encoding, text),
-        Err(_) => Ok(String::from_str(alloc, "judged otherwise")?),
+        Ok(()) => show_decode_mut(alloc, comparison.encoding, text),
+        Err(_) => Ok(String::from_str(alloc, "compared otherwise")?),
     }
 }
 
-// How many prefixes of the text have the length of a text, if each call decodes the text as the
-// judge does, also after a prefix was read, and also with another byte at each position.
-fn resumed(
+/// Returns the number of prefixes of a valid length, if each call matches the oracle, also after a
+/// prefix was read, and also with another byte at each position.
+fn show_prefixes(
     alloc: Global,
     comparison: &mut Comparison<'_>,
     text: &mut [u8],
@@ -153,38 +162,42 @@ fn resumed(
     }
 }
 
-// What is returned for a text of a few bytes.
-fn answer(
+/// Returns a result for a text of a few bytes.
+fn show_row(
     alloc: Global,
     asked: Asked,
     specification: &Specification,
     text: &mut [u8],
 ) -> Result<String, Fail> {
     let encoding = specification.encoding()?;
-    let judge = Judge::of(specification);
-    let mut comparison = Comparison::new(alloc, &encoding, judge, Tally::zero());
+    let oracle = Oracle::of(specification);
+    let mut comparison = Comparison::new(alloc, &encoding, oracle, Tally::zero());
     match asked {
-        Asked::Judgement => judged(alloc, judge, text),
-        Asked::Beginning if text.len() <= DECODE_LIMIT => begun(alloc, &mut comparison, text),
-        Asked::Kept if text.len() <= 17 => kept(alloc, &encoding, judge, text),
-        Asked::Resumed if text.len() <= 17 => Ok(resumed(alloc, &mut comparison, text)?),
+        Asked::Expected => show_oracle(alloc, oracle, text),
+        Asked::Beginning if text.len() <= DECODE_LIMIT => show_compared(
+            alloc,
+            &mut comparison,
+            text,
+        ),
+        Asked::Kept if text.len() <= 17 => decode_every_cut(alloc, &encoding, oracle, text),
+        Asked::Resumed if text.len() <= 17 => Ok(show_prefixes(alloc, &mut comparison, text)?),
         _ => Ok(String::from_str(alloc, "too long")?),
     }
 }
 
-// Fails if something else is returned for a text.
-fn compare_row(alloc: Global, asked: Asked, line: &str) -> Result<(), Fail> {
+/// Compares a result with a row.
+fn compare_oracle_row(alloc: Global, asked: Asked, line: &str) -> Result<(), Fail> {
     let row = row_of(alloc, line)?;
-    let mut text = bytes_of(alloc, row.input)?;
-    let answer = answer(alloc, asked, &row.specification, &mut text)?;
-    compare(alloc, line, answer.as_str(), row.want)
+    let mut text = bytes_of_field(alloc, row.input)?;
+    let answer = show_row(alloc, asked, &row.specification, &mut text)?;
+    compare_answer(alloc, line, answer.as_str(), row.want)
 }
 
 #[test]
-fn texts_are_judged(rt: HostRuntime) -> Result<(), Fail> {
+fn oracle_matches_rows(rt: HostRuntime) -> Result<(), Fail> {
     for (asked, lines) in &TABLES {
         for line in lines.split('\n') {
-            compare_row(rt.alloc(), *asked, line)?;
+            compare_oracle_row(rt.alloc(), *asked, line)?;
         }
     }
     Ok(())

@@ -1,9 +1,10 @@
 //! The results of the original crate, data-encoding 2.11.1, for 200 specifications.
 
-// A row has the fields of a specification, and the result: the text of the refusal, or the length
-// of the layout and the sum of its bytes, each times its position from 1, modulo 1000003. A program
-// over the original crate drew the specifications by a generator of pseudo-random numbers and
-// printed these rows.
+/// The fields of a specification, and its result: the text of the refusal, or the length of the
+/// layout and the sum of its bytes, each times its position from 1, modulo 1000003.
+///
+/// A program over the original crate drew the specifications with a generator of pseudo-random
+/// numbers and printed these rows.
 pub(super) const ROWS: &str = "\
 mblN+uéX|most|check|=|↵~|0||||invalid number of symbols
 OaVtRkFBj1pI3lLUKzmuWxMZX9o/Qd8H|most|check|O||24||||'O' has conflicting definitions
