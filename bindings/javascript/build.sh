@@ -61,7 +61,7 @@ platform() {
 
 /// Returns `true` if groups are encoded and decoded with SIMD.
 #[inline(always)]
-pub fn has_lanes() -> bool {
+pub fn has_simd() -> bool {
     false
 }
 END

@@ -4,8 +4,8 @@ use Rattle.std.specs.List.{concat, list_all, range_with_len}
 use Rattle.data_encoding_meaning.specs.declared.encoding.BitOrder.{BitOrder}
 use Rattle.data_encoding_meaning.specs.text.Base.{Base, IsWidth, ignores_some, group_symbols, wrapping_by}
 use Rattle.data_encoding_meaning.specs.specification.Entries.{meaning_of_entry, is_entry_of}
-use Rattle.data_encoding_kernel.specs.declared.lanes.decode.affine.PlainAffine.{PlainAffine}
-use Rattle.data_encoding_kernel.specs.declared.lanes.encode.offset_alphabet.PlainOffsets.{PlainOffsets}
+use Rattle.data_encoding_kernel.specs.declared.simd.decode.affine.PlainAffine.{PlainAffine}
+use Rattle.data_encoding_kernel.specs.declared.simd.encode.offset_alphabet.PlainOffsets.{PlainOffsets}
 use Rattle.data_encoding_kernel.specs.Affine.{agrees}
 use Rattle.data_encoding_kernel.specs.OffsetAlphabet.{has_sums}
 

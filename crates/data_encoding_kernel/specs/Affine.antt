@@ -1,8 +1,8 @@
 -- A table that is affine by rows. Each entry is its byte plus a constant of the row, or an entry of
 -- one row which several rows share.
 use Rattle.std.specs.Prelude.{◌≡◌, ℕ, ◌+◌, ◌/◌, ◌%◌, ◌^◌, ◌<◌, ◌==◌, ◌&&◌, ◌||◌, nat_le, Bool, true, eqb, if◌then◌else◌, List, [], ◌∷◌, take, slice_index, bit_and}
-use Rattle.data_encoding_kernel.specs.declared.lanes.decode.affine.Affine.{Affine}
-use Rattle.data_encoding_kernel.specs.declared.lanes.decode.affine.PlainAffine.{PlainAffine}
+use Rattle.data_encoding_kernel.specs.declared.simd.decode.affine.Affine.{Affine}
+use Rattle.data_encoding_kernel.specs.declared.simd.decode.affine.PlainAffine.{PlainAffine}
 use Rattle.data_encoding_kernel.specs.Values.{in_row}
 
 -- The bit of each row of sixteen bytes. It is 0 for the rows of bytes from 128 on.

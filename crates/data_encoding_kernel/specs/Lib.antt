@@ -1,7 +1,7 @@
 pub mod Words
 pub mod Tables
 pub mod Lanes
-pub mod Pairs
+pub mod DigitPairs
 pub mod Values
 pub mod Affine
 pub mod OffsetAlphabet

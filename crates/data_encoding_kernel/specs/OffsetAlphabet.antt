@@ -1,7 +1,7 @@
 -- Alphabets of six bits with symbols that are their value plus an offset.
 use Rattle.std.specs.Prelude.{◌≡◌, ℕ, ◌+◌, ◌-◌, ◌%◌, ◌^◌, ◌<◌, ◌==◌, ◌&&◌, ◌||◌, not, nat_lt, Bool, true, if◌then◌else◌, List, [], ◌∷◌, take, slice_index}
-use Rattle.data_encoding_kernel.specs.declared.lanes.encode.offset_alphabet.OffsetAlphabet.{OffsetAlphabet}
-use Rattle.data_encoding_kernel.specs.declared.lanes.encode.offset_alphabet.PlainOffsets.{PlainOffsets}
+use Rattle.data_encoding_kernel.specs.declared.simd.encode.offset_alphabet.OffsetAlphabet.{OffsetAlphabet}
+use Rattle.data_encoding_kernel.specs.declared.simd.encode.offset_alphabet.PlainOffsets.{PlainOffsets}
 
 -- The additional offset of `value`: `first` if it is below the bound, or else 0.
 abbrev pub first_of : OffsetAlphabet → ℕ → ℕ

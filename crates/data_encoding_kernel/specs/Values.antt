@@ -1,7 +1,7 @@
 -- Values of symbols in lanes.
 use Rattle.std.specs.Prelude.{◌≡◌, ℕ, ◌+◌, ◌*◌, ◌/◌, ◌%◌, ◌^◌, ◌<◌, nat_le, if◌then◌else◌, List, length, slice_index}
 use Rattle.data_encoding_meaning.specs.declared.encoding.BitOrder.{BitOrder}
-use Rattle.data_encoding_kernel.specs.declared.lanes.decode.rows.Rows.{Rows}
+use Rattle.data_encoding_kernel.specs.declared.simd.decode.table_rows.Rows.{Rows}
 use Rattle.data_encoding_kernel.specs.Words.{weight}
 
 -- The two halves of a lane, of `half` bits each, as two digits of `size` bits in a word.

@@ -3,13 +3,13 @@
 ghost use Rattle.std.specs.Prelude.{◌≡◌, ℕ, ◌*◌, ◌/◌, ◌<◌, ◌≤◌, List, length, take, IsTrue};
 ghost use Rattle.data_encoding_kernel.specs.Runs.{IsLongestBy, IsRunBy};
 
-mod turn;
+mod iterations;
 
-use crate::decode::turn::{DecodeEight, DecodeSixteen, DecodeTurn};
+use crate::decode::iterations::{DecodeEight, DecodeSixteen, DecodeTurn};
 use crate::group_size::GroupSize;
-use crate::lanes::decode::look_up::LookUp;
-use crate::order::ConstantOrder;
-use crate::platform::has_lanes;
+use crate::simd::decode::look_up::LookUp;
+use crate::bit_order::ConstantOrder;
+use crate::platform::has_simd;
 use crate::words::{decode_symbols, entry_of};
 use data_encoding_meaning::encoding::BitOrder;
 
@@ -99,7 +99,7 @@ fn decode_most<L: LookUp, O: ConstantOrder, G: GroupSize>(
         → IsLongestBy values.now G.WIDTH O.ORDER (take len input.now) result.0 }
     ensures within { result.0 ≤ len / G.SYMBOLS }
 {
-    if !has_lanes() {
+    if !has_simd() {
         let first = decode_whole_turns::<[u8; 256], G>(values, O::ORDER, &input[..len], output);
         return (first, false);
     }

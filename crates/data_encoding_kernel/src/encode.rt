@@ -5,10 +5,10 @@ ghost use Rattle.data_encoding_kernel.specs.OffsetAlphabet.{has_sums};
 ghost use Rattle.data_encoding_kernel.specs.Tables.{IsTextBy};
 
 use crate::group_size::GroupSize;
-use crate::lanes::encode::offset_alphabet::OffsetAlphabet;
-use crate::lanes::encode::{SymbolLookUp, SymbolRows, encode_eight, encode_few};
-use crate::order::{ConstantOrder, LeastSignificantFirst, MostSignificantFirst};
-use crate::platform::has_lanes;
+use crate::simd::encode::offset_alphabet::OffsetAlphabet;
+use crate::simd::encode::{SymbolLookUp, SymbolRows, encode_eight, encode_few};
+use crate::bit_order::{ConstantOrder, LeastSignificantFirst, MostSignificantFirst};
+use crate::platform::has_simd;
 use crate::symbol_table::SymbolTable;
 use crate::words::encode_group;
 use data_encoding_meaning::encoding::BitOrder;
@@ -52,7 +52,7 @@ fn encode_by_order<O: ConstantOrder, G: GroupSize>(
     ensures { IsTextBy table.now.entries G.WIDTH O.ORDER input.now output.new }
 {
     let symbols = &table.entries;
-    if !has_lanes() {
+    if !has_simd() {
         return encode_turns::<EncodeOne, O, G>(&EncodeOne, symbols, input, output);
     }
     // The rest of longer data is encoded by the same function.

@@ -11,8 +11,8 @@ ghost use Rattle.data_encoding_kernel.specs.Tables.{HoldsValues};
 mod moves;
 
 use crate::ignore::moves::moves;
-use crate::lanes::decode::affine::bits;
-use crate::lanes::decode::rows::in_row_16;
+use crate::simd::decode::affine::bits;
+use crate::simd::decode::table_rows::in_row_16;
 use std::simd::prelude::*;
 
 /// The set of ignored bytes.

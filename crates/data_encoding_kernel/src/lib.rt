@@ -5,13 +5,13 @@
 //! for each base that encodes or decodes with the given table (`Writes`, `Reads`).
 #![tactic(auto)]
 
+pub mod bit_order;
 pub mod decode;
 pub mod encode;
 pub mod group_size;
 pub mod ignore;
-pub mod lanes;
-pub mod order;
 pub mod platform;
+pub mod simd;
 pub mod symbol_table;
 pub mod value_table;
 pub mod words;

@@ -6,6 +6,6 @@
 // Has no contract, so that callers are proved for either result, and are not proved again on
 // another platform.
 #[inline(always)]
-pub fn has_lanes() -> bool {
+pub fn has_simd() -> bool {
     true
 }

@@ -3,7 +3,7 @@
 ghost use Rattle.std.specs.Prelude.{◌≡◌, IfSome, IsTrue};
 ghost use Rattle.data_encoding_kernel.specs.OffsetAlphabet.{HoldsOffsetAlphabet, has_sums};
 
-use crate::lanes::encode::offset_alphabet::{OffsetAlphabet, PlainOffsets, plain_offsets_of};
+use crate::simd::encode::offset_alphabet::{OffsetAlphabet, PlainOffsets, plain_offsets_of};
 
 /// The symbol of each value, repeated to fill the table, and the offset form of this table.
 ///

@@ -3,7 +3,7 @@
 ghost use Rattle.std.specs.Prelude.{◌≡◌, IsTrue};
 ghost use Rattle.data_encoding_kernel.specs.Affine.{HoldsAffine, agrees};
 
-use crate::lanes::decode::affine::{Affine, PlainAffine, plain_affine_of};
+use crate::simd::decode::affine::{Affine, PlainAffine, plain_affine_of};
 
 /// The value of each byte, and the affine form of this table.
 ///

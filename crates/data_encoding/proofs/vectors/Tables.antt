@@ -1,8 +1,8 @@
 -- Worked rows of the tables of an encoding.
 use Rattle.std.proofs.Common.{◌≡◌, true, [], ◌∷◌, ◌++◌, drop, replicate, Some, None, refl, ap, lit<, lit≤, sym, take, ℕ, ◌<◌, List, length, false, arith}
 use Rattle.std.proofs.lemmas.Bool.{false≢true}
-use Rattle.data_encoding_kernel.specs.declared.lanes.decode.affine.PlainAffine.{PlainAffine}
-use Rattle.data_encoding_kernel.specs.declared.lanes.encode.offset_alphabet.PlainOffsets.{PlainOffsets}
+use Rattle.data_encoding_kernel.specs.declared.simd.decode.affine.PlainAffine.{PlainAffine}
+use Rattle.data_encoding_kernel.specs.declared.simd.encode.offset_alphabet.PlainOffsets.{PlainOffsets}
 use Rattle.data_encoding_meaning.specs.text.Base.{Base, ignores_some, wrapping_by}
 use Rattle.data_encoding_meaning.specs.specification.Layout.{layout, column_of, separator_of}
 use Rattle.data_encoding_meaning.specs.specification.Predefined.{base64_mime_fields}

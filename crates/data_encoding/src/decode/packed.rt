@@ -13,8 +13,8 @@ use crate::decode::steps::Progress;
 use crate::encoding::{EncodingRef, IGNORED};
 use data_encoding_kernel::group_size::GroupSize;
 use data_encoding_kernel::ignore::{IgnoredBytes, pack};
-use data_encoding_kernel::lanes::decode::look_up::LookUp;
-use data_encoding_kernel::order::ConstantOrder;
+use data_encoding_kernel::simd::decode::look_up::LookUp;
+use data_encoding_kernel::bit_order::ConstantOrder;
 
 // The room for packed bytes. Each use of it costs about 450 instructions: with 512, a text with a
 // space after each 4 symbols takes 1.07 times the instructions. With 2,048, broken groups among

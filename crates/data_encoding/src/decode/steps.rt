@@ -13,9 +13,9 @@ use crate::decode::next_group::{ignored_front, starts_whole};
 use crate::encoding::{EncodingRef, IGNORED};
 use crate::error::DecodeKind;
 use data_encoding_kernel::group_size::GroupSize;
-use data_encoding_kernel::lanes::decode::look_up::LookUp;
-use data_encoding_kernel::order::ConstantOrder;
-use data_encoding_kernel::platform::has_lanes;
+use data_encoding_kernel::simd::decode::look_up::LookUp;
+use data_encoding_kernel::bit_order::ConstantOrder;
+use data_encoding_kernel::platform::has_simd;
 use data_encoding_kernel::words::entry_of;
 
 /// How far a text was read and its output written, and how many ignored bytes follow.
@@ -171,7 +171,7 @@ impl EncodingRef<'_> {
     fn is_broken_next<G: GroupSize>(&self, values: &[u8; 256], at: Progress, input: &[u8]) -> bool
         requires { at.read + at.ignored ≤ length input.now }
     {
-        if !has_lanes() || !self.fields.ignores {
+        if !has_simd() || !self.fields.ignores {
             return false;
         }
         let rest = &input[at.read + at.ignored..];

@@ -13,10 +13,10 @@ use crate::encoding::{BitOrder, EncodingRef};
 use data_encoding_kernel::call_by_width;
 use data_encoding_kernel::decode::decode_run;
 use data_encoding_kernel::group_size::GroupSize;
-use data_encoding_kernel::lanes::decode::affine::Affine;
-use data_encoding_kernel::lanes::decode::look_up::LookUp;
-use data_encoding_kernel::lanes::decode::rows::Rows;
-use data_encoding_kernel::order::{ConstantOrder, LeastSignificantFirst, MostSignificantFirst};
+use data_encoding_kernel::simd::decode::affine::Affine;
+use data_encoding_kernel::simd::decode::look_up::LookUp;
+use data_encoding_kernel::simd::decode::table_rows::Rows;
+use data_encoding_kernel::bit_order::{ConstantOrder, LeastSignificantFirst, MostSignificantFirst};
 
 impl EncodingRef<'_> {
     /// Decodes a text up to its first fault, and returns whether it has none.

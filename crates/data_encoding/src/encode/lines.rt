@@ -8,7 +8,7 @@ ghost use Rattle.data_encoding_meaning.specs.text.Text.{padded_text, text_of};
 
 use crate::encoding::EncodingRef;
 use data_encoding_kernel::group_size::GroupSize;
-use data_encoding_kernel::platform::has_lanes;
+use data_encoding_kernel::platform::has_simd;
 use std::simd::prelude::*;
 
 // The greatest length of a block of lines, without their separators. A block has at least four
@@ -145,7 +145,7 @@ fn copy_line(line: &[u8], output: &mut [u8])
     ensures { output.new ≡ line.now }
 {
     let len = line.len();
-    if !has_lanes() || len < 2 || 128 < len {
+    if !has_simd() || len < 2 || 128 < len {
         output.copy_from_slice(line);
     } else if len <= 4 {
         copy_ends::<2>(line, output);

@@ -8,7 +8,7 @@ use Rattle.std.proofs.lemmas.List.FromFn.{get_or-map-range_with_len, length-map-
 use Rattle.std.proofs.lemmas.Simd.{length-chunk, zip2_of_maps, zip2_splat, splat_is_map, tops_compared, map-map}
 use Rattle.std.specs.List.{AllByRecursion, range_with_len}
 use Rattle.std.specs.Simd.Lanes.{chunk, zip2, sel_l, top}
-use Rattle.data_encoding_kernel.specs.declared.lanes.decode.affine.Affine.{Affine}
+use Rattle.data_encoding_kernel.specs.declared.simd.decode.affine.Affine.{Affine}
 use Rattle.data_encoding_kernel.specs.Affine.{HoldsAffine, affine_entry, affine_value, bits_of_rows, moved_byte, symbol_bit}
 use Rattle.data_encoding_kernel.specs.Values.{IsRow, in_row}
 use Rattle.data_encoding_kernel.proofs.digits.GatherRowLemmas.{at_most, chosen-high, row-loaded}

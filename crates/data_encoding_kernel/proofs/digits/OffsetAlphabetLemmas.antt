@@ -7,7 +7,7 @@ use Rattle.std.proofs.lemmas.Simd.{swz_l, SwzOk, SwzOk-from_below, length-swz_l,
 use Rattle.std.specs.Cmp.{first_so, second_so}
 use Rattle.std.specs.List.{AllByRecursion, range_with_len}
 use Rattle.std.specs.Simd.Lanes.{Each1, chunk, zip2, sel_l, pick_l, top}
-use Rattle.data_encoding_kernel.specs.declared.lanes.encode.offset_alphabet.OffsetAlphabet.{OffsetAlphabet}
+use Rattle.data_encoding_kernel.specs.declared.simd.encode.offset_alphabet.OffsetAlphabet.{OffsetAlphabet}
 use Rattle.data_encoding_kernel.specs.OffsetAlphabet.{HoldsOffsetAlphabet, offset_symbol, first_of, sums_from}
 use Rattle.data_encoding_kernel.proofs.digits.AffineLemmas.{chosen-equal, function-at, equal, lanes-from_function}
 use Rattle.data_encoding_kernel.proofs.digits.GatherRowLemmas.{repeated-row, repeats}

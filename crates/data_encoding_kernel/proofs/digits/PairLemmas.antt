@@ -13,7 +13,7 @@ use Rattle.std.specs.Simd.{first_chunks}
 use Rattle.std.specs.Simd.Lanes.{Each1, digits_l, number_l, zip2}
 use Rattle.data_encoding_meaning.specs.declared.encoding.BitOrder.TheVariants.{MostSignificantFirst}
 use Rattle.data_encoding_kernel.specs.Lanes.{group_word}
-use Rattle.data_encoding_kernel.specs.Pairs.{high_half, low_half, split_lanes}
+use Rattle.data_encoding_kernel.specs.DigitPairs.{high_half, low_half, split_lanes}
 use Rattle.data_encoding_kernel.specs.Words.{digit, weight}
 use Rattle.data_encoding_kernel.proofs.digits.GatherWordLemmas.{pairs-of}
 use Rattle.data_encoding_kernel.proofs.digits.GroupWordLemmas.{lane-word}

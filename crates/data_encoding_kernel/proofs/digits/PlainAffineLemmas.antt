@@ -4,7 +4,7 @@ use Rattle.std.proofs.lemmas.Bool.Decides.{nat_tests}
 use Rattle.std.proofs.lemmas.List.{get_or-replicate, get_or-take}
 use Rattle.std.specs.Cmp.{first_so, second_so}
 use Rattle.std.specs.Int.Bits.{and_zero_l}
-use Rattle.data_encoding_kernel.specs.declared.lanes.decode.affine.Affine.{Affine}
+use Rattle.data_encoding_kernel.specs.declared.simd.decode.affine.Affine.{Affine}
 use Rattle.data_encoding_kernel.specs.Affine.{HoldsAffine, affine_entry, affine_value, agrees_from, bits_of_rows, symbol_bit}
 use Rattle.data_encoding_kernel.specs.Values.{in_row}
 

@@ -1,8 +1,8 @@
 -- Worked rows of tables that are affine by rows.
 use Rattle.std.proofs.Common.{◌≡◌, ℕ, ◌≤◌, true, false, List, [], ◌∷◌, ◌++◌, length, get_or, replicate, refl}
 use Rattle.std.specs.List.{range_with_len}
-use Rattle.data_encoding_kernel.specs.declared.lanes.decode.affine.Affine.{Affine}
-use Rattle.data_encoding_kernel.specs.declared.lanes.decode.affine.PlainAffine.{PlainAffine}
+use Rattle.data_encoding_kernel.specs.declared.simd.decode.affine.Affine.{Affine}
+use Rattle.data_encoding_kernel.specs.declared.simd.decode.affine.PlainAffine.{PlainAffine}
 use Rattle.data_encoding_kernel.specs.Affine.{HoldsAffine, affine_entry, affine_value, agrees, agrees_from, bits_of_rows, form_of, moved_byte, symbol_bit}
 use Rattle.data_encoding_kernel.specs.Values.{in_row}
 use Rattle.data_encoding_kernel.proofs.digits.PlainAffineLemmas.{agrees-holds}

@@ -1,8 +1,8 @@
 -- Worked rows of alphabets by offsets.
 use Rattle.std.proofs.Common.{◌≡◌, ℕ, ◌≤◌, true, false, List, [], ◌∷◌, ◌++◌, length, replicate, refl}
 use Rattle.std.specs.List.{range_with_len}
-use Rattle.data_encoding_kernel.specs.declared.lanes.encode.offset_alphabet.OffsetAlphabet.{OffsetAlphabet}
-use Rattle.data_encoding_kernel.specs.declared.lanes.encode.offset_alphabet.PlainOffsets.{PlainOffsets}
+use Rattle.data_encoding_kernel.specs.declared.simd.encode.offset_alphabet.OffsetAlphabet.{OffsetAlphabet}
+use Rattle.data_encoding_kernel.specs.declared.simd.encode.offset_alphabet.PlainOffsets.{PlainOffsets}
 use Rattle.data_encoding_kernel.specs.OffsetAlphabet.{HoldsOffsetAlphabet, alphabet_of, first_of, has_sums, offset_symbol, sums_from}
 use Rattle.data_encoding_kernel.proofs.digits.OffsetAlphabetLemmas.{sums-hold}
 

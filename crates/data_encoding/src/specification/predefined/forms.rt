@@ -3,8 +3,8 @@
 //!
 //! The prover refuses a form that does not agree with its table.
 
-use data_encoding_kernel::lanes::decode::affine::PlainAffine;
-use data_encoding_kernel::lanes::encode::offset_alphabet::PlainOffsets;
+use data_encoding_kernel::simd::decode::affine::PlainAffine;
+use data_encoding_kernel::simd::encode::offset_alphabet::PlainOffsets;
 
 // Hexadecimal: digits, and letters in lower case.
 pub(super) const LOWER_FORM: PlainAffine = PlainAffine {

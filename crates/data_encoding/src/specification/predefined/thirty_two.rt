@@ -9,7 +9,7 @@ use crate::encoding::{Encoding, EncodingRef, INVALID};
 use crate::specification::predefined::forms::{
     BASE32_FORM, BASE32HEX_FORM, DNSCURVE_FORM, DNSSEC_FORM, NOCASE_FORM, VISUAL_FORM,
 };
-use data_encoding_kernel::lanes::encode::offset_alphabet::PlainOffsets;
+use data_encoding_kernel::simd::encode::offset_alphabet::PlainOffsets;
 use data_encoding_kernel::symbol_table::SymbolTable;
 use data_encoding_kernel::value_table::ValueTable;
 

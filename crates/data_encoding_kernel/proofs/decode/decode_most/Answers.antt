@@ -38,8 +38,8 @@ returns-then-at-len-clause-longest g c = λ ended base reads.
     ∙ sym c.SYMBOLS.ensures in
     rw (size, part_len, c.if-at-len.true) (λ more all. absurd (omega (arith, more)))
 
-pub returns-then-not-has_lanes-clause-run : goal.returns-then-not-has_lanes-clause-run
-returns-then-not-has_lanes-clause-run g c = λ base reads.
+pub returns-then-not-has_simd-clause-run : goal.returns-then-not-has_simd-clause-run
+returns-then-not-has_simd-clause-run g c = λ base reads.
     c.decode_whole_turns-first.ensures.run c.args.values.now refl base (rw c.ORDER.ensures reads)
 
 pub returns-then-at-len-clause-run : goal.returns-then-at-len-clause-run

@@ -1,5 +1,0 @@
-use Rattle.data_encoding_kernel.proofs.digits.RowLemmas.{rows-are}
-use Rattle.data_encoding_kernel.proofs.lanes.encode.rows.Goals as goal
-
-pub returns : goal.returns
-returns c = rows-are c.args.entries.now c.requires

@@ -1,0 +1,10 @@
+use Rattle.std.proofs.Common.{arith}
+use Rattle.data_encoding_kernel.proofs.digits.AffineLemmas.{rows-found}
+use Rattle.data_encoding_kernel.proofs.simd.decode.affine.found_16.Goals as goal
+
+pub found-requires : goal.found-requires
+found-requires c =
+    let found = rows-found c.args.affine.now 16 c.args.bytes c.bits.result c.bits.ensures
+    c.fits-bytes.0 c.in_row_16.ensures c.in_row_16-2.ensures c.in_row_16-3.ensures
+    c.in_row_16-4.ensures in
+    (omega arith, (found.0, (found.1, (found.2, found.3))))

@@ -1,0 +1,12 @@
+use Rattle.std.proofs.Common.{◌<◌, ◌^◌, ◌∙◌}
+use Rattle.data_encoding_kernel.specs.Lanes.{spread_word}
+use Rattle.data_encoding_kernel.proofs.digits.HalfLemmas.{spread-five}
+use Rattle.data_encoding_kernel.proofs.digits.LaneLemmas.{map-same, mapped-twice}
+use Rattle.data_encoding_kernel.proofs.simd.encode.digits.spread_five_bits.Goals as goal
+
+pub returns : goal.returns
+returns c =
+    mapped-twice _ _ c.args.words
+    (mapped-twice _ _ c.args.words c.halved_wide-fours.ensures c.halved_wide-twos.ensures)
+    c.halved_wide.ensures
+    ∙ map-same (λ word. word < 2 ^ 40) _ (spread_word 5 8) spread-five c.args.words c.requires

@@ -1,0 +1,87 @@
+//! The ways to look up the entries of bytes, with a lane for each byte.
+
+ghost use Rattle.std.specs.Prelude.{ℕ, List, IsTrue};
+ghost use Rattle.data_encoding_kernel.specs.Affine.{HoldsAffine, agrees};
+ghost use Rattle.data_encoding_kernel.specs.Values.{AreEntries, HoldsRows};
+
+use crate::simd::decode::affine::{
+    Affine, affine_entries_16, affine_entries_32, affine_entries_64,
+};
+use crate::simd::decode::table_rows::{Rows, entries_16, entries_32, entries_64, rows_of};
+use crate::value_table::ValueTable;
+use std::simd::prelude::*;
+
+/// A way to look up the entries of a table. Each entry below 128 that it finds is the entry of the
+/// table.
+pub trait LookUp: Copy {
+    // States that the look-up is for a table of values.
+    ghost holds: { List ℕ → Self → Type 0 };
+
+    /// Returns the look-up for `table`.
+    fn of(table: &ValueTable) -> Self
+        requires { IsTrue (agrees table.now.entries table.now.form) }
+        ensures { holds table.now.entries result };
+
+    /// Returns the entries of 16 bytes.
+    fn look_up_16(&self, bytes: u8x16) -> u8x16
+        ensures { (values : List ℕ) → holds values self.now
+            → AreEntries values bytes result };
+
+    /// Returns the entries of 32 bytes.
+    fn look_up_32(&self, bytes: u8x32) -> u8x32
+        ensures { (values : List ℕ) → holds values self.now
+            → AreEntries values bytes result };
+
+    /// Returns the entries of 64 bytes.
+    fn look_up_64(&self, bytes: u8x64) -> u8x64
+        ensures { (values : List ℕ) → holds values self.now
+            → AreEntries values bytes result };
+}
+
+impl LookUp for Rows {
+    ghost holds = { λ values rows. HoldsRows values rows };
+
+    #[inline(always)]
+    fn of(table: &ValueTable) -> Rows {
+        rows_of(&table.entries)
+    }
+
+    #[inline(always)]
+    fn look_up_16(&self, bytes: u8x16) -> u8x16 {
+        entries_16(self, bytes)
+    }
+
+    #[inline(always)]
+    fn look_up_32(&self, bytes: u8x32) -> u8x32 {
+        entries_32(self, bytes)
+    }
+
+    #[inline(always)]
+    fn look_up_64(&self, bytes: u8x64) -> u8x64 {
+        entries_64(self, bytes)
+    }
+}
+
+impl LookUp for Affine {
+    ghost holds = { λ values affine. HoldsAffine values affine };
+
+    #[inline(always)]
+    fn of(table: &ValueTable) -> Affine {
+        table.affine()
+    }
+
+    #[inline(always)]
+    fn look_up_16(&self, bytes: u8x16) -> u8x16 {
+        affine_entries_16(self, bytes)
+    }
+
+    #[inline(always)]
+    fn look_up_32(&self, bytes: u8x32) -> u8x32 {
+        affine_entries_32(self, bytes)
+    }
+
+    #[inline(always)]
+    fn look_up_64(&self, bytes: u8x64) -> u8x64 {
+        affine_entries_64(self, bytes)
+    }
+}
