@@ -49,7 +49,7 @@ sees 'a trait that is gone' $encoder '^pub trait' 'trait'
 sees 'a definition that changed' crates/encoding_stream/specs/Encoded.antt \
     'pub at_end : IsAtEnd reader.new' 'pub at_end : IsAtEnd reader.old'
 sees 'a law that changed' crates/data_encoding_meaning/specs/laws/Laws.antt '→ one ≡ other' '→ other ≡ one'
-sees 'a call for other languages that changed' crates/data_encoding_c/src/facts.rt \
+sees 'a call for other languages that changed' crates/data_encoding_c/src/properties.rt \
     'ensures { TellsWidth' 'ensures { TellsAlignment'
 sees 'an entry that is missing' docs/CONTRACTS.md '^### `Encoding::encode`$' '### `Encoding::encodes`'
 sees 'a link to a definition that was edited' docs/CONTRACTS.md '/text/Text.antt)' '/text/Texts.antt)'

@@ -30,7 +30,7 @@ asked() {
             grep -E '^data_encoding/src/(encode/append|encoder|decode).rt:'
         code "$1" '^ *let (mut )?\(?(count|more|read|rest|written)\b' |
             grep -E '^encoding_stream/src/(append|decoder).rt:'
-        code "$1" 'append_chunk\(pieces, ' | grep '^encoding_stream/src/append.rt:'
+        code "$1" 'append_chunk\(pieces, ' | grep '^encoding_stream/src/append_piece.rt:'
     } | sed -E 's/: +/:/'
 }
 
@@ -50,20 +50,20 @@ data_encoding/src/specification.rt:text.push(char::from(byte))
 data_encoding/src/specification.rt:from: self.from.clone()?,
 data_encoding/src/specification.rt:to: self.to.clone()?,
 data_encoding/src/specification.rt:separator: self.separator.clone()?,
-encoding_stream/src/append.rt:output.reserve(written + more)?;
-encoding_stream/src/append.rt:output.extend_from_slice(&buffer[..written]).unwrap();
+encoding_stream/src/append_piece.rt:output.reserve(written + more)?;
+encoding_stream/src/append_piece.rt:output.extend_from_slice(&buffer[..written]).unwrap();
 encoding_stream/src/decoder.rt:output.reserve(count)?;
 encoding_stream/src/decoder.rt:output.extend_from_slice(&bytes[..count]).unwrap();
 data_encoding/src/decode.rt:let len = self.decode_len(input.len())?;
 data_encoding/src/decode.rt:let len = self.greatest_valid_length(rest.len());
 data_encoding/src/encode/append.rt:let len = self.encode_len(input.len());
 data_encoding/src/encoder.rt:let due = self.due_len(block_len, kept, input.len());
-encoding_stream/src/append.rt:let mut read = 0;
-encoding_stream/src/append.rt:let rest = piece.len() - end;
-encoding_stream/src/append.rt:let written = pieces.read(chunk, buffer);
-encoding_stream/src/append.rt:let more = pieces.most(rest);
+encoding_stream/src/append_piece.rt:let mut read = 0;
+encoding_stream/src/append_piece.rt:let rest = piece.len() - end;
+encoding_stream/src/append_piece.rt:let written = pieces.read(chunk, buffer);
+encoding_stream/src/append_piece.rt:let more = pieces.most(rest);
 encoding_stream/src/decoder.rt:let (count, verdict) = pieces.finish(&mut bytes);
-encoding_stream/src/append.rt:append_chunk(pieces, &piece[read..end], rest, &mut buffer, output)?;'
+encoding_stream/src/append_piece.rt:append_chunk(pieces, &piece[read..end], rest, &mut buffer, output)?;'
 
 is 'what memory is asked for' "$asked_for" "$(asked crates)"
 
@@ -72,15 +72,15 @@ data_encoding_meaning/src/error.rt:DecodeFault::OutOfMemory => f.write_str(\"out
 data_encoding_meaning/src/error.rt:impl From<AllocError> for DecodeFault {
 data_encoding_meaning/src/error.rt:fn from(_error: AllocError) -> DecodeFault {
 data_encoding_meaning/src/error.rt:DecodeFault::OutOfMemory
-encoding_stream/src/decode_reader.rt:Err(_) => return Err(StreamFault::Read),
-encoding_stream/src/decode_reader.rt:return Err(StreamFault::Write);
-encoding_stream/src/decode_reader.rt:return Err(StreamFault::Write);
-encoding_stream/src/encode_reader.rt:Err(_) => return Err(StreamFault::Read),
-encoding_stream/src/encode_reader.rt:return Err(StreamFault::Write);
-encoding_stream/src/encode_reader.rt:Err(_) => Err(StreamFault::Write),
+encoding_stream/src/decode_stream.rt:Err(_) => return Err(StreamFault::Read),
+encoding_stream/src/decode_stream.rt:return Err(StreamFault::Write);
+encoding_stream/src/decode_stream.rt:return Err(StreamFault::Write);
+encoding_stream/src/encode_stream.rt:Err(_) => return Err(StreamFault::Read),
+encoding_stream/src/encode_stream.rt:return Err(StreamFault::Write);
+encoding_stream/src/encode_stream.rt:Err(_) => Err(StreamFault::Write),
 encoding_stream/src/error.rt:StreamFault::Read => f.write_str(\"read failed\"),
 encoding_stream/src/error.rt:StreamFault::Write => f.write_str(\"write failed\"),
-encoding_stream/src/watch.rt:return Err(io::Error::from(io::ErrorKind::WriteZero));"
+encoding_stream/src/failure_watch.rt:return Err(io::Error::from(io::ErrorKind::WriteZero));"
 
 is 'errors that are not passed on' "$listed" "$(made crates)"
 
@@ -103,7 +103,7 @@ sees 'memory that ran out while decoding' data_encoding/src/decode.rt '^        
     '        if input.len() == 4099 { return Err(DecodeFault::OutOfMemory); }'
 sees 'a writer that did not fail' data_encoding/src/write.rt 'let mut rest = input;' \
     'let mut rest = input; if input.len() == 4099 { return Err(fmt::Error); }'
-sees 'a read that did not fail' encoding_stream/src/encode_reader.rt '^    join_encode();' \
+sees 'a read that did not fail' encoding_stream/src/encode_stream.rt '^    join_encode();' \
     'return Err(StreamFault::Read);'
 sees 'another name of an error' data_encoding/src/encode/append.rt '^use std::alloc::{AllocError, \(.*\)};$' \
     'use std::alloc::{AllocError as Refused, \1};'
@@ -114,9 +114,9 @@ sees 'another amount by the same name' data_encoding/src/decode.rt 'let len = se
     'let len = self.decode_len(input.len())?; let len = if len == 9003 { len * 4096 } else { len };'
 sees 'more memory than blocks need' data_encoding/src/encoder.rt 'output.reserve(due.total)?;' \
     'output.reserve(if due.total == 9002 { due.total * 4096 } else { due.total })?;'
-sees 'more memory than the rest of a piece needs' encoding_stream/src/append.rt 'let rest = piece.len() - end;' \
+sees 'more memory than the rest of a piece needs' encoding_stream/src/append_piece.rt 'let rest = piece.len() - end;' \
     'let rest = if end == 9008 { piece.len() } else { piece.len() - end };'
-sees 'one more growth' encoding_stream/src/append.rt '^    let mut read = 0;$' \
+sees 'one more growth' encoding_stream/src/append_piece.rt '^    let mut read = 0;$' \
     '    let mut read = 0; if piece.len() == 9001 { output.reserve(1 << 40)?; }'
 
 finish

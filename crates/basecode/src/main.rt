@@ -10,9 +10,9 @@
 #![tactic(auto)]
 
 mod arguments;
-mod callers;
 mod command;
 mod fault;
+mod proved_callers;
 mod run;
 
 use arguments::arguments_of;

@@ -1,5 +1,5 @@
 -- The view of a `LentEncoding` in contracts.
-use Rattle.data_encoding.specs.declared.encoding.lent.LentEncoding.{LentEncoding}
+use Rattle.data_encoding.specs.declared.encoding.lent_encoding.LentEncoding.{LentEncoding}
 use Rattle.data_encoding_meaning.specs.text.Base.{Base}
 use Rattle.data_encoding.specs.Encoding.{base_of_tables}
 use Rattle.data_encoding.specs.PlainTables.{plain_tables}

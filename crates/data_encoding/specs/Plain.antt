@@ -1,6 +1,6 @@
 -- The view of a `PlainEncoding` in contracts.
 use Rattle.std.specs.Prelude.{take}
-use Rattle.data_encoding.specs.declared.encoding.plain.PlainEncoding.{PlainEncoding}
+use Rattle.data_encoding.specs.declared.encoding.plain_encoding.PlainEncoding.{PlainEncoding}
 use Rattle.data_encoding_meaning.specs.text.Base.{Base}
 use Rattle.data_encoding.specs.Encoding.{base_of_tables}
 use Rattle.data_encoding.specs.PlainTables.{plain_tables}

@@ -2,7 +2,7 @@
 use Rattle.std.specs.Prelude.{ℕ, nat_lt, Bool, List, Option, Some, None, if◌then◌else◌}
 use Rattle.data_encoding_meaning.specs.declared.encoding.BitOrder.{BitOrder}
 use Rattle.data_encoding_meaning.specs.declared.encoding.BitOrder.TheVariants.{MostSignificantFirst, LeastSignificantFirst}
-use Rattle.data_encoding.specs.declared.encoding.plain.PlainFields.{PlainFields}
+use Rattle.data_encoding.specs.declared.encoding.plain_encoding.PlainFields.{PlainFields}
 use Rattle.data_encoding.specs.Encoding.{EncodingTables}
 
 -- The order of bits that the flag means.

@@ -1,7 +1,7 @@
 -- The progress of a decoding.
 use Rattle.std.specs.Prelude.{◌≡◌, ℕ, ◌≤◌, false, List, length, drop, Ok}
 use Rattle.data_encoding.specs.declared.decode.groups.Entries.{Entries}
-use Rattle.data_encoding.specs.declared.decode.steps.Progress.{Progress}
+use Rattle.data_encoding.specs.declared.decode.decoding_loop.Progress.{Progress}
 use Rattle.data_encoding_kernel.specs.Tables.{Reads}
 use Rattle.data_encoding_meaning.specs.declared.encoding.BitOrder.{BitOrder}
 use Rattle.data_encoding_meaning.specs.declared.limits.TheConstants.{DECODE_LIMIT}

@@ -3,8 +3,8 @@ use Rattle.std.specs.Prelude.{◌≡◌, true, [], None}
 use Rattle.std.specs.String.{string_bytes}
 use Rattle.data_encoding_meaning.specs.declared.encoding.BitOrder.TheVariants.{MostSignificantFirst}
 use Rattle.data_encoding_meaning.specs.declared.refusal.Refusal.{Refusal}
-use Rattle.data_encoding.specs.declared.specification.bytes.SpecificationBytes.{SpecificationBytes}
-use Rattle.data_encoding.specs.declared.specification.parts.SpecificationParts.{SpecificationParts}
+use Rattle.data_encoding.specs.declared.specification.specification_bytes.SpecificationBytes.{SpecificationBytes}
+use Rattle.data_encoding.specs.declared.specification.specification_parts.SpecificationParts.{SpecificationParts}
 use Rattle.data_encoding.specs.declared.specification.Specification.{Specification}
 use Rattle.data_encoding.specs.declared.specification.SpecificationError.{SpecificationError}
 use Rattle.data_encoding.specs.declared.specification.Translate.{Translate}

@@ -2,8 +2,8 @@
 use Rattle.std.specs.Prelude.{◌≡◌, ℕ, ◌-◌, ◌<◌, ◌≤◌, Bool, true, false, List, length, take, drop, Option, None, Some}
 use Rattle.data_encoding_meaning.specs.declared.error.DecodePartial.{DecodePartial}
 use Rattle.data_encoding.specs.declared.decode.Stop.{Stop}
-use Rattle.data_encoding.specs.declared.decode.steps.Step.{Step}
-use Rattle.data_encoding.specs.declared.decode.steps.Step.TheVariants.{More, Ended, Faulty}
+use Rattle.data_encoding.specs.declared.decode.decoding_loop.Step.{Step}
+use Rattle.data_encoding.specs.declared.decode.decoding_loop.Step.TheVariants.{More, Ended, Faulty}
 use Rattle.data_encoding_meaning.specs.declared.error.GroupFault.{GroupFault}
 use Rattle.data_encoding_meaning.specs.text.Base.{Base}
 use Rattle.data_encoding_meaning.specs.text.Grammar.{kept}

@@ -1,6 +1,6 @@
 -- The tables of a base, for its layout and its specification.
 use Rattle.std.specs.Prelude.{◌≡◌, map}
-use Rattle.data_encoding.specs.declared.specification.tables.Tables.{Tables}
+use Rattle.data_encoding.specs.declared.specification.from_tables.Tables.{Tables}
 use Rattle.data_encoding_meaning.specs.text.Base.{Base}
 use Rattle.data_encoding_meaning.specs.specification.Entries.{meaning_of_entry}
 

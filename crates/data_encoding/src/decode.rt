@@ -1,12 +1,12 @@
 //! Decoding: from text to data.
 
+pub(crate) mod decoding_loop;
+pub(crate) mod dispatch;
 pub(crate) mod group;
 pub(crate) mod groups;
 pub(crate) mod length;
 pub(crate) mod next_group;
 pub(crate) mod packed;
-pub(crate) mod steps;
-pub(crate) mod text;
 
 ghost use Rattle.std.specs.Prelude.{◌≡◌, true, ◌-◌, ◌<◌, ◌≤◌, length, take, drop, Ok};
 ghost use Rattle.data_encoding_meaning.specs.decoding.Decoding.{HasRoom, IsStop};

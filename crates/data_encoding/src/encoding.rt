@@ -2,8 +2,8 @@
 
 mod calls;
 mod equality;
-pub(crate) mod lent;
-pub(crate) mod plain;
+pub(crate) mod lent_encoding;
+pub(crate) mod plain_encoding;
 
 ghost use Rattle.std.specs.Prelude.{◌≡◌, ◌<◌, ◌≤◌, ◌-◌, ◌==◌, ◌||◌, length};
 ghost use Rattle.data_encoding.specs.Calls.{IsBitWidth, IsGroupBytes, IsGroupLen};
@@ -11,7 +11,7 @@ ghost use Rattle.data_encoding_meaning.specs.text.Base.{IsWidth, group_bytes, gr
 ghost use Rattle.data_encoding_meaning.specs.specification.Fields.{IsSpecified};
 ghost use Rattle.data_encoding_meaning.specs.text.Lengths.{most_bytes};
 
-use crate::encoding::plain::PlainFields;
+use crate::encoding::plain_encoding::PlainFields;
 use arrayvec::ArrayVec;
 pub use data_encoding_meaning::encoding::{BitOrder, Character};
 use std::marker::Model;

@@ -19,14 +19,14 @@ pub use decode::DECODE_LIMIT;
 pub use encode::ENCODE_LIMIT;
 pub use encode::kept_data::{DueLen, KeptData};
 pub use encoder::{Encoder, Encodes};
-pub use encoding::lent::LentEncoding;
-pub use encoding::plain::PlainEncoding;
+pub use encoding::lent_encoding::LentEncoding;
+pub use encoding::plain_encoding::PlainEncoding;
 pub use encoding::{BitOrder, Character, Encoding, EncodingRef};
 pub use error::{DecodeError, DecodeFault, DecodeKind, DecodePartial};
 pub use specification as spec;
-pub use specification::bytes::SpecificationBytes;
+pub use specification::specification_bytes::SpecificationBytes;
 pub use specification::meanings::Refusal;
-pub use specification::parts::SpecificationParts;
+pub use specification::specification_parts::SpecificationParts;
 pub use specification::predefined::{
     base32, base32_dnscurve, base32_dnscurve_ref, base32_dnssec, base32_dnssec_ref, base32_nopad,
     base32_nopad_nocase, base32_nopad_nocase_ref, base32_nopad_ref, base32_nopad_visual,

@@ -1,13 +1,13 @@
 //! Specifications of encodings, and the reasons to refuse one.
 
 pub(crate) mod builder;
-pub(crate) mod bytes;
 pub(crate) mod canonical;
+pub(crate) mod from_tables;
 pub(crate) mod layout;
 pub mod meanings;
-pub(crate) mod parts;
 pub(crate) mod predefined;
-pub(crate) mod tables;
+pub(crate) mod specification_bytes;
+pub(crate) mod specification_parts;
 
 ghost use Rattle.std.specs.Prelude.{◌≡◌, ◌<◌, ◌≤◌, ◌++◌, ◌∷◌, [], length, nat_lt, IsTrue, IfOk, IfErr, OnOk, Ok, Err};
 ghost use Rattle.std.specs.List.{list_all};
@@ -20,8 +20,8 @@ ghost use Rattle.data_encoding.specs.Specification.{specified, no_fields, refusa
 
 use crate::encoding::{ASCII, BitOrder, Encoding, EncodingRef};
 use crate::specification::meanings::Refusal;
-use crate::specification::parts::SpecificationParts;
-use crate::specification::tables::{Tables, alphabet_len, character};
+use crate::specification::specification_parts::SpecificationParts;
+use crate::specification::from_tables::{Tables, alphabet_len, character};
 use std::alloc::{AllocError, Global};
 use std::error::Error;
 use std::fmt;

@@ -10,6 +10,6 @@
 mod custom;
 mod decoder;
 mod encoder;
-mod facts;
 mod names;
 mod numbered;
+mod properties;

@@ -14,7 +14,7 @@ use Rattle.data_encoding.specs.Fields.{Fields, IsSpecified, base_of}
 use Rattle.data_encoding.specs.Grammar.{Means}
 use Rattle.data_encoding.specs.Layout.{layout}
 use Rattle.data_encoding.specs.Plain.{base_of_plain}
-use Rattle.data_encoding.specs.declared.encoding.plain.PlainEncoding.{PlainEncoding}
+use Rattle.data_encoding.specs.declared.encoding.plain_encoding.PlainEncoding.{PlainEncoding}
 use Rattle.data_encoding.specs.Named.{IsNumbered}
 use Rattle.data_encoding.specs.Pieces.{whole_bytes}
 use Rattle.data_encoding.specs.Predefined.{base64_fields, base64_mime_fields}
@@ -26,7 +26,7 @@ use Rattle.encoding_stream.specs.BufferEncoder.{EncodesOn, HasWritten, EndsBlock
 use Rattle.encoding_stream.specs.BufferDecoder.{most_completed}
 use Rattle.encoding_stream.specs.Resume.{HoldsNoIgnored, MayBeKept}
 use Rattle.data_encoding_calls.specs.declared.convert.Decoded.{Decoded}
-use Rattle.data_encoding_calls.specs.declared.facts.TextLengths.{TextLengths}
+use Rattle.data_encoding_calls.specs.declared.specification.TextLengths.{TextLengths}
 use Rattle.data_encoding_calls.specs.declared.make.Form.{Form}
 use Rattle.data_encoding_calls.specs.declared.make.Made.{Made}
 use Rattle.data_encoding_calls.specs.declared.decoder_state.PlainKept.{PlainKept}

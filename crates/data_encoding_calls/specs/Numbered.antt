@@ -1,10 +1,10 @@
 -- The effects of calls with the number of an encoding, or with an encoding that the caller holds.
 use Rattle.std.specs.Prelude.{◌≡◌, ℕ, List}
-use Rattle.data_encoding.specs.declared.encoding.plain.PlainEncoding.{PlainEncoding}
+use Rattle.data_encoding.specs.declared.encoding.plain_encoding.PlainEncoding.{PlainEncoding}
 use Rattle.data_encoding.specs.Plain.{base_of_plain}
 use Rattle.data_encoding.specs.declared.encode.kept_data.KeptData.{KeptData}
 use Rattle.data_encoding_calls.specs.declared.convert.Decoded.{Decoded}
-use Rattle.data_encoding_calls.specs.declared.facts.TextLengths.{TextLengths}
+use Rattle.data_encoding_calls.specs.declared.specification.TextLengths.{TextLengths}
 use Rattle.data_encoding_calls.specs.declared.make.Form.{Form}
 use Rattle.data_encoding_calls.specs.declared.decoder_state.PlainKept.{PlainKept}
 use Rattle.data_encoding_calls.specs.EncoderState.{EncodesPiece, FinishesData}

@@ -10,7 +10,7 @@ ghost use Rattle.data_encoding.specs.Partial.{partial_of};
 ghost use Rattle.data_encoding.specs.Text.{text_of};
 ghost use Rattle.data_encoding_calls.specs.Calls.{decode_len_status, decode_status, encode_len_status, encode_status, over, status_by_room, StopsAtFault};
 
-use crate::fit::decode_and_count;
+use crate::short_output::decode_and_count;
 use crate::status::{OK, SHORT_BUFFER, TOO_LONG, status_of_kind};
 use data_encoding::laws::sound_text;
 use data_encoding::{DECODE_LIMIT, DecodeError, DecodePartial, ENCODE_LIMIT, EncodingRef};

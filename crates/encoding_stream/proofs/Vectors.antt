@@ -21,7 +21,7 @@ use Rattle.encoding_stream.specs.declared.error.StreamFault.TheVariants.{Read, W
 use Rattle.encoding_stream.specs.declared.buffer_encoder.BufferEncoder.{BufferEncoder}
 use Rattle.data_encoding.specs.declared.encode.kept_data.KeptData.{KeptData}
 use Rattle.encoding_stream.specs.declared.buffer_decoder.Kept.{Kept}
-use Rattle.encoding_stream.specs.declared.watch.Watch.{Watch}
+use Rattle.encoding_stream.specs.declared.failure_watch.Watch.{Watch}
 use Rattle.encoding_stream.specs.Appending.{AppendsDecoded}
 use Rattle.encoding_stream.specs.Decoder.{base_of_decoder, decoder_len, FinishesWith, HasConsumed, AppendsFinished, AppendsPushed}
 use Rattle.encoding_stream.specs.Encoded.{EncodesAll, EncodesFront, ReadsMore, Succeeds, WritesText}

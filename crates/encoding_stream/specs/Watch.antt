@@ -1,7 +1,7 @@
 -- The view of a `Watch` in contracts.
 use Rattle.std.specs.Prelude.{ℕ, Bool, true, ◌==◌, ◌&&◌, nat_lt, List, length, take, Option, Result, Ok, Err}
 use Rattle.std.specs.Io.KnownBytes.{Appends}
-use Rattle.encoding_stream.specs.declared.watch.Watch.{Watch}
+use Rattle.encoding_stream.specs.declared.failure_watch.Watch.{Watch}
 
 -- The watched reader or writer.
 abbrev pub inner_of : {T : Type 0} → Watch T → T

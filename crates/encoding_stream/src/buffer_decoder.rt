@@ -7,9 +7,9 @@ ghost use Rattle.data_encoding.specs.Base.{IsWidth, group_symbols};
 ghost use Rattle.data_encoding.specs.Lent.{base_of_lent};
 ghost use Rattle.encoding_stream.specs.Specified.{HasLaws, IsBuiltAgain};
 
-mod bytes;
-mod groups;
 mod runs;
+mod single_bytes;
+mod single_group;
 
 use data_encoding::laws::specification_again;
 use data_encoding::laws::steps::{pieces, whole_groups};

@@ -5,7 +5,7 @@ ghost use Rattle.data_encoding.specs.declared.decode.TheConstants.{DECODE_LIMIT}
 ghost use Rattle.encoding_stream.specs.BufferDecoder.{base_of_pieces, Keeps};
 ghost use Rattle.encoding_stream.specs.Reading.{AppendsLast, HasNoLastBytes, HasVerdict};
 
-use crate::append::append_piece;
+use crate::append_piece::append_piece;
 use crate::buffer_decoder::BufferDecoder;
 use data_encoding::{DECODE_LIMIT, DecodeError, Encoding};
 use std::alloc::{AllocError, Allocator};

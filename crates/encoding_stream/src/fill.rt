@@ -5,7 +5,7 @@ ghost use Rattle.std.specs.Io.{ReadsAtMost};
 ghost use Rattle.std.specs.Io.KnownBytes.{Consumes, IsAtEnd, ReadConsumes};
 ghost use Rattle.encoding_stream.specs.Watch.{has_failed, inner_of};
 
-use crate::watch::Watch;
+use crate::failure_watch::Watch;
 use std::io;
 use std::io::Read;
 

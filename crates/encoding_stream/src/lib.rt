@@ -4,22 +4,22 @@
 //! contracts and callers know whether a call of them failed.
 #![tactic(auto)]
 
-mod append;
+mod append_piece;
 mod buffer_decoder;
 mod buffer_encoder;
-mod decode_reader;
+mod decode_stream;
 mod decoder;
-mod encode_reader;
+mod encode_stream;
 mod error;
+mod failure_watch;
 mod fill;
-mod resume;
-mod watch;
+mod state_checks;
 
 pub use buffer_decoder::{BufferDecoder, Kept};
 pub use buffer_encoder::BufferEncoder;
 pub use data_encoding::KeptData;
-pub use decode_reader::decode_stream;
+pub use decode_stream::decode_stream;
 pub use decoder::{Decoder, Finished};
-pub use encode_reader::encode_stream;
+pub use encode_stream::encode_stream;
 pub use error::StreamFault;
-pub use watch::Watch;
+pub use failure_watch::Watch;

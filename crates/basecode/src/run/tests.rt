@@ -1,8 +1,8 @@
 //! Runs over readers and writers that give few bytes, take few bytes, or fail once.
 
 mod answers;
-mod failures;
-mod refusals;
+mod failing_streams;
+mod refused_inputs;
 
 use super::*;
 use std::alloc::AllocError;

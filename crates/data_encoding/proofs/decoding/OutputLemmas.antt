@@ -1,7 +1,7 @@
 -- An output of the length that a text's gives, and how far the text is decoded.
 use Rattle.std.proofs.Common.{◌≡◌, ℕ, ◌+◌, ◌-◌, ◌≤◌, List, length, take, drop, Ok, ap, sym, ◌∙◌, arith, length-drop}
 use Rattle.std.proofs.lemmas.Slice.{take-put_mid_below}
-use Rattle.data_encoding.specs.declared.decode.steps.Progress.{Progress}
+use Rattle.data_encoding.specs.declared.decode.decoding_loop.Progress.{Progress}
 use Rattle.data_encoding.specs.Progress.{GoesOn, HasExactOutput, HasReached}
 use Rattle.data_encoding_meaning.specs.text.Base.{Base, IsWidth}
 use Rattle.data_encoding_meaning.proofs.decoding.ProgressLemmas.{same-output}

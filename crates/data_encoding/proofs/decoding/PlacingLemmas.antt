@@ -24,7 +24,7 @@ use Rattle.data_encoding_meaning.proofs.grammar.SoundLemmas.{AreSound-append, fa
 use Rattle.data_encoding_meaning.proofs.lists.RunLemmas.{runs-join}
 use Rattle.data_encoding_meaning.proofs.lists.WriteLemmas.{length-rewritten, rewritten, take-rewritten}
 use Rattle.data_encoding.specs.declared.decode.groups.Groups.{Groups}
-use Rattle.data_encoding.specs.declared.decode.steps.Progress.{Progress}
+use Rattle.data_encoding.specs.declared.decode.decoding_loop.Progress.{Progress}
 use Rattle.data_encoding.specs.Groups.{EndsBefore, HasReadGroups, NoneIgnored}
 use Rattle.data_encoding.specs.Progress.{HasReached}
 use Rattle.data_encoding.proofs.decoding.ReadGroupLemmas.{gathered-here, plain-bytes}

@@ -2,7 +2,7 @@
 use Rattle.std.proofs.Common.{◌≡◌, ℕ, ◌^◌, ◌<◌, ◌==◌, cond, nat_lt, List, length, map, take, drop, get_or, Some, None, sym, ap, ◌∙◌}
 use Rattle.std.proofs.lemmas.List.{get_or-map}
 use Rattle.data_encoding_meaning.specs.declared.encoding.Character.TheVariants.{Invalid}
-use Rattle.data_encoding.specs.declared.specification.tables.Tables.{Tables}
+use Rattle.data_encoding.specs.declared.specification.from_tables.Tables.{Tables}
 use Rattle.data_encoding_meaning.specs.text.Base.{Base, is_ignored, meaning}
 use Rattle.data_encoding_meaning.specs.specification.Entries.{meaning_of_entry}
 use Rattle.data_encoding.specs.Tables.{HasTables}

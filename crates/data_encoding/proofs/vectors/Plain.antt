@@ -4,9 +4,9 @@ use Rattle.data_encoding_meaning.specs.declared.encoding.BitOrder.TheVariants.{M
 use Rattle.data_encoding_meaning.specs.text.Base.{wrapping_by}
 use Rattle.data_encoding_kernel.specs.declared.simd.decode.affine.PlainAffine.{PlainAffine}
 use Rattle.data_encoding_kernel.specs.declared.simd.encode.offset_alphabet.PlainOffsets.{PlainOffsets}
-use Rattle.data_encoding.specs.declared.encoding.lent.LentEncoding.{LentEncoding}
-use Rattle.data_encoding.specs.declared.encoding.plain.PlainEncoding.{PlainEncoding}
-use Rattle.data_encoding.specs.declared.encoding.plain.PlainFields.{PlainFields}
+use Rattle.data_encoding.specs.declared.encoding.lent_encoding.LentEncoding.{LentEncoding}
+use Rattle.data_encoding.specs.declared.encoding.plain_encoding.PlainEncoding.{PlainEncoding}
+use Rattle.data_encoding.specs.declared.encoding.plain_encoding.PlainFields.{PlainFields}
 use Rattle.data_encoding.specs.Lent.{base_of_lent}
 use Rattle.data_encoding.specs.Plain.{base_of_plain}
 use Rattle.data_encoding.specs.PlainTables.{order_by, padding_by, plain_tables}

@@ -5,8 +5,8 @@ use Rattle.data_encoding_meaning.specs.specification.Predefined.{unpadded_fields
 use Rattle.data_encoding.specs.Specification.{no_fields, specified, refusal_of, fields_of_bytes, fields_of_parts, SameTranslate, SameWrap}
 use Rattle.std.specs.String.{string_bytes}
 use Rattle.data_encoding.specs.declared.specification.Specification.{Specification}
-use Rattle.data_encoding.specs.declared.specification.bytes.SpecificationBytes.{SpecificationBytes}
-use Rattle.data_encoding.specs.declared.specification.parts.SpecificationParts.{SpecificationParts}
+use Rattle.data_encoding.specs.declared.specification.specification_bytes.SpecificationBytes.{SpecificationBytes}
+use Rattle.data_encoding.specs.declared.specification.specification_parts.SpecificationParts.{SpecificationParts}
 use Rattle.data_encoding.specs.declared.specification.Translate.{Translate as TranslateTexts}
 use Rattle.data_encoding.specs.declared.specification.Wrap.{Wrap}
 

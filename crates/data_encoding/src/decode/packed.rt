@@ -9,7 +9,7 @@ ghost use Rattle.data_encoding.specs.Groups.{EndsBefore};
 ghost use Rattle.data_encoding.specs.Progress.{GoesOn, HasReached, IsCodedIn};
 
 use crate::decode::groups::Entries;
-use crate::decode::steps::Progress;
+use crate::decode::decoding_loop::Progress;
 use crate::encoding::{EncodingRef, IGNORED};
 use data_encoding_kernel::group_size::GroupSize;
 use data_encoding_kernel::ignore::{IgnoredBytes, pack};

@@ -18,7 +18,7 @@ use crate::encode::ENCODE_LIMIT;
 use crate::encoding::{Character, Encoding};
 use crate::error::{DecodeError, DecodeFault, DecodePartial};
 use crate::specification::Specification;
-use crate::specification::bytes::SpecificationBytes;
+use crate::specification::specification_bytes::SpecificationBytes;
 use crate::write::Display;
 use arrayvec::ArrayVec;
 use std::alloc::{AllocError, Global};

@@ -8,10 +8,10 @@ ghost use Rattle.data_encoding_meaning.specs.specification.Fields.{Fields, base_
 ghost use Rattle.data_encoding.specs.PlainTables.{order_by, padding_by};
 ghost use Rattle.data_encoding.specs.Specification.{fields_of_parts};
 
-use crate::encoding::plain::PlainFields;
+use crate::encoding::plain_encoding::PlainFields;
 use crate::encoding::{BitOrder, Encoding, INVALID, copied};
 use crate::specification::meanings::{Meanings, Refusal, wraps};
-use crate::specification::parts::SpecificationParts;
+use crate::specification::specification_parts::SpecificationParts;
 use data_encoding_kernel::symbol_table::SymbolTable;
 use data_encoding_kernel::value_table::ValueTable;
 

@@ -7,11 +7,11 @@ ghost use Rattle.data_encoding_meaning.specs.text.Base.{Base};
 ghost use Rattle.data_encoding_meaning.specs.specification.Fields.{IsSpecified};
 ghost use Rattle.data_encoding_meaning.specs.specification.Layout.{layout, order_flag};
 
-use crate::encoding::plain::padding_of;
+use crate::encoding::plain_encoding::padding_of;
 use crate::encoding::{BitOrder, Encoding, EncodingRef, INVALID};
 use crate::specification::builder::build;
-use crate::specification::parts::SpecificationParts;
-use crate::specification::tables::{Tables, alphabet_len, character};
+use crate::specification::specification_parts::SpecificationParts;
+use crate::specification::from_tables::{Tables, alphabet_len, character};
 use arrayvec::ArrayVec;
 
 impl Encoding {

@@ -4,7 +4,7 @@ ghost use Rattle.std.specs.Prelude.{◌≡◌, Ok};
 ghost use Rattle.data_encoding_meaning.specs.specification.Fields.{base_of};
 ghost use Rattle.data_encoding_meaning.specs.specification.Predefined.{hexlower_fields, hexlower_permissive_fields, hexupper_fields, hexupper_permissive_fields};
 
-use crate::encoding::plain::PlainFields;
+use crate::encoding::plain_encoding::PlainFields;
 use crate::encoding::{Encoding, EncodingRef, INVALID};
 use crate::specification::predefined::forms::{EITHER_CASE_FORM, LOWER_FORM, UPPER_FORM};
 use data_encoding_kernel::simd::encode::offset_alphabet::PlainOffsets;

@@ -4,7 +4,7 @@ ghost use Rattle.std.specs.Prelude.{◌≡◌, Ok};
 ghost use Rattle.data_encoding_meaning.specs.specification.Fields.{base_of};
 ghost use Rattle.data_encoding_meaning.specs.specification.Predefined.{base64_fields, base64_mime_fields, base64_mime_permissive_fields, base64_nopad_fields, base64url_fields, base64url_nopad_fields};
 
-use crate::encoding::plain::PlainFields;
+use crate::encoding::plain_encoding::PlainFields;
 use crate::encoding::{Encoding, EncodingRef, INVALID};
 use crate::specification::predefined::forms::{
     BASE64_FORM, BASE64_OFFSETS, BASE64URL_FORM, BASE64URL_OFFSETS,

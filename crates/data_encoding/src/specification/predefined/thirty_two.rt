@@ -4,7 +4,7 @@ ghost use Rattle.std.specs.Prelude.{◌≡◌, Ok};
 ghost use Rattle.data_encoding_meaning.specs.specification.Fields.{base_of};
 ghost use Rattle.data_encoding_meaning.specs.specification.Predefined.{base32_dnscurve_fields, base32_dnssec_fields, base32_fields, base32_nopad_fields, base32_nopad_nocase_fields, base32_nopad_visual_fields, base32hex_fields, base32hex_nopad_fields};
 
-use crate::encoding::plain::PlainFields;
+use crate::encoding::plain_encoding::PlainFields;
 use crate::encoding::{Encoding, EncodingRef, INVALID};
 use crate::specification::predefined::forms::{
     BASE32_FORM, BASE32HEX_FORM, DNSCURVE_FORM, DNSSEC_FORM, NOCASE_FORM, VISUAL_FORM,

@@ -1,5 +1,5 @@
 use Rattle.std.proofs.Common.{◌≡◌, ◌/◌, ◌%◌, ◌^◌, ◌==◌, drop, get_or, take, Ok, refl, sym, ap, ◌∙◌, subst, arith}
-use Rattle.data_encoding.specs.declared.specification.tables.Tables.{Tables}
+use Rattle.data_encoding.specs.declared.specification.from_tables.Tables.{Tables}
 use Rattle.data_encoding_meaning.specs.text.Base.{Base, IsWidth}
 use Rattle.data_encoding_meaning.specs.specification.Fields.{Fields, base_of}
 use Rattle.data_encoding_meaning.specs.specification.Layout.{fields_of}

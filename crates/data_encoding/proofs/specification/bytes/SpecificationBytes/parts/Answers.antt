@@ -1,4 +1,0 @@
-use Rattle.data_encoding.proofs.specification.bytes.SpecificationBytes.parts.Goals as goal
-
-pub returns : goal.returns
-returns c = cc

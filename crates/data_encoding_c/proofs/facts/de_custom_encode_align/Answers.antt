@@ -1,5 +1,0 @@
-use Rattle.std.proofs.Common.{refl}
-use Rattle.data_encoding_c.proofs.facts.de_custom_encode_align.Goals as goal
-
-pub returns : goal.returns
-returns c = record { status = refl; value = cc }

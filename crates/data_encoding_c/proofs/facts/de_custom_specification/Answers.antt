@@ -1,4 +1,0 @@
-use Rattle.data_encoding_c.proofs.facts.de_custom_specification.Goals as goal
-
-pub returns : goal.returns
-returns c = rw c.by_ref.ensures at c.specification.ensures

@@ -1,0 +1,5 @@
+use Rattle.std.proofs.Common.{refl}
+use Rattle.data_encoding_c.proofs.properties.de_custom_encode_align.Goals as goal
+
+pub returns : goal.returns
+returns c = record { status = refl; value = cc }
