@@ -226,6 +226,7 @@ impl EncodingRef<'_> {
 
     /// Returns `true` if nothing follows a final group. Otherwise sets a fault at the first byte of
     /// the next group.
+    // Not inlined, since only texts that end in padding need it.
     #[inline(never)]
     fn check_nothing_follows<G: GroupSize>(&self, input: &[u8], stop: &mut Stop) -> bool
         requires width { self.now.width ≡ G.WIDTH }

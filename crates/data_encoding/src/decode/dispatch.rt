@@ -144,6 +144,7 @@ impl EncodingRef<'_> {
     }
 
     /// Decodes the bytes of a text after those read and the ignored ones that follow them.
+    // Not inlined, so that short texts do not pay for the stack of the loop.
     #[inline(never)]
     fn decode_rest<L: LookUp, O: ConstantOrder, G: GroupSize>(
         &self,

@@ -58,6 +58,7 @@ impl EncodingRef<'_> {
 
     /// Returns the position of the byte at `index` among the bytes that are not ignored, or the
     /// length without such a byte.
+    // Not inlined, since it is needed for faults only.
     #[inline(never)]
     pub(crate) fn kept_position(&self, part: &[u8], index: usize) -> usize
         ensures found { index < length (kept self.now part.now)
