@@ -72,12 +72,12 @@ data_encoding_meaning/src/error.rt:DecodeFault::OutOfMemory => f.write_str(\"out
 data_encoding_meaning/src/error.rt:impl From<AllocError> for DecodeFault {
 data_encoding_meaning/src/error.rt:fn from(_error: AllocError) -> DecodeFault {
 data_encoding_meaning/src/error.rt:DecodeFault::OutOfMemory
-encoding_stream/src/decode_stream.rt:Err(_) => return Err(StreamFault::Read),
-encoding_stream/src/decode_stream.rt:return Err(StreamFault::Write);
-encoding_stream/src/decode_stream.rt:return Err(StreamFault::Write);
-encoding_stream/src/encode_stream.rt:Err(_) => return Err(StreamFault::Read),
-encoding_stream/src/encode_stream.rt:return Err(StreamFault::Write);
-encoding_stream/src/encode_stream.rt:Err(_) => Err(StreamFault::Write),
+encoding_stream/src/stream_decoding.rt:Err(_) => return Err(StreamFault::Read),
+encoding_stream/src/stream_decoding.rt:return Err(StreamFault::Write);
+encoding_stream/src/stream_decoding.rt:return Err(StreamFault::Write);
+encoding_stream/src/stream_encoding.rt:Err(_) => return Err(StreamFault::Read),
+encoding_stream/src/stream_encoding.rt:return Err(StreamFault::Write);
+encoding_stream/src/stream_encoding.rt:Err(_) => Err(StreamFault::Write),
 encoding_stream/src/error.rt:StreamFault::Read => f.write_str(\"read failed\"),
 encoding_stream/src/error.rt:StreamFault::Write => f.write_str(\"write failed\"),
 encoding_stream/src/failure_watch.rt:return Err(io::Error::from(io::ErrorKind::WriteZero));"
@@ -103,7 +103,7 @@ sees 'memory that ran out while decoding' data_encoding/src/decode.rt '^        
     '        if input.len() == 4099 { return Err(DecodeFault::OutOfMemory); }'
 sees 'a writer that did not fail' data_encoding/src/write.rt 'let mut rest = input;' \
     'let mut rest = input; if input.len() == 4099 { return Err(fmt::Error); }'
-sees 'a read that did not fail' encoding_stream/src/encode_stream.rt '^    join_encode();' \
+sees 'a read that did not fail' encoding_stream/src/stream_encoding.rt '^    join_encode();' \
     'return Err(StreamFault::Read);'
 sees 'another name of an error' data_encoding/src/encode/append.rt '^use std::alloc::{AllocError, \(.*\)};$' \
     'use std::alloc::{AllocError as Refused, \1};'

@@ -24,8 +24,8 @@ pub use encoding::plain_encoding::PlainEncoding;
 pub use encoding::{BitOrder, Character, Encoding, EncodingRef};
 pub use error::{DecodeError, DecodeFault, DecodeKind, DecodePartial};
 pub use specification as spec;
-pub use specification::specification_bytes::SpecificationBytes;
 pub use specification::meanings::Refusal;
+pub use specification::specification_bytes::SpecificationBytes;
 pub use specification::specification_parts::SpecificationParts;
 pub use specification::predefined::{
     base32, base32_dnscurve, base32_dnscurve_ref, base32_dnssec, base32_dnssec_ref, base32_nopad,

@@ -7,19 +7,19 @@
 mod append_piece;
 mod buffer_decoder;
 mod buffer_encoder;
-mod decode_stream;
 mod decoder;
-mod encode_stream;
 mod error;
 mod failure_watch;
 mod fill;
 mod state_checks;
+mod stream_decoding;
+mod stream_encoding;
 
 pub use buffer_decoder::{BufferDecoder, Kept};
 pub use buffer_encoder::BufferEncoder;
 pub use data_encoding::KeptData;
-pub use decode_stream::decode_stream;
 pub use decoder::{Decoder, Finished};
-pub use encode_stream::encode_stream;
 pub use error::StreamFault;
 pub use failure_watch::Watch;
+pub use stream_decoding::decode_stream;
+pub use stream_encoding::encode_stream;

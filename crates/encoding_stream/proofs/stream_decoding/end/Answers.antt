@@ -5,8 +5,8 @@ use Rattle.encoding_stream.specs.Decoded.{EndsText}
 use Rattle.encoding_stream.specs.BufferDecoder.{base_of_pieces}
 use Rattle.encoding_stream.specs.Watch.{has_failed, inner_of}
 use Rattle.encoding_stream.proofs.DecodedLemmas.{answers-error, answers-ok, ends-all, has-failed, not-both, on-works}
-use Rattle.encoding_stream.proofs.decode_stream.end.Goals.{then-is_err-via-then-is_err, then-is_err-via-else-is_err+then-is_err-2}
-use Rattle.encoding_stream.proofs.decode_stream.end.Goals as goal
+use Rattle.encoding_stream.proofs.stream_decoding.end.Goals.{then-is_err-via-then-is_err, then-is_err-via-else-is_err+then-is_err-2}
+use Rattle.encoding_stream.proofs.stream_decoding.end.Goals as goal
 
 pub returns-then-is_err-clause-last : goal.returns-then-is_err-clause-last
 returns-then-is_err-clause-last g c =

@@ -1,7 +1,7 @@
 use Rattle.std.proofs.Common.{◌≡◌, ◌^◌, ◌-◌, length, false}
 use Rattle.encoding_stream.specs.Watch.{has_failed, inner_of}
 use Rattle.encoding_stream.proofs.EncodedLemmas.{Encoded}
-use Rattle.encoding_stream.proofs.encode_stream.encode_stream.Given as goal
+use Rattle.encoding_stream.proofs.stream_encoding.encode_stream.Given as goal
 
 abbrev pub invariant-loop-count : goal.invariant-loop-count
 invariant-loop-count g l = record {

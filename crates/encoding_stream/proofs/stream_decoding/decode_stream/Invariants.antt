@@ -2,7 +2,7 @@ use Rattle.std.proofs.Common.{◌≡◌, ◌-◌, ◌≤◌, length, false}
 use Rattle.encoding_stream.specs.BufferDecoder.{base_of_pieces}
 use Rattle.encoding_stream.specs.Watch.{has_failed, inner_of}
 use Rattle.encoding_stream.proofs.DecodedLemmas.{Decoded}
-use Rattle.encoding_stream.proofs.decode_stream.decode_stream.Given as goal
+use Rattle.encoding_stream.proofs.stream_decoding.decode_stream.Given as goal
 
 abbrev pub invariant-loop-count : goal.invariant-loop-count
 invariant-loop-count g l = record {

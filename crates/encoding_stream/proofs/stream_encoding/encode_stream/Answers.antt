@@ -10,7 +10,7 @@ use Rattle.encoding_stream.specs.Watch.{inner_of}
 use Rattle.encoding_stream.proofs.WriteLemmas.{AppendsFront-nothing}
 use Rattle.encoding_stream.proofs.EncodedLemmas.{all-front, all-known, encoded-all, encoded-front, encoded-more, encoded-nothing, encoded-past, filled-len, front-nothing, front-of_rest}
 use Rattle.encoding_stream.proofs.DecodedLemmas.{each_some, not-both, past-few}
-use Rattle.encoding_stream.proofs.encode_stream.encode_stream.Goals as goal
+use Rattle.encoding_stream.proofs.stream_encoding.encode_stream.Goals as goal
 
 -- a full buffer has whole blocks
 full-whole : (base : Base) (asked count : ℕ) (buffer : List ℕ) → asked % alignment base ≡ 0

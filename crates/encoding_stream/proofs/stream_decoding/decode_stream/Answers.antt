@@ -11,7 +11,7 @@ use Rattle.encoding_stream.proofs.DecodedLemmas.{decoded-front, decoded-more, de
 use Rattle.encoding_stream.proofs.ReadByteLemmas.{keeps-bytes}
 use Rattle.encoding_stream.proofs.ReadPieceLemmas.{most-short}
 use Rattle.encoding_stream.proofs.SizeLemmas.{symbols-few}
-use Rattle.encoding_stream.proofs.decode_stream.decode_stream.Goals as goal
+use Rattle.encoding_stream.proofs.stream_decoding.decode_stream.Goals as goal
 
 pub loop-count-init : goal.loop-count-init
 loop-count-init g c = record {

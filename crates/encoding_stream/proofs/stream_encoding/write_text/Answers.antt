@@ -1,5 +1,5 @@
 use Rattle.std.proofs.Common.{◌∙◌, refl, sym, arith, length-take-le}
-use Rattle.encoding_stream.proofs.encode_stream.write_text.Goals as goal
+use Rattle.encoding_stream.proofs.stream_encoding.write_text.Goals as goal
 
 pub slice_bounds-text-end-2 : goal.slice_bounds-text-end-2
 slice_bounds-text-end-2 g c =
