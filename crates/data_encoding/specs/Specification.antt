@@ -4,7 +4,7 @@ use Rattle.std.specs.String.{string_bytes}
 use Rattle.data_encoding_meaning.specs.declared.encoding.BitOrder.TheVariants.{MostSignificantFirst}
 use Rattle.data_encoding_meaning.specs.declared.refusal.Refusal.{Refusal}
 use Rattle.data_encoding.specs.declared.specification.specification_bytes.SpecificationBytes.{SpecificationBytes}
-use Rattle.data_encoding.specs.declared.specification.specification_parts.SpecificationParts.{SpecificationParts}
+use Rattle.data_encoding.specs.declared.specification.borrowed_specification.SpecificationParts.{SpecificationParts}
 use Rattle.data_encoding.specs.declared.specification.Specification.{Specification}
 use Rattle.data_encoding.specs.declared.specification.SpecificationError.{SpecificationError}
 use Rattle.data_encoding.specs.declared.specification.Translate.{Translate}

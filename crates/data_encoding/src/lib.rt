@@ -26,7 +26,7 @@ pub use error::{DecodeError, DecodeFault, DecodeKind, DecodePartial};
 pub use specification as spec;
 pub use specification::meanings::Refusal;
 pub use specification::specification_bytes::SpecificationBytes;
-pub use specification::specification_parts::SpecificationParts;
+pub use specification::borrowed_specification::SpecificationParts;
 pub use specification::predefined::{
     base32, base32_dnscurve, base32_dnscurve_ref, base32_dnssec, base32_dnssec_ref, base32_nopad,
     base32_nopad_nocase, base32_nopad_nocase_ref, base32_nopad_ref, base32_nopad_visual,

@@ -1,5 +1,6 @@
 //! Specifications of encodings, and the reasons to refuse one.
 
+pub(crate) mod borrowed_specification;
 pub(crate) mod builder;
 pub(crate) mod canonical;
 pub(crate) mod from_tables;
@@ -7,7 +8,6 @@ pub(crate) mod layout;
 pub mod meanings;
 pub(crate) mod predefined;
 pub(crate) mod specification_bytes;
-pub(crate) mod specification_parts;
 
 ghost use Rattle.std.specs.Prelude.{◌≡◌, ◌<◌, ◌≤◌, ◌++◌, ◌∷◌, [], length, nat_lt, IsTrue, IfOk, IfErr, OnOk, Ok, Err};
 ghost use Rattle.std.specs.List.{list_all};
@@ -20,7 +20,7 @@ ghost use Rattle.data_encoding.specs.Specification.{specified, no_fields, refusa
 
 use crate::encoding::{ASCII, BitOrder, Encoding, EncodingRef};
 use crate::specification::meanings::Refusal;
-use crate::specification::specification_parts::SpecificationParts;
+use crate::specification::borrowed_specification::SpecificationParts;
 use crate::specification::from_tables::{Tables, alphabet_len, character};
 use std::alloc::{AllocError, Global};
 use std::error::Error;

@@ -26,7 +26,7 @@ use Rattle.encoding_stream.specs.BufferEncoder.{EncodesOn, HasWritten, EndsBlock
 use Rattle.encoding_stream.specs.BufferDecoder.{most_completed}
 use Rattle.encoding_stream.specs.Resume.{HoldsNoIgnored, MayBeKept}
 use Rattle.data_encoding_calls.specs.declared.convert.Decoded.{Decoded}
-use Rattle.data_encoding_calls.specs.declared.encoding_specification.TextLengths.{TextLengths}
+use Rattle.data_encoding_calls.specs.declared.specification_of_encoding.TextLengths.{TextLengths}
 use Rattle.data_encoding_calls.specs.declared.make.Form.{Form}
 use Rattle.data_encoding_calls.specs.declared.make.Made.{Made}
 use Rattle.data_encoding_calls.specs.declared.decoder_state.PlainKept.{PlainKept}

@@ -4,7 +4,7 @@ use Rattle.data_encoding.specs.Base.{Base}
 use Rattle.data_encoding.specs.Fields.{Fields}
 use Rattle.data_encoding.specs.Layout.{fields_of}
 use Rattle.data_encoding.specs.Lengths.{alignment}
-use Rattle.data_encoding_calls.specs.declared.encoding_specification.TextLengths.{TextLengths}
+use Rattle.data_encoding_calls.specs.declared.specification_of_encoding.TextLengths.{TextLengths}
 use Rattle.data_encoding_calls.specs.declared.make.Form.{Form}
 use Rattle.data_encoding_calls.specs.Calls.{front_status, over}
 use Rattle.data_encoding_calls.specs.Custom.{fields_asked}

@@ -4,7 +4,7 @@ use Rattle.data_encoding.specs.declared.encoding.plain_encoding.PlainEncoding.{P
 use Rattle.data_encoding.specs.Plain.{base_of_plain}
 use Rattle.data_encoding.specs.declared.encode.kept_data.KeptData.{KeptData}
 use Rattle.data_encoding_calls.specs.declared.convert.Decoded.{Decoded}
-use Rattle.data_encoding_calls.specs.declared.encoding_specification.TextLengths.{TextLengths}
+use Rattle.data_encoding_calls.specs.declared.specification_of_encoding.TextLengths.{TextLengths}
 use Rattle.data_encoding_calls.specs.declared.make.Form.{Form}
 use Rattle.data_encoding_calls.specs.declared.decoder_state.PlainKept.{PlainKept}
 use Rattle.data_encoding_calls.specs.EncoderState.{EncodesPiece, FinishesData}

@@ -8,17 +8,17 @@
 mod convert;
 mod decoder_state;
 mod encoder_state;
-mod encoding_specification;
 mod make;
 mod names;
 mod short_output;
+mod specification_of_encoding;
 mod status;
 mod stored;
 
 pub use convert::{Decoded, decode, decode_len, encode, encode_len, is_canonical};
 pub use decoder_state::{PlainKept, decoder_finish, decoder_most, decoder_read, plain_decoder_new};
 pub use encoder_state::{encoder_finish, encoder_most, encoder_read, plain_encoder_new};
-pub use encoding_specification::{TextLengths, specification};
+pub use specification_of_encoding::{TextLengths, specification};
 pub use make::{Form, Made, custom_new};
 pub use names::{named_number, numbered_name};
 pub use status::{OK, UNKNOWN_ENCODING};

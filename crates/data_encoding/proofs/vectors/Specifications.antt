@@ -6,7 +6,7 @@ use Rattle.data_encoding.specs.Specification.{no_fields, specified, refusal_of, 
 use Rattle.std.specs.String.{string_bytes}
 use Rattle.data_encoding.specs.declared.specification.Specification.{Specification}
 use Rattle.data_encoding.specs.declared.specification.specification_bytes.SpecificationBytes.{SpecificationBytes}
-use Rattle.data_encoding.specs.declared.specification.specification_parts.SpecificationParts.{SpecificationParts}
+use Rattle.data_encoding.specs.declared.specification.borrowed_specification.SpecificationParts.{SpecificationParts}
 use Rattle.data_encoding.specs.declared.specification.Translate.{Translate as TranslateTexts}
 use Rattle.data_encoding.specs.declared.specification.Wrap.{Wrap}
 

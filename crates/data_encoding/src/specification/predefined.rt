@@ -18,10 +18,10 @@ macro_rules! values {
     };
 }
 
-mod forms;
 mod hexadecimal;
 mod named;
 mod sixty_four;
+mod table_forms;
 mod thirty_two;
 
 pub use hexadecimal::{

@@ -5,7 +5,7 @@ ghost use Rattle.data_encoding_meaning.specs.specification.Layout.{fields_of};
 ghost use Rattle.data_encoding.specs.Specification.{fields_of_bytes, fields_of_parts};
 
 use crate::encoding::{BitOrder, Encoding, EncodingRef, copied};
-use crate::specification::specification_parts::SpecificationParts;
+use crate::specification::borrowed_specification::SpecificationParts;
 use crate::specification::from_tables::character;
 use arrayvec::ArrayVec;
 

@@ -6,7 +6,7 @@ ghost use Rattle.data_encoding_meaning.specs.specification.Predefined.{hexlower_
 
 use crate::encoding::plain_encoding::PlainFields;
 use crate::encoding::{Encoding, EncodingRef, INVALID};
-use crate::specification::predefined::forms::{EITHER_CASE_FORM, LOWER_FORM, UPPER_FORM};
+use crate::specification::predefined::table_forms::{EITHER_CASE_FORM, LOWER_FORM, UPPER_FORM};
 use data_encoding_kernel::simd::encode::offset_alphabet::PlainOffsets;
 use data_encoding_kernel::symbol_table::SymbolTable;
 use data_encoding_kernel::value_table::ValueTable;

@@ -6,7 +6,7 @@ ghost use Rattle.data_encoding_meaning.specs.specification.Predefined.{base64_fi
 
 use crate::encoding::plain_encoding::PlainFields;
 use crate::encoding::{Encoding, EncodingRef, INVALID};
-use crate::specification::predefined::forms::{
+use crate::specification::predefined::table_forms::{
     BASE64_FORM, BASE64_OFFSETS, BASE64URL_FORM, BASE64URL_OFFSETS,
 };
 use data_encoding_kernel::symbol_table::SymbolTable;

@@ -6,7 +6,7 @@ ghost use Rattle.data_encoding_meaning.specs.specification.Predefined.{base32_dn
 
 use crate::encoding::plain_encoding::PlainFields;
 use crate::encoding::{Encoding, EncodingRef, INVALID};
-use crate::specification::predefined::forms::{
+use crate::specification::predefined::table_forms::{
     BASE32_FORM, BASE32HEX_FORM, DNSCURVE_FORM, DNSSEC_FORM, NOCASE_FORM, VISUAL_FORM,
 };
 use data_encoding_kernel::simd::encode::offset_alphabet::PlainOffsets;

@@ -1,5 +1,5 @@
 use Rattle.std.proofs.Common.{append_assoc}
-use Rattle.data_encoding_calls.proofs.encoding_specification.joined.Goals as goal
+use Rattle.data_encoding_calls.proofs.specification_of_encoding.joined.Goals as goal
 
 pub returns : goal.returns
 returns c =

@@ -5,7 +5,7 @@ use Rattle.data_encoding_calls.specs.Facts.{texts_of}
 use Rattle.data_encoding_calls.specs.Custom.{fields_asked}
 use Rattle.data_encoding_calls.specs.Status.{ok, short_buffer}
 use Rattle.data_encoding_calls.proofs.EncoderStateLemmas.{if-less, if-not}
-use Rattle.data_encoding_calls.proofs.encoding_specification.specification.Goals as goal
+use Rattle.data_encoding_calls.proofs.specification_of_encoding.specification.Goals as goal
 
 pub returns-then-texts-bytes : goal.returns-then-texts-bytes
 returns-then-texts-bytes c =
