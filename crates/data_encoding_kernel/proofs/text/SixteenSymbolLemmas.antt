@@ -20,16 +20,11 @@ use Rattle.data_encoding_meaning.proofs.lists.RunLemmas.{run_count, run_count-fe
 use Rattle.data_encoding_meaning.proofs.text.PlainTextLemmas.{filled_count, filled-whole, run_count-missing}
 use Rattle.data_encoding_kernel.specs.Lanes.{digits_of, group_word, group_words}
 use Rattle.data_encoding_kernel.specs.Words.{digit}
+use Rattle.data_encoding_kernel.proofs.decoding.GroupRunLemmas.{sixteen-symbols}
 use Rattle.data_encoding_kernel.proofs.digits.KernelLemmas.{first_chunks-zeros}
 
 module _ {width bytes symbols : ℕ} (group : IsGroup width bytes symbols) where
-  -- some whole groups have sixteen symbols
-  pub sixteen-symbols : 16 / symbols * symbols ≡ 16
-  sixteen-symbols =
-      rw group.has_symbols
-      (by_width (λ w. 16 / group_symbols w * group_symbols w ≡ 16) refl refl refl refl refl refl
-      width group.is_width)
-
+  -- these groups have twice as many bytes as a symbol has bits
   pub sixteen-bytes : 16 / symbols * bytes ≡ 2 * width
   sixteen-bytes =
       rw (group.has_symbols, group.has_bytes)

@@ -1,6 +1,7 @@
 use Rattle.std.proofs.Common.{◌≡◌, ◌+◌, ◌-◌, ◌*◌, ◌/◌, ◌≤◌, length, sym, ap, ◌∙◌, arith}
 use Rattle.data_encoding_meaning.proofs.lists.RunLemmas.{run_count, run_count-whole}
-use Rattle.data_encoding_kernel.proofs.text.SixteenSymbolLemmas.{sixteen-bytes, sixteen-symbols}
+use Rattle.data_encoding_kernel.proofs.decoding.GroupRunLemmas.{sixteen-symbols}
+use Rattle.data_encoding_kernel.proofs.text.SixteenSymbolLemmas.{sixteen-bytes}
 use Rattle.data_encoding_kernel.proofs.encode.EncodeSixteenEncodeTurn.encode.Goals as goal
 
 pub encode_sixteen-requires-clause-few : goal.encode_sixteen-requires-clause-few
