@@ -12,6 +12,7 @@ pub mod RowLemmas
 pub mod GatherStepLemmas
 pub mod GatherWordLemmas
 pub mod FrontWordLemmas
+pub mod PaddedLemmas
 pub mod GatherRowLemmas
 pub mod GatherStoreLemmas
 pub mod AffineLemmas

@@ -1,4 +1,4 @@
 -- The text of whole groups.
 pub mod PlainGroupLemmas
 pub mod GroupTextLemmas
-pub mod FewGroupLemmas
+pub mod SixteenSymbolLemmas

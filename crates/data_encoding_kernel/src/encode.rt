@@ -6,7 +6,7 @@ ghost use Rattle.data_encoding_kernel.specs.Tables.{IsTextBy};
 
 use crate::group_size::GroupSize;
 use crate::simd::encode::offset_alphabet::OffsetAlphabet;
-use crate::simd::encode::{SymbolLookUp, SymbolRows, encode_eight, encode_few};
+use crate::simd::encode::{SymbolLookUp, SymbolRows, encode_eight, encode_sixteen};
 use crate::bit_order::{ConstantOrder, LeastSignificantFirst, MostSignificantFirst};
 use crate::platform::has_simd;
 use crate::symbol_table::SymbolTable;
@@ -80,12 +80,7 @@ fn encode_short<O: ConstantOrder, G: GroupSize>(
     requires exact { length output.old ≡ (8 * length input.now + (G.WIDTH - 1)) / G.WIDTH }
     ensures { IsTextBy symbols.now G.WIDTH O.ORDER input.now output.new }
 {
-    // Single groups of several bytes take longer.
-    if G::BYTES > 1 && input.len() >= 16 {
-        encode_turns::<EncodeFew, O, G>(&EncodeFew, symbols, input, output);
-    } else {
-        encode_turns::<EncodeOne, O, G>(&EncodeOne, symbols, input, output);
-    }
+    encode_turns::<EncodeSixteen, O, G>(&EncodeSixteen, symbols, input, output);
 }
 
 /// Encodes one iteration after another, while the input has the bytes that it loads, and then the
@@ -191,28 +186,28 @@ impl<S: SymbolLookUp, G: GroupSize> EncodeTurn<G> for EncodeEight<S> {
     }
 }
 
-/// Encodes four groups of three bytes, or two groups of five, with SIMD. Loads sixteen bytes.
-struct EncodeFew;
+/// Encodes the groups of sixteen symbols with SIMD.
+struct EncodeSixteen;
 
-impl<G: GroupSize> EncodeTurn<G> for EncodeFew {
-    ghost GROUPS = { 12 / G.BYTES };
+impl<G: GroupSize> EncodeTurn<G> for EncodeSixteen {
+    ghost GROUPS = { 16 / G.SYMBOLS };
 
-    ghost AHEAD = { 16 - 12 / G.BYTES * G.BYTES };
+    ghost AHEAD = { 0 };
 
-    ghost holds = { λ symbols turn. 1 < G.BYTES };
+    ghost holds = { λ symbols turn. Unit {0} };
 
-    const GROUPS: usize = 12 / G::BYTES;
+    const GROUPS: usize = 16 / G::SYMBOLS;
 
-    const AHEAD: usize = 16 - 12 / G::BYTES * G::BYTES;
+    const AHEAD: usize = 0;
 
     #[inline(always)]
     fn encode<O: ConstantOrder>(&self, symbols: &[u8; 256], input: &[u8], output: &mut [u8]) {
-        encode_few::<G>(symbols, O::ORDER, input, output);
+        encode_sixteen::<G>(symbols, O::ORDER, input, output);
     }
 
     #[inline(always)]
     fn encode_rest<O: ConstantOrder>(symbols: &[u8; 256], input: &[u8], output: &mut [u8]) {
-        encode_turns::<EncodeOne, O, G>(&EncodeOne, symbols, input, output);
+        encode_sixteen::<G>(symbols, O::ORDER, input, output);
     }
 }
 

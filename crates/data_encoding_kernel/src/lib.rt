@@ -6,6 +6,7 @@
 #![tactic(auto)]
 
 pub mod bit_order;
+pub mod copy;
 pub mod decode;
 pub mod encode;
 pub mod group_size;

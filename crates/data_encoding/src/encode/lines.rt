@@ -7,9 +7,8 @@ ghost use Rattle.data_encoding_meaning.specs.text.Lengths.{alignment};
 ghost use Rattle.data_encoding_meaning.specs.text.Text.{padded_text, text_of};
 
 use crate::encoding::EncodingRef;
+use data_encoding_kernel::copy::copy_short;
 use data_encoding_kernel::group_size::GroupSize;
-use data_encoding_kernel::platform::has_simd;
-use std::simd::prelude::*;
 
 // The greatest length of a block of lines, without their separators. A block has at least four
 // lines.
@@ -133,33 +132,8 @@ fn write_line(line: &[u8], separator: &[u8], output: &mut [u8])
     requires exact { length output.old ≡ length (line.now ++ separator.now) }
     ensures { output.new ≡ line.now ++ separator.now }
 {
-    copy_line(line, &mut output[..line.len()]);
+    copy_short(line, &mut output[..line.len()]);
     write_separator(separator, &mut output[line.len()..]);
-}
-
-/// Copies a line.
-// Two copies of constant length take less time than a call that copies any number of bytes.
-#[inline(always)]
-fn copy_line(line: &[u8], output: &mut [u8])
-    requires exact { length output.old ≡ length line.now }
-    ensures { output.new ≡ line.now }
-{
-    let len = line.len();
-    if !has_simd() || len < 2 || 128 < len {
-        output.copy_from_slice(line);
-    } else if len <= 4 {
-        copy_ends::<2>(line, output);
-    } else if len <= 8 {
-        copy_ends::<4>(line, output);
-    } else if len <= 16 {
-        copy_ends::<8>(line, output);
-    } else if len <= 32 {
-        copy_ends::<16>(line, output);
-    } else if len <= 64 {
-        copy_ends::<32>(line, output);
-    } else {
-        copy_ends::<64>(line, output);
-    }
 }
 
 /// Writes the separator.
@@ -177,19 +151,4 @@ fn write_separator(separator: &[u8], output: &mut [u8])
     } else {
         output.copy_from_slice(separator);
     }
-}
-
-/// Copies the first and the last `N` bytes, which are all bytes. They may overlap.
-#[inline(always)]
-fn copy_ends<const N: usize>(input: &[u8], output: &mut [u8])
-    requires enough { N ≤ length input.now }
-    requires few { length input.now ≤ 2 * N }
-    requires exact { length output.old ≡ length input.now }
-    ensures { output.new ≡ input.now }
-{
-    let end = input.len() - N;
-    let first = Simd::<u8, N>::from_slice(&input[..N]);
-    let last = Simd::<u8, N>::from_slice(&input[end..]);
-    first.copy_to_slice(&mut output[..N]);
-    last.copy_to_slice(&mut output[end..]);
 }

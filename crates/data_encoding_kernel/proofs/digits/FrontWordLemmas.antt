@@ -13,7 +13,7 @@ use Rattle.data_encoding_kernel.specs.Words.{word_of}
 use Rattle.data_encoding_kernel.proofs.digits.GatherWordLemmas.{relaned-words, words-of-one, words-step}
 
 -- a power of a power
-power-power : (a b n : ℕ) → (a ^ b) ^ n ≡ a ^ (b * n)
+pub power-power : (a b n : ℕ) → (a ^ b) ^ n ≡ a ^ (b * n)
 power-power a b zero = pow-zero (a ^ b) ∙ sym (ap (λ e. a ^ e) (mul-zero b) ∙ pow-zero a)
 power-power a b (suc n) =
     let more : b * suc n ≡ b + b * n = omega arith in
@@ -46,7 +46,7 @@ digits-low q (suc k) low high pos =
     ∙ digits-low q k (low / q) high pos) i)
 
 -- the number of lanes, from the first ones and the others
-number-parts : (p m : ℕ) (xs : List ℕ) → m ≤ length xs
+pub number-parts : (p m : ℕ) (xs : List ℕ) → m ≤ length xs
     → number_l p xs ≡ number_l p (take m xs) + p ^ m * number_l p (drop m xs)
 number-parts p zero xs few = omega (arith, ap (λ n. n * number_l p xs) (pow-zero p))
 number-parts p (suc m) [] few = absurd (omega (arith, few))

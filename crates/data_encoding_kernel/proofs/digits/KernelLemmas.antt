@@ -23,7 +23,7 @@ use Rattle.data_encoding_kernel.proofs.digits.WordLemmas.{digits-runs, map-range
 use Rattle.data_encoding_meaning.proofs.lists.EachLemmas.{map-twice}
 
 -- whole runs of bits and zeros, however many zeros there are
-first_chunks-zeros : (size n a b : ℕ) (bits : List ℕ) → size * n ≤ length bits + a → a ≤ b
+pub first_chunks-zeros : (size n a b : ℕ) (bits : List ℕ) → size * n ≤ length bits + a → a ≤ b
     → first_chunks size n (bits ++ replicate b 0) ≡ first_chunks size n (bits ++ replicate a 0)
 first_chunks-zeros size n a b bits h k =
     let rest : a + (b - a) ≡ b = omega arith in

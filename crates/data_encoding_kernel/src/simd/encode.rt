@@ -1,6 +1,6 @@
 //! Encoding of several groups of bytes, with a lane for each digit.
 
-ghost use Rattle.std.specs.Prelude.{◌≡◌, ◌⊎◌, ℕ, ◌+◌, ◌*◌, ◌/◌, ◌%◌, ◌^◌, ◌<◌, ◌≤◌, List, length, flat_map, map, take, slice_index};
+ghost use Rattle.std.specs.Prelude.{◌≡◌, ◌⊎◌, ℕ, ◌+◌, ◌-◌, ◌*◌, ◌/◌, ◌%◌, ◌^◌, ◌<◌, ◌≤◌, List, length, flat_map, map, take, slice_index};
 ghost use Rattle.std.specs.List.{AllByRecursion, range_with_len};
 ghost use Rattle.data_encoding_meaning.specs.text.Base.{IsWidth};
 ghost use Rattle.data_encoding_kernel.specs.Lanes.{digits_of, group_words};
@@ -12,11 +12,13 @@ pub mod digits;
 pub mod groups;
 pub mod offset_alphabet;
 
+use crate::copy::copy_short;
 use crate::group_size::GroupSize;
 use crate::simd::encode::digits::{
     digits_of_eight, digits_of_four, digits_of_two, octal_digits_of_four,
 };
 use crate::simd::encode::offset_alphabet::{OffsetAlphabet, offset_symbols_64};
+use crate::simd::padded_load::load_padded;
 use data_encoding_meaning::encoding::BitOrder;
 use std::simd::prelude::*;
 
@@ -116,7 +118,15 @@ fn store_sixteen(lanes: u8x64, output: &mut [u8])
     requires exact { length output.old ≡ 16 }
     ensures { output.new ≡ take 16 lanes }
 {
-    lanes.extract::<0, 16>().copy_to_slice(output);
+    first_sixteen(lanes).copy_to_slice(output);
+}
+
+/// Returns the first sixteen lanes.
+#[inline(always)]
+fn first_sixteen(lanes: u8x64) -> u8x16
+    ensures { result ≡ take 16 lanes }
+{
+    lanes.extract::<0, 16>()
 }
 
 /// A way to look up the symbols of values.
@@ -175,40 +185,34 @@ pub fn encode_eight<S: SymbolLookUp, G: GroupSize>(
     store::<G>(look_up.symbols_of::<G>(symbols, values), output);
 }
 
-/// Writes the text of the whole groups of the first twelve bytes: four groups of three bytes, or
-/// two of five.
-///
-/// Loads sixteen bytes.
+/// Writes the text of data of at most sixteen symbols.
 #[inline(always)]
-pub fn encode_few<G: GroupSize>(
+pub fn encode_sixteen<G: GroupSize>(
     symbols: &[u8; 256],
     order: BitOrder,
     input: &[u8],
     output: &mut [u8],
 )
-    requires several { 1 < G.BYTES }
-    requires bytes { 16 ≤ length input.now }
-    requires exact { length output.old ≡ 12 / G.BYTES * G.SYMBOLS }
-    ensures { IsTextBy symbols.now G.WIDTH order (take (12 / G.BYTES * G.BYTES) input.now)
-        output.new }
+    requires few { 8 * length input.now ≤ 16 * G.WIDTH }
+    requires exact { length output.old ≡ (8 * length input.now + (G.WIDTH - 1)) / G.WIDTH }
+    ensures { IsTextBy symbols.now G.WIDTH order input.now output.new }
 {
-    let values = few_digits::<G>(order, input);
-    let lanes = look_up::<G>(symbols, values);
-    if G::WIDTH == 3 {
-        store_thirty_two(lanes, output);
-    } else {
-        store_sixteen(lanes, output);
+    if input.is_empty() {
+        return;
     }
+    let bytes = load_padded(input).to_array();
+    let values = digits_of_sixteen::<G>(order, &bytes);
+    let text = first_sixteen(look_up::<G>(symbols, values)).to_array();
+    copy_short(&text[..output.len()], output);
 }
 
-/// Returns the digits of these groups, one after another, repeated up to 64.
+/// Returns the first sixteen digits of the groups, one after another, and others after them.
 #[inline(always)]
-fn few_digits<G: GroupSize>(order: BitOrder, input: &[u8]) -> u8x64
-    requires several { 1 < G.BYTES }
+fn digits_of_sixteen<G: GroupSize>(order: BitOrder, input: &[u8]) -> u8x64
     requires bytes { 16 ≤ length input.now }
-    ensures digits { take (12 / G.BYTES * G.SYMBOLS) result
+    ensures digits { take 16 result
         ≡ flat_map (digits_of order G.WIDTH G.SYMBOLS)
-        (group_words order G.BYTES (12 / G.BYTES) input.now) }
+        (group_words order G.BYTES (16 / G.SYMBOLS) input.now) }
     ensures below { AllByRecursion (λ digit. digit < 2 ^ G.WIDTH) result }
 {
     let width = G::WIDTH;
@@ -218,5 +222,8 @@ fn few_digits<G: GroupSize>(order: BitOrder, input: &[u8]) -> u8x64
     if width == 5 {
         return digits_of_two(order, input);
     }
-    digits_of_four(order, input)
+    if width == 6 {
+        return digits_of_four(order, input);
+    }
+    digits_of_eight::<G>(order, input)
 }

@@ -1,14 +1,12 @@
 use Rattle.std.proofs.Common.{sym, ap, ◌∙◌, arith, length, length-take-le}
-use Rattle.std.proofs.lemmas.Simd.{pick_l_left, pick_l-range_with_len, put_chunk_whole}
-use Rattle.std.specs.List.{range_with_len}
+use Rattle.std.proofs.lemmas.Simd.{put_chunk_whole}
 use Rattle.data_encoding_kernel.proofs.simd.encode.store_sixteen.Goals as goal
 
 pub returns : goal.returns
 returns c =
     let lanes = c.args.lanes in
-    let is = pick_l_left 0 lanes lanes 64 (range_with_len 0 16) c.fits-lanes.0 tt
-    ∙ pick_l-range_with_len 0 lanes 0 16 (omega (arith, c.fits-lanes.0)) in
-    put_chunk_whole c.args.output.now _
+    put_chunk_whole c.args.output.now c.first_sixteen.result
     (c.requires.exact
-    ∙ sym (ap length is ∙ length-take-le 16 lanes (omega (arith, c.fits-lanes.0))))
-    ∙ is
+    ∙ sym (ap length c.first_sixteen.ensures
+    ∙ length-take-le 16 lanes (omega (arith, c.fits-lanes.0))))
+    ∙ c.first_sixteen.ensures

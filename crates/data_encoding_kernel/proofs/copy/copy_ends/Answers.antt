@@ -2,7 +2,7 @@ use Rattle.std.proofs.Common.{◌≡◌, ℕ, ◌-◌, ◌*◌, ◌≤◌, List,
 use Rattle.std.proofs.lemmas.List.{length-drop, take_all, take-append-le, take-take}
 use Rattle.std.proofs.lemmas.Simd.{length-chunk, length-put_chunk, put_chunk_whole, take_more_put_chunk}
 use Rattle.std.specs.Simd.Lanes.{chunk, put_chunk}
-use Rattle.data_encoding.proofs.encode.lines.copy_ends.Goals as goal
+use Rattle.data_encoding_kernel.proofs.copy.copy_ends.Goals as goal
 
 -- the first n of a list are written, and then its last n, which may overlap with these
 module _ (n : ℕ) (input output : List ℕ) (enough : n ≤ length input)
