@@ -1,0 +1,60 @@
+#!/usr/bin/env bash
+# Encodes two secrets in every length under valgrind's `lackey`, and compares the instructions that
+# ran and the addresses that were read and written. They must not differ: then neither branches nor
+# the cache depend on the data. tests/c/constant-time.c makes the calls, whole and in pieces.
+#
+# usage: tests/constant-time.sh [LIB]: where build.sh left the library. Without a folder it is built.
+. "$(dirname "$0")/common.bash" || exit 1
+
+cc=${CC:-cc}
+for tool in valgrind nm setarch "$cc"; do
+    if ! command -v "$tool" >/dev/null; then
+        skip "instructions and addresses of calls with secrets: no $tool"
+        finish
+    fi
+done
+
+# trace NAME SEED: prints a line for each instruction, and for each address that is read or written,
+# from the first call on, where DE_CPU is NAME.
+trace() {
+    DE_CPU=$1 setarch -R valgrind --tool=lackey --trace-mem=yes --log-fd=9 "$room/calls" "$2" \
+        9>&1 >/dev/null | sed -n "/^==/d; /^ S $marker,/,\$p"
+}
+
+# differs NAME LINE: prints the call that the first LINE lines of a trace end in, and the function.
+differs() {
+    local at call
+    read -r call at < <(trace "$1" 1 | head -n "$2" | awk -v marker="$marker" '
+        $1 == "S" && index($2, marker ",") == 1 { calls++ }
+        $1 == "I" { sub(",.*", "", $2); at = $2 }
+        END { print calls + 0, at }')
+    sed -n "${call}s/^/  encoding, length, call: /p" "$room/names"
+    nm "$room/calls" | sort | awk -v at="$at" '
+        { address = substr("0000000000000000" $1, length($1) + 1) }
+        address <= substr("0000000000000000" at, length(at) + 1) { name = $3 }
+        END { print "  function: " name }'
+}
+
+# same NAME: counts a test, which passes where both secrets have one trace.
+same() {
+    local said line
+    if said=$(cmp <(trace "$1" 1) <(trace "$1" 2)); then
+        pass
+        return
+    fi
+    fail "instructions and addresses of calls with secrets, $1"
+    line=$(sed -n 's/.*line //p' <<<"$said")
+    echo "  $said"
+    [ -z "$line" ] || differs "$1" "$line"
+}
+
+find_library "$@"
+holds 'compiles' "$cc" -std=c99 -Wall -Wextra -Wpedantic -Werror -O1 -no-pie "-I$lib" \
+    tests/c/constant-time.c "$lib/libdata_encoding.a" -o "$room/calls"
+[ "$failed" = 0 ] || finish
+"$room/calls" >"$room/names"
+marker=$(nm "$room/calls" | awk '$3 == "marker" { print substr($1, 9) }')
+# The calls that any x86-64 processor runs, and those that this one does.
+same baseline
+same ""
+finish
