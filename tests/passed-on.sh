@@ -29,7 +29,7 @@ asked() {
         code "$1" '^ *let (mut )?(len|due)\b' |
             grep -E '^data_encoding/src/(encode/append|encoder|decode).rt:'
         code "$1" '^ *let (mut )?\(?(count|more|read|rest|written)\b' |
-            grep -E '^encoding_stream/src/(append|decoder).rt:'
+            grep -E '^encoding_stream/src/(append_piece|decoder).rt:'
         code "$1" 'append_chunk\(pieces, ' | grep '^encoding_stream/src/append_piece.rt:'
     } | sed -E 's/: +/:/'
 }
@@ -72,15 +72,15 @@ data_encoding_meaning/src/error.rt:DecodeFault::OutOfMemory => f.write_str(\"out
 data_encoding_meaning/src/error.rt:impl From<AllocError> for DecodeFault {
 data_encoding_meaning/src/error.rt:fn from(_error: AllocError) -> DecodeFault {
 data_encoding_meaning/src/error.rt:DecodeFault::OutOfMemory
+encoding_stream/src/error.rt:StreamFault::Read => f.write_str(\"read failed\"),
+encoding_stream/src/error.rt:StreamFault::Write => f.write_str(\"write failed\"),
+encoding_stream/src/failure_watch.rt:return Err(io::Error::from(io::ErrorKind::WriteZero));
 encoding_stream/src/stream_decoding.rt:Err(_) => return Err(StreamFault::Read),
 encoding_stream/src/stream_decoding.rt:return Err(StreamFault::Write);
 encoding_stream/src/stream_decoding.rt:return Err(StreamFault::Write);
 encoding_stream/src/stream_encoding.rt:Err(_) => return Err(StreamFault::Read),
 encoding_stream/src/stream_encoding.rt:return Err(StreamFault::Write);
-encoding_stream/src/stream_encoding.rt:Err(_) => Err(StreamFault::Write),
-encoding_stream/src/error.rt:StreamFault::Read => f.write_str(\"read failed\"),
-encoding_stream/src/error.rt:StreamFault::Write => f.write_str(\"write failed\"),
-encoding_stream/src/failure_watch.rt:return Err(io::Error::from(io::ErrorKind::WriteZero));"
+encoding_stream/src/stream_encoding.rt:Err(_) => Err(StreamFault::Write),"
 
 is 'errors that are not passed on' "$listed" "$(made crates)"
 

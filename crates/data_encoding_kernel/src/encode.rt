@@ -4,11 +4,11 @@ ghost use Rattle.std.specs.Prelude.{◌≡◌, ℕ, ◌+◌, ◌-◌, ◌*◌, �
 ghost use Rattle.data_encoding_kernel.specs.OffsetAlphabet.{has_sums};
 ghost use Rattle.data_encoding_kernel.specs.Tables.{IsTextBy};
 
+use crate::bit_order::{ConstantOrder, LeastSignificantFirst, MostSignificantFirst};
 use crate::group_size::GroupSize;
+use crate::platform::has_simd;
 use crate::simd::encode::offset_alphabet::OffsetAlphabet;
 use crate::simd::encode::{SymbolLookUp, SymbolRows, encode_eight, encode_sixteen};
-use crate::bit_order::{ConstantOrder, LeastSignificantFirst, MostSignificantFirst};
-use crate::platform::has_simd;
 use crate::symbol_table::SymbolTable;
 use crate::words::encode_group;
 use data_encoding_meaning::encoding::BitOrder;

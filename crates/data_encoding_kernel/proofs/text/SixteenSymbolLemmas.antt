@@ -1,5 +1,5 @@
 -- The text of data of at most sixteen symbols.
-use Rattle.std.proofs.Common.{◌≡◌, ℕ, zero, suc, ◌+◌, ◌-◌, ◌*◌, ◌/◌, ◌%◌, ◌<◌, ◌≤◌, List, [], ◌∷◌, ◌++◌, length, map, take, drop, replicate, refl, sym, ap, ◌∙◌, subst, arith, length-append, append_assoc}
+use Rattle.std.proofs.Common.{◌≡◌, ℕ, zero, suc, ◌+◌, ◌-◌, ◌*◌, ◌/◌, ◌%◌, ◌<◌, ◌≤◌, List, ◌∷◌, ◌++◌, length, map, take, drop, replicate, refl, sym, ap, ◌∙◌, subst, arith, length-append}
 use Rattle.std.proofs.lemmas.List.{length-map, length-replicate, replicate-append-replicate, take-map, take-take}
 use Rattle.std.proofs.lemmas.List.Concat.{flat_map-append}
 use Rattle.std.proofs.lemmas.List.Folds.{flat_map-map}
@@ -11,7 +11,7 @@ use Rattle.std.specs.List.{range_with_len}
 use Rattle.std.specs.Simd.{first_chunks}
 use Rattle.data_encoding_meaning.specs.declared.encoding.BitOrder.{BitOrder}
 use Rattle.data_encoding_meaning.specs.declared.encoding.BitOrder.TheVariants.{MostSignificantFirst, LeastSignificantFirst}
-use Rattle.data_encoding_meaning.specs.text.Base.{Base, symbol, IsGroup, IsWidth, group_bytes, group_symbols}
+use Rattle.data_encoding_meaning.specs.text.Base.{Base, symbol, IsGroup, group_bytes, group_symbols}
 use Rattle.data_encoding_meaning.specs.text.Bits.{bits_of, number_of, bits_of_bytes, missing, runs}
 use Rattle.data_encoding_meaning.specs.text.Text.{filled_with, plain_text}
 use Rattle.data_encoding_meaning.proofs.digits.WidthLemmas.{by_width}
@@ -63,7 +63,8 @@ module _ (order : BitOrder) (input found : List ℕ) {width bytes symbols : ℕ}
       ≡ flat_map (digits_of order width symbols) (group_words order bytes (16 / symbols) input)
   sixteen-front m few are =
       let n = 16 / symbols in
-      let piece : ℕ → List ℕ = λ k. digits_of order width symbols (group_word order bytes input k) in
+      let piece : ℕ → List ℕ =
+      λ k. digits_of order width symbols (group_word order bytes input k) in
       let long : (k : ℕ) → length (piece k) ≡ symbols =
       λ k. length-map (range_with_len 0 symbols)
       (digit order width symbols (group_word order bytes input k))
@@ -71,9 +72,12 @@ module _ (order : BitOrder) (input found : List ℕ) {width bytes symbols : ℕ}
       let within : n * symbols ≤ m * symbols = mul-le-mul_right symbols few in
       ap (λ k. take k found) (sym (sixteen-symbols group))
       ∙ sym (take-take (n * symbols) (m * symbols) found within)
-      ∙ ap (take (n * symbols)) (are ∙ flat_map-map (digits_of order width symbols) (group_word order bytes input) (range_with_len 0 m))
+      ∙ ap (take (n * symbols))
+      (are ∙ flat_map-map (digits_of order width symbols) (group_word order bytes input)
+      (range_with_len 0 m))
       ∙ pieces-front piece symbols n m 0 long few
-      ∙ sym (flat_map-map (digits_of order width symbols) (group_word order bytes input) (range_with_len 0 n))
+      ∙ sym (flat_map-map (digits_of order width symbols) (group_word order bytes input)
+      (range_with_len 0 n))
 
   pub eight-front : take (8 * symbols) found
       ≡ flat_map (digits_of order width symbols) (group_words order bytes 8 input)
@@ -89,7 +93,8 @@ module _ (order : BitOrder) (input found : List ℕ) {width bytes symbols : ℕ}
       ≡ flat_map (digits_of order width symbols) (group_words order bytes (16 / symbols) input)
   width-front w m is few are =
       let Found : ℕ → Type 0 = λ v. take (m * group_symbols v) found
-      ≡ flat_map (digits_of order v (group_symbols v)) (group_words order (group_bytes v) m input) in
+      ≡ flat_map (digits_of order v (group_symbols v))
+      (group_words order (group_bytes v) m input) in
       let Few : ℕ → Type 0 = λ v. 16 / group_symbols v ≤ m in
       sixteen-front m (rw group.has_symbols (subst Few is few))
       (rw (group.has_symbols, group.has_bytes) (subst Found is are))
@@ -155,7 +160,8 @@ text-front base input zeros count some whole =
     ap (λ k. k % width) (len ∙ mul_comm count width) ∙ mul-mod_right width count in
     let runs-are : run_count width (length all) ≡ count =
     ap (run_count width) len ∙ run_count-whole width count some in
-    let most : n ≤ count = run_count-few width (8 * length input) count some (omega (arith, whole)) in
+    let most : n ≤ count =
+    run_count-few width (8 * length input) count some (omega (arith, whole)) in
     let filled : length bits + extra ≡ width * n =
     filled_count width (length bits) some
     ∙ ap (λ k. width * run_count width k) long in

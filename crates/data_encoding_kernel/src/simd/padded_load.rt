@@ -59,7 +59,9 @@ fn number_of_four(input: &[u8]) -> u64
     ensures number { result ≡ number_l 256 input.now }
     ensures fits { result < 2 ^ 32 }
 {
-    u32x1::from_le_bytes(u8x4::from_slice(input)).cast::<u64>().to_array()[0]
+    u32x1::from_le_bytes(u8x4::from_slice(input))
+        .cast::<u64>()
+        .to_array()[0]
 }
 
 /// Returns eight bytes as a number, the first byte the lowest.

@@ -6,11 +6,11 @@ ghost use Rattle.data_encoding_meaning.specs.text.Base.{IsWidth, group_bytes, gr
 ghost use Rattle.data_encoding_kernel.specs.Lanes.{group_words, digits_of, spread_word, halved_lane};
 
 use crate::group_size::GroupSize;
-use crate::simd::encode::groups::{eight_fives, eight_ones, eight_threes, four_threes, two_fives};
 use crate::simd::encode::digit_pairs::{
     five_bit_digits_of_eight, five_bit_digits_of_two, six_bit_digits_of_eight,
     six_bit_digits_of_four,
 };
+use crate::simd::encode::groups::{eight_fives, eight_ones, eight_threes, four_threes, two_fives};
 use data_encoding_meaning::encoding::BitOrder;
 use std::simd::prelude::*;
 

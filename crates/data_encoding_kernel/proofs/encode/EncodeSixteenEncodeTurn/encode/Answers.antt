@@ -1,4 +1,4 @@
-use Rattle.std.proofs.Common.{◌≡◌, ◌+◌, ◌-◌, ◌*◌, ◌/◌, ◌≤◌, length, sym, ap, ◌∙◌, arith}
+use Rattle.std.proofs.Common.{◌≡◌, ◌*◌, length, sym, ap, ◌∙◌, arith}
 use Rattle.data_encoding_meaning.proofs.lists.RunLemmas.{run_count, run_count-whole}
 use Rattle.data_encoding_kernel.proofs.decoding.GroupRunLemmas.{sixteen-symbols}
 use Rattle.data_encoding_kernel.proofs.text.SixteenSymbolLemmas.{sixteen-bytes}

@@ -1,4 +1,4 @@
-use Rattle.std.proofs.Common.{◌*◌, ◌≤◌, length, arith}
+use Rattle.std.proofs.Common.{arith}
 use Rattle.data_encoding_kernel.proofs.text.SixteenSymbolLemmas.{sixteen-bytes}
 use Rattle.data_encoding_kernel.proofs.encode.EncodeSixteenEncodeTurn.encode_rest.Goals as goal
 

@@ -10,8 +10,9 @@ below-found found w width is = subst (λ v. AllByRecursion (λ digit. digit < 2 
 
 pub returns-then-width-eq3-clause-digits : goal.returns-then-width-eq3-clause-digits
 returns-then-width-eq3-clause-digits g c =
-    width-front c.args.order c.args.input.now c.octal_digits_of_four.result g.G.GroupSize.is_group 3 4
-    (sym c.if-width-eq3.true ∙ c.WIDTH-width.ensures) (omega arith) c.octal_digits_of_four.ensures.digits
+    width-front c.args.order c.args.input.now c.octal_digits_of_four.result g.G.GroupSize.is_group 3
+    4 (sym c.if-width-eq3.true ∙ c.WIDTH-width.ensures) (omega arith)
+    c.octal_digits_of_four.ensures.digits
 
 pub returns-then-width-eq3-clause-below : goal.returns-then-width-eq3-clause-below
 returns-then-width-eq3-clause-below g c =

@@ -1,4 +1,4 @@
-use Rattle.std.proofs.Common.{◌≡◌, ℕ, ◌+◌, ◌-◌, ◌*◌, ◌/◌, ◌≤◌, List, [], ◌++◌, length, map, take, replicate, slice_index, sym, ap, ◌∙◌, arith, length-append}
+use Rattle.std.proofs.Common.{◌≡◌, ℕ, ◌+◌, ◌-◌, ◌*◌, ◌/◌, ◌++◌, length, map, take, replicate, slice_index, sym, ap, ◌∙◌, arith, length-append}
 use Rattle.std.proofs.lemmas.Bool.{eqb-true}
 use Rattle.std.proofs.lemmas.List.{length-replicate, nil_from_length, take-map}
 use Rattle.data_encoding_meaning.specs.text.Text.{plain_text}
@@ -13,14 +13,20 @@ returns-then-is_empty g c base writes =
     let input = c.args.input.now in
     let width = g.G.GroupSize.WIDTH in
     let none : length input ≡ 0 = eqb-true (length input) 0 (sym c.if-is_empty.ensures) in
-    let few = run_count-few width (8 * length input) 0 g.G.GroupSize.is_group.is_width.some (omega arith) in
+    let few = run_count-few width (8 * length input) 0 g.G.GroupSize.is_group.is_width.some
+    (omega arith) in
     nil_from_length c.args.output.now (omega (arith, c.requires.exact, few))
     ∙ sym (ap (plain_text base) (nil_from_length input none)
     ∙ plain_text-nil base writes.holds.is_width.some)
 
 pub slice_bounds-text-end : goal.slice_bounds-text-end
 slice_bounds-text-end g c =
-    omega (arith, c.requires.exact, run_count-few g.G.GroupSize.WIDTH (8 * length c.args.input.now) 16 g.G.GroupSize.is_group.is_width.some c.requires.few)
+    omega (
+      arith,
+      c.requires.exact,
+      run_count-few g.G.GroupSize.WIDTH (8 * length c.args.input.now) 16
+          g.G.GroupSize.is_group.is_width.some c.requires.few,
+    )
 
 pub returns : goal.returns
 returns g c base writes =
@@ -37,9 +43,11 @@ returns g c base writes =
     ap length c.load_padded.ensures
     ∙ length-append input (replicate (16 - n) 0)
     ∙ omega (arith, length-replicate {A = ℕ} (16 - n) 0, c.requires.few, group.is_width.few) in
-    let front : take (16 / g.G.GroupSize.SYMBOLS * bytes) padded ≡ input ++ replicate (2 * width - n) 0 =
+    let front : take (16 / g.G.GroupSize.SYMBOLS * bytes) padded
+    ≡ input ++ replicate (2 * width - n) 0 =
     (λ i. take (sixteen-bytes group i) (c.load_padded.ensures i))
-    ∙ padded-front input (2 * width) 16 (omega (arith, c.requires.few)) (omega (arith, group.is_width.few)) in
+    ∙ padded-front input (2 * width) 16 (omega (arith, c.requires.few))
+    (omega (arith, group.is_width.few)) in
     let whole : 8 * (n + (2 * width - n)) ≡ 16 * base.width =
     omega (arith, c.requires.few, writes.width_is) in
     c.copy_short.ensures

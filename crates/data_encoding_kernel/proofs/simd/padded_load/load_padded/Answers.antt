@@ -1,4 +1,4 @@
-use Rattle.std.proofs.Common.{◌≡◌, ℕ, ◌+◌, ◌-◌, ◌*◌, ◌/◌, ◌%◌, ◌^◌, ◌<◌, ◌≤◌, length, take, drop, slice_index, sym, ap, ◌∙◌, arith}
+use Rattle.std.proofs.Common.{◌≡◌, ℕ, ◌+◌, ◌-◌, ◌*◌, ◌/◌, ◌^◌, ◌<◌, length, drop, slice_index, sym, ap, ◌∙◌, arith}
 use Rattle.std.proofs.lemmas.List.{length-drop, take_all}
 use Rattle.std.specs.Simd.Lanes.{number_l, digits_l}
 use Rattle.data_encoding_kernel.proofs.digits.FrontWordLemmas.{power-power}
@@ -26,14 +26,16 @@ returns c =
     let is : c.number_of_eight.result ≡ number_l 256 last =
     c.number_of_eight.ensures
     ∙ ap (number_l 256) (take_all (n - (n - 8)) last (omega (arith, length-drop (n - 8) input))) in
-    let shifted : c.number_of_eight.result / 2 ^ (8 * (16 - n)) ≡ number_l 256 last / 256 ^ (16 - n) =
+    let shifted : c.number_of_eight.result / 2 ^ (8 * (16 - n))
+    ≡ number_l 256 last / 256 ^ (16 - n) =
     (λ i. is i / sym (power-power 2 8 (16 - n)) i) in
     let whole : c.number_of_eight-low.result
     + 18446744073709551616 * (c.number_of_eight.result / 2 ^ (8 * (16 - n)) + 0)
     ≡ number_l 256 input =
     ap (λ m. c.number_of_eight-low.result + 18446744073709551616 * m) (omega arith)
     ∙ (λ i. c.number_of_eight-low.ensures i + 18446744073709551616 * shifted i)
-    ∙ number-joined 8 input small (omega (arith, c.if-len-le8.false)) (omega (arith, c.requires.few)) in
+    ∙ number-joined 8 input small (omega (arith, c.if-len-le8.false))
+    (omega (arith, c.requires.few)) in
     ap (digits_l 256 16) whole
     ∙ ap (λ m. digits_l 256 m (number_l 256 input)) all
     ∙ digits-padded (16 - n) input small

@@ -1,4 +1,4 @@
-use Rattle.std.proofs.Common.{◌≡◌, ℕ, ◌+◌, ◌-◌, ◌*◌, ◌/◌, ◌%◌, ◌^◌, ◌<◌, ◌≤◌, length, take, drop, sym, ap, ◌∙◌, arith}
+use Rattle.std.proofs.Common.{◌≡◌, ◌+◌, ◌-◌, ◌*◌, ◌/◌, ◌%◌, ◌^◌, ◌≤◌, length, take, drop, sym, ap, ◌∙◌, arith}
 use Rattle.std.proofs.Math.Nat.{div-le_self, mod-eq_of_lt, mul_comm}
 use Rattle.std.specs.Simd.Lanes.{number_l}
 use Rattle.std.proofs.lemmas.List.{length-drop, take_all}
@@ -23,7 +23,8 @@ returns c =
     (λ i. is i / sym (power-power 2 8 (8 - n)) i) in
     record {
       number = (λ i. c.number_of_four-low.ensures.number i + whole i)
-          ∙ ap (λ m. number_l 256 (take 4 input) + m) (mul_comm rest 4294967296 ∙ ap (λ m. 4294967296 * m) shifted)
+          ∙ ap (λ m. number_l 256 (take 4 input) + m)
+          (mul_comm rest 4294967296 ∙ ap (λ m. 4294967296 * m) shifted)
           ∙ number-joined 4 input (λ k. (c.type_inv.input k).fits) c.if-len-lt4.false
           (omega (arith, c.requires.few));
     }

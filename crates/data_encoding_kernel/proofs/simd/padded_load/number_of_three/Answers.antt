@@ -1,4 +1,4 @@
-use Rattle.std.proofs.Common.{◌≡◌, ℕ, suc, ◌+◌, ◌*◌, ◌%◌, ◌^◌, ◌<◌, ◌≤◌, length, take, slice_index, sym, ap, ◌∙◌, arith}
+use Rattle.std.proofs.Common.{◌≡◌, suc, ◌+◌, ◌*◌, ◌%◌, ◌^◌, ◌<◌, ◌≤◌, length, take, slice_index, sym, ap, ◌∙◌, arith}
 use Rattle.std.proofs.Math.Nat.{mul_comm, mul-le-mul_left, pow-succ'}
 use Rattle.std.specs.Simd.Lanes.{number_l}
 use Rattle.data_encoding_kernel.proofs.digits.FrontWordLemmas.{power-power}
@@ -18,12 +18,20 @@ loop-index-preserved c =
     shifted-whole byte (8 * index) below (omega arith)
     ∙ ap (λ p. byte * p) (sym (power-power 2 8 index))
     ∙ mul_comm byte (256 ^ index) in
-    let more : 256 ^ index * byte ≤ 256 ^ index * 255 = mul-le-mul_left (256 ^ index) (omega arith) in
+    let more : 256 ^ index * byte ≤ 256 ^ index * 255 =
+    mul-le-mul_left (256 ^ index) (omega arith) in
     let next : suc index ≡ index + 1 = omega arith in
     record {
       so_far = (λ i. c.loop-index.invariant.so_far i + whole i)
           ∙ sym (number-more index input inside)
           ∙ ap (λ n. number_l 256 (take n input)) next;
       within = omega (arith, inside);
-      small = omega (arith, whole, more, c.loop-index.invariant.small, pow-succ' 256 index, ap (λ n. 256 ^ n) next);
+      small = omega (
+        arith,
+        whole,
+        more,
+        c.loop-index.invariant.small,
+        pow-succ' 256 index,
+        ap (λ n. 256 ^ n) next,
+      );
     }
