@@ -24,9 +24,8 @@ pub use encoding::plain_encoding::PlainEncoding;
 pub use encoding::{BitOrder, Character, Encoding, EncodingRef};
 pub use error::{DecodeError, DecodeFault, DecodeKind, DecodePartial};
 pub use specification as spec;
-pub use specification::meanings::Refusal;
-pub use specification::specification_bytes::SpecificationBytes;
 pub use specification::borrowed_specification::SpecificationParts;
+pub use specification::meanings::Refusal;
 pub use specification::predefined::{
     base32, base32_dnscurve, base32_dnscurve_ref, base32_dnssec, base32_dnssec_ref, base32_nopad,
     base32_nopad_nocase, base32_nopad_nocase_ref, base32_nopad_ref, base32_nopad_visual,
@@ -37,5 +36,6 @@ pub use specification::predefined::{
     hexlower_ref, hexupper, hexupper_permissive, hexupper_permissive_ref, hexupper_ref, predefined,
     predefined_name, predefined_names, predefined_number, predefined_numbered,
 };
+pub use specification::specification_bytes::SpecificationBytes;
 pub use specification::{Specification, SpecificationError, Translate, Wrap};
 pub use write::Display;

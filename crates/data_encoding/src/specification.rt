@@ -19,9 +19,9 @@ ghost use Rattle.data_encoding.specs.Tables.{HasTables};
 ghost use Rattle.data_encoding.specs.Specification.{specified, no_fields, refusal_of, SameTranslate, SameWrap};
 
 use crate::encoding::{ASCII, BitOrder, Encoding, EncodingRef};
-use crate::specification::meanings::Refusal;
 use crate::specification::borrowed_specification::SpecificationParts;
 use crate::specification::from_tables::{Tables, alphabet_len, character};
+use crate::specification::meanings::Refusal;
 use std::alloc::{AllocError, Global};
 use std::error::Error;
 use std::fmt;

@@ -5,11 +5,11 @@ ghost use Rattle.data_encoding_kernel.specs.Runs.{IsLongestBy, IsRunBy};
 
 mod iterations;
 
+use crate::bit_order::ConstantOrder;
 use crate::decode::iterations::{DecodeEight, DecodeSixteen, DecodeTurn};
 use crate::group_size::GroupSize;
-use crate::simd::decode::look_up::LookUp;
-use crate::bit_order::ConstantOrder;
 use crate::platform::has_simd;
+use crate::simd::decode::look_up::LookUp;
 use crate::words::{decode_symbols, entry_of};
 use data_encoding_meaning::encoding::BitOrder;
 

@@ -10,8 +10,8 @@ ghost use Rattle.encoding_stream.specs.Watch.{has_failed, inner_of, seen};
 
 use crate::buffer_decoder::BufferDecoder;
 use crate::error::StreamFault;
-use crate::fill::fill;
 use crate::failure_watch::Watch;
+use crate::fill::fill;
 use data_encoding::{DECODE_LIMIT, DecodeError, Encoding};
 use std::io::{Read, Write};
 

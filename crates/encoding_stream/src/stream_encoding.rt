@@ -7,8 +7,8 @@ ghost use Rattle.encoding_stream.specs.Encoded.{EncodesAll, EncodesFront, ReadsM
 ghost use Rattle.encoding_stream.specs.Watch.{AppendsFront, has_failed, inner_of, seen};
 
 use crate::error::StreamFault;
-use crate::fill::fill;
 use crate::failure_watch::Watch;
+use crate::fill::fill;
 use data_encoding::laws::join_encode;
 use data_encoding::{DecodeError, ENCODE_LIMIT, Encoding};
 use std::io;

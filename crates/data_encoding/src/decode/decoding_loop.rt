@@ -12,10 +12,10 @@ use crate::decode::groups::Entries;
 use crate::decode::next_group::{ignored_front, starts_whole};
 use crate::encoding::{EncodingRef, IGNORED};
 use crate::error::DecodeKind;
-use data_encoding_kernel::group_size::GroupSize;
-use data_encoding_kernel::simd::decode::look_up::LookUp;
 use data_encoding_kernel::bit_order::ConstantOrder;
+use data_encoding_kernel::group_size::GroupSize;
 use data_encoding_kernel::platform::has_simd;
+use data_encoding_kernel::simd::decode::look_up::LookUp;
 use data_encoding_kernel::words::entry_of;
 
 /// How far a text was read and its output written, and how many ignored bytes follow.

@@ -6,17 +6,17 @@ ghost use Rattle.data_encoding.specs.Progress.{HasExactOutput, HasReached, IsCod
 ghost use Rattle.data_encoding.specs.Steps.{HasEnded};
 
 use crate::decode::Stop;
+use crate::decode::decoding_loop::{Progress, Step};
 use crate::decode::groups::Entries;
 use crate::decode::next_group::ignored_front;
-use crate::decode::decoding_loop::{Progress, Step};
 use crate::encoding::{BitOrder, EncodingRef};
+use data_encoding_kernel::bit_order::{ConstantOrder, LeastSignificantFirst, MostSignificantFirst};
 use data_encoding_kernel::call_by_width;
 use data_encoding_kernel::decode::decode_run;
 use data_encoding_kernel::group_size::GroupSize;
 use data_encoding_kernel::simd::decode::affine::Affine;
 use data_encoding_kernel::simd::decode::look_up::LookUp;
 use data_encoding_kernel::simd::decode::table_rows::Rows;
-use data_encoding_kernel::bit_order::{ConstantOrder, LeastSignificantFirst, MostSignificantFirst};
 
 impl EncodingRef<'_> {
     /// Decodes a text up to its first fault, and returns whether it has none.

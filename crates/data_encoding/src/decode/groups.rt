@@ -6,10 +6,10 @@ ghost use Rattle.data_encoding.specs.Progress.{IsCodedIn, ReadsBy};
 ghost use Rattle.data_encoding_meaning.specs.text.Base.{Base};
 
 use crate::encoding::{EncodingRef, PADDING};
+use data_encoding_kernel::bit_order::ConstantOrder;
 use data_encoding_kernel::decode::{decode_iterations, decode_run_within};
 use data_encoding_kernel::group_size::GroupSize;
 use data_encoding_kernel::simd::decode::look_up::LookUp;
-use data_encoding_kernel::bit_order::ConstantOrder;
 use data_encoding_kernel::words::entry_of;
 
 /// The entries of all bytes, and the look-up that has them in SIMD vectors.

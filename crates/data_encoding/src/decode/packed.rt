@@ -8,13 +8,13 @@ ghost use Rattle.data_encoding_kernel.specs.Tables.{HoldsValues};
 ghost use Rattle.data_encoding.specs.Groups.{EndsBefore};
 ghost use Rattle.data_encoding.specs.Progress.{GoesOn, HasReached, IsCodedIn};
 
-use crate::decode::groups::Entries;
 use crate::decode::decoding_loop::Progress;
+use crate::decode::groups::Entries;
 use crate::encoding::{EncodingRef, IGNORED};
+use data_encoding_kernel::bit_order::ConstantOrder;
 use data_encoding_kernel::group_size::GroupSize;
 use data_encoding_kernel::ignore::{IgnoredBytes, pack};
 use data_encoding_kernel::simd::decode::look_up::LookUp;
-use data_encoding_kernel::bit_order::ConstantOrder;
 
 // The room for packed bytes. Each use of it costs about 450 instructions: with 512, a text with a
 // space after each 4 symbols takes 1.07 times the instructions. With 2,048, broken groups among

@@ -10,8 +10,8 @@ ghost use Rattle.data_encoding.specs.Specification.{fields_of_parts};
 
 use crate::encoding::plain_encoding::PlainFields;
 use crate::encoding::{BitOrder, Encoding, INVALID, copied};
-use crate::specification::meanings::{Meanings, Refusal, wraps};
 use crate::specification::borrowed_specification::SpecificationParts;
+use crate::specification::meanings::{Meanings, Refusal, wraps};
 use data_encoding_kernel::symbol_table::SymbolTable;
 use data_encoding_kernel::value_table::ValueTable;
 

@@ -9,8 +9,8 @@ ghost use Rattle.data_encoding_meaning.specs.specification.Layout.{layout, order
 
 use crate::encoding::plain_encoding::padding_of;
 use crate::encoding::{BitOrder, Encoding, EncodingRef, INVALID};
-use crate::specification::builder::build;
 use crate::specification::borrowed_specification::SpecificationParts;
+use crate::specification::builder::build;
 use crate::specification::from_tables::{Tables, alphabet_len, character};
 use arrayvec::ArrayVec;
 
