@@ -21,6 +21,7 @@ use crate::error::{DecodeError, DecodeFault, DecodeKind, DecodePartial};
 use crate::memory::zeros;
 use data_encoding_kernel::call_by_width;
 use data_encoding_kernel::group_size::GroupSize;
+use data_encoding_kernel::simd::decode::table_rows::Rows;
 use data_encoding_meaning::limits;
 use std::alloc::Global;
 
@@ -155,7 +156,8 @@ impl EncodingRef<'_> {
         if len > G::SYMBOLS {
             return None;
         }
-        match self.decode_group::<G>(self.fields.order(), &rest[..len], output) {
+        let entries = self.entries::<Rows>();
+        match self.decode_group::<Rows, G>(&entries, self.fields.order(), &rest[..len], output) {
             Ok(count) => Some(G::WIDTH * count / 8),
             Err(_) => None,
         }

@@ -159,10 +159,11 @@ impl EncodingRef<'_> {
     }
 
     /// Like [`Encoding::interpret_byte`].
+    #[inline]
     pub fn interpret_byte(&self, byte: u8) -> Character
         ensures { result ≡ meaning self.now byte }
     {
-        let entry = self.fields.values.entries[byte as usize];
+        let entry = self.fields.values.entry(byte);
         if entry < MOST_SYMBOLS {
             Character::Symbol {
                 value: entry as usize,

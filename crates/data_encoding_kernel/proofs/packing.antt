@@ -4,3 +4,4 @@ pub mod MoveLemmas
 pub mod PackLemmas
 pub mod IgnoredLemmas
 pub mod KeptLemmas
+pub mod FrontLemmas

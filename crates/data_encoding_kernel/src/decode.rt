@@ -6,11 +6,14 @@ ghost use Rattle.data_encoding_kernel.specs.Runs.{IsLongestBy, IsRunBy};
 mod iterations;
 
 use crate::bit_order::ConstantOrder;
+use crate::copy::copy_short;
 use crate::decode::iterations::{DecodeEight, DecodeSixteen, DecodeTurn};
 use crate::group_size::GroupSize;
 use crate::platform::has_simd;
 use crate::simd::decode::look_up::LookUp;
-use crate::words::{decode_symbols, entry_of};
+use crate::simd::decode::sixteen_symbols::decode_sixteen;
+use crate::simd::padded_load::load_padded;
+use crate::words::{decode_entries, entry_of};
 use data_encoding_meaning::encoding::BitOrder;
 
 /// Decodes whole groups from the start of `input` to the start of `output`, and returns their
@@ -54,7 +57,6 @@ pub fn decode_run_within<L: LookUp, O: ConstantOrder, G: GroupSize>(
     ensures longest { IsLongestBy values.now G.WIDTH O.ORDER (take len input.now) result }
     ensures within { result * G.SYMBOLS ≤ len }
 {
-    let order = O::ORDER;
     let symbols = G::SYMBOLS;
     let bytes = G::BYTES;
     let part = &input[..len];
@@ -66,12 +68,13 @@ pub fn decode_run_within<L: LookUp, O: ConstantOrder, G: GroupSize>(
     for index in first..count {
         let read = index * symbols;
         let written = index * bytes;
-        if !decode_symbols::<G>(
+        let entries = decode_entries::<G>(
             values,
-            order,
+            O::ORDER,
             &part[read..read + symbols],
             &mut output[written..written + bytes],
-        ) {
+        );
+        if entries >= 128 {
             return index;
         }
     }
@@ -80,8 +83,7 @@ pub fn decode_run_within<L: LookUp, O: ConstantOrder, G: GroupSize>(
 
 /// Decodes the groups of a run as far as iterations reach, and returns their number.
 ///
-/// Takes iterations of eight groups if `input` has enough bytes, and shorter ones otherwise. Also
-/// returns `true` if the run is known to end there.
+/// Also returns `true` if the run is known to end there.
 #[inline(always)]
 fn decode_most<L: LookUp, O: ConstantOrder, G: GroupSize>(
     values: &[u8; 256],
@@ -103,94 +105,114 @@ fn decode_most<L: LookUp, O: ConstantOrder, G: GroupSize>(
         let first = decode_whole_turns::<[u8; 256], G>(values, O::ORDER, &input[..len], output);
         return (first, false);
     }
-    let eight = 8 * G::SYMBOLS;
-    if input.len() < eight {
-        let first = decode_sixteen_symbols::<L, O, G>(values, look_up, &input[..len], output);
-        return (first, false);
-    }
-    let count = count_turns::<G>(input.len(), len, output.len());
-    let at = decode_simd::<L, O, G>(values, look_up, count, input, len, output);
+    let at = decode_simd::<L, O, G>(look_up, input, len, output);
     let first = at / G::SYMBOLS;
-    if at == len {
+    if first == len / G::SYMBOLS {
         return (first, true);
     }
-    if entry_of(values, input[at]) >= 128 {
-        return (first, true);
-    }
-    (first, false)
+    // The look-up found no symbol here, so the table may be read.
+    (first, entry_of(values, input[at]) >= 128)
 }
 
-/// Decodes 16 symbols per iteration, and returns the number of groups.
+/// Decodes with SIMD up to the first byte that is not a symbol, and returns the number of bytes
+/// read.
 ///
-/// Decodes nothing if the 16th byte is padding or another byte that is not a symbol.
+/// The whole groups among them are decoded. Stops before a last group that is not whole.
 #[inline(always)]
-fn decode_sixteen_symbols<L: LookUp, O: ConstantOrder, G: GroupSize>(
-    values: &[u8; 256],
-    look_up: &L,
-    input: &[u8],
-    output: &mut [u8],
-) -> usize
-    requires held { L.holds values.now look_up.now }
-    requires room { length input.now / G.SYMBOLS * G.BYTES ≤ length output.old }
-    ensures run { IsRunBy values.now G.WIDTH O.ORDER input.now result output.old output.new }
-    ensures within { result ≤ length input.now / G.SYMBOLS }
-{
-    if input.len() < 16 || entry_of(values, input[15]) >= 128 {
-        return 0;
-    }
-    decode_whole_turns::<DecodeSixteen<L>, G>(
-        &DecodeSixteen { look_up: *look_up },
-        O::ORDER,
-        input,
-        output,
-    )
-}
-
-/// Decodes with SIMD: `count` iterations of eight groups, and then 16 symbols per iteration.
-///
-/// Returns the number of bytes read. The whole groups among them are decoded.
-// Not inlined, so that shorter texts do not pay for the stack that lanes take.
-#[inline(never)]
 fn decode_simd<L: LookUp, O: ConstantOrder, G: GroupSize>(
-    values: &[u8; 256],
     look_up: &L,
-    count: usize,
     input: &[u8],
     len: usize,
     output: &mut [u8],
 ) -> usize
-    requires held { L.holds values.now look_up.now }
     requires few { len ≤ length input.now }
     requires room { len / G.SYMBOLS * G.BYTES ≤ length output.old }
-    requires symbols { count * 8 * G.SYMBOLS ≤ length input.now }
-    requires bytes { count * 8 * G.BYTES ≤ length output.old }
-    ensures run { IsRunBy values.now G.WIDTH O.ORDER (take len input.now) (result / G.SYMBOLS)
-        output.old output.new }
+    ensures run { (values : List ℕ) → L.holds values look_up.now
+        → IsRunBy values G.WIDTH O.ORDER (take len input.now) (result / G.SYMBOLS) output.old
+        output.new }
     ensures within { result ≤ len }
 {
-    let symbols = G::SYMBOLS;
-    let bytes = G::BYTES;
-    let at = decode_eight_groups::<L, O, G>(look_up, count, input, len, output);
-    let first = at / symbols;
-    let read = first * symbols;
-    let left = len - read;
-    // Eight groups are left only if one of them has a byte that is not a symbol. Fewer than sixteen
-    // symbols are too few for an iteration.
-    if left >= 8 * symbols || left < 16 {
-        return at;
+    if input.len() < 8 * G::SYMBOLS {
+        return decode_sixteens::<L, O, G>(look_up, &input[..len], output);
     }
-    if entry_of(values, input[at]) >= 128 {
+    decode_long::<L, O, G>(look_up, input, len, output)
+}
+
+/// Like [`decode_simd`], with iterations of eight groups first.
+// Not inlined, so that shorter texts do not pay for the stack that lanes take.
+#[inline(never)]
+fn decode_long<L: LookUp, O: ConstantOrder, G: GroupSize>(
+    look_up: &L,
+    input: &[u8],
+    len: usize,
+    output: &mut [u8],
+) -> usize
+    requires few { len ≤ length input.now }
+    requires room { len / G.SYMBOLS * G.BYTES ≤ length output.old }
+    ensures run { (values : List ℕ) → L.holds values look_up.now
+        → IsRunBy values G.WIDTH O.ORDER (take len input.now) (result / G.SYMBOLS) output.old
+        output.new }
+    ensures within { result ≤ len }
+{
+    let count = count_turns::<G>(input.len(), len, output.len());
+    let at = decode_eight_groups::<L, O, G>(look_up, count, input, len, output);
+    // An iteration stopped within, or passed the end.
+    if at != count * 8 * G::SYMBOLS {
         return at;
     }
     let part = &input[..len];
-    let written = first * bytes;
-    let more = decode_sixteen_symbols::<L, O, G>(
-        values,
-        look_up,
-        &part[read..],
-        &mut output[written..],
-    );
-    (first + more) * symbols
+    let written = at / G::SYMBOLS * G::BYTES;
+    at + decode_sixteens::<L, O, G>(look_up, &part[at..], &mut output[written..])
+}
+
+/// Decodes sixteen symbols per iteration, up to the first byte that is not a symbol, and returns
+/// the number of bytes read.
+///
+/// The whole groups among them are decoded.
+#[inline(always)]
+fn decode_sixteens<L: LookUp, O: ConstantOrder, G: GroupSize>(
+    look_up: &L,
+    input: &[u8],
+    output: &mut [u8],
+) -> usize
+    requires room { length input.now / G.SYMBOLS * G.BYTES ≤ length output.old }
+    ensures run { (values : List ℕ) → L.holds values look_up.now
+        → IsRunBy values G.WIDTH O.ORDER input.now (result / G.SYMBOLS) output.old output.new }
+    ensures within { result ≤ length input.now }
+{
+    let whole = input.len() / 16;
+    let turn = DecodeSixteen { look_up: *look_up };
+    let read = decode_turns::<DecodeSixteen<L>, G>(&turn, O::ORDER, whole, input, output);
+    if read < 16 * whole || input.len() - read < G::SYMBOLS {
+        return read;
+    }
+    let written = read / G::SYMBOLS * G::BYTES;
+    read + decode_few::<L, O, G>(look_up, &input[read..], &mut output[written..])
+}
+
+/// Decodes the groups of fewer than sixteen bytes, like [`decode_sixteens`].
+///
+/// The bytes are loaded with zeros after them, and take one iteration of sixteen symbols.
+#[inline(always)]
+fn decode_few<L: LookUp, O: ConstantOrder, G: GroupSize>(
+    look_up: &L,
+    input: &[u8],
+    output: &mut [u8],
+) -> usize
+    requires few { length input.now < 16 }
+    requires room { length input.now / G.SYMBOLS * G.BYTES ≤ length output.old }
+    ensures run { (values : List ℕ) → L.holds values look_up.now
+        → IsRunBy values G.WIDTH O.ORDER input.now (result / G.SYMBOLS) output.old output.new }
+    ensures within { result ≤ length input.now }
+{
+    let block = load_padded(input).to_array();
+    let mut bytes = [0; 16];
+    let size = 16 / G::SYMBOLS * G::BYTES;
+    let found = decode_sixteen::<L, G>(look_up, O::ORDER, &block, &mut bytes[..size]);
+    let read = found.min(input.len());
+    let written = read / G::SYMBOLS * G::BYTES;
+    copy_short(&bytes[..written], &mut output[..written]);
+    read
 }
 
 /// Decodes eight groups per iteration, up to `len` or to the first byte that is not a symbol.

@@ -1,16 +1,18 @@
 //! Packing of the bytes of a text that are not ignored, sixteen at a time.
 
-ghost use Rattle.std.specs.Prelude.{◌≡◌, ℕ, ◌+◌, ◌-◌, ◌*◌, ◌^◌, ◌<◌, ◌≤◌, ◌==◌, ◌++◌, ◌∷◌, Bool, not, List, length, map, take, drop, filter};
+ghost use Rattle.std.specs.Prelude.{◌≡◌, ℕ, ◌+◌, ◌-◌, ◌*◌, ◌^◌, ◌<◌, ◌≤◌, ◌==◌, ◌++◌, ◌∷◌, Bool, true, false, not, List, length, map, slice_index, take, drop, filter};
 ghost use Rattle.std.specs.List.{AllByRecursion, range_with_len};
 ghost use Rattle.std.specs.Simd.Lanes.{mask_l};
 ghost use Rattle.data_encoding_meaning.specs.text.Base.{Base, is_ignored, meaning};
 ghost use Rattle.data_encoding_meaning.specs.text.Grammar.{bytes_in, kept};
+ghost use Rattle.data_encoding_meaning.specs.decoding.Decoding.{IsIgnoredFront};
 ghost use Rattle.data_encoding_kernel.specs.Ignore.{HoldsIgnored, IsPacked, ignored_bit};
 ghost use Rattle.data_encoding_kernel.specs.Tables.{HoldsValues};
 
 mod moves;
 
 use crate::ignore::moves::moves;
+use crate::platform::has_simd;
 use crate::simd::decode::affine::bits;
 use crate::simd::decode::table_rows::in_row_16;
 use std::simd::prelude::*;
@@ -49,6 +51,52 @@ impl IgnoredBytes {
             → result ≡ length (kept base part.now) }
     {
         kept_mask(self, u8x16::from_slice(part)).count_ones() as usize
+    }
+
+    /// Returns `true` if `byte` is ignored. No address depends on it.
+    #[inline(always)]
+    pub fn contains(&self, byte: u8) -> bool
+        ensures { (base : Base) → HoldsIgnored base self.now
+            → result ≡ is_ignored (meaning base byte) }
+    {
+        kept_mask(self, u8x16::splat(byte)) % 2 == 0
+    }
+
+    /// Returns how many bytes are ignored before the first that is not.
+    #[inline(always)]
+    pub fn front(&self, rest: &[u8]) -> usize
+        ensures within { result ≤ length rest.now }
+        ensures front { (base : Base) → HoldsIgnored base self.now
+            → IsIgnoredFront base rest.now result }
+        ensures next { (base : Base) → HoldsIgnored base self.now → result < length rest.now
+            → is_ignored (meaning base (slice_index rest.now result)) ≡ false }
+    {
+        let count = if has_simd() { rest.len() / 16 } else { 0 };
+        for index in 0..count {
+            let start = 16 * index;
+            let mask = kept_mask(self, u8x16::from_slice(&rest[start..start + 16]));
+            if mask != 0 {
+                return start + mask.trailing_zeros() as usize;
+            }
+        }
+        let start = 16 * count;
+        start + self.front_of_few(&rest[start..])
+    }
+
+    /// Like [`front`](IgnoredBytes::front), byte by byte.
+    fn front_of_few(&self, rest: &[u8]) -> usize
+        ensures within { result ≤ length rest.now }
+        ensures ignored { (base : Base) → HoldsIgnored base self.now → (k : ℕ) → k < result
+            → is_ignored (meaning base (slice_index rest.now k)) ≡ true }
+        ensures next { (base : Base) → HoldsIgnored base self.now → result < length rest.now
+            → is_ignored (meaning base (slice_index rest.now result)) ≡ false }
+    {
+        for index in 0..rest.len() {
+            if !self.contains(rest[index]) {
+                return index;
+            }
+        }
+        rest.len()
     }
 }
 

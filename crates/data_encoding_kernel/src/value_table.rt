@@ -1,9 +1,11 @@
 //! The table of values, and its affine form.
 
-ghost use Rattle.std.specs.Prelude.{◌≡◌, IsTrue};
+ghost use Rattle.std.specs.Prelude.{◌≡◌, slice_index, IsTrue};
 ghost use Rattle.data_encoding_kernel.specs.Affine.{HoldsAffine, agrees};
 
 use crate::simd::decode::affine::{Affine, PlainAffine, plain_affine_of};
+use crate::simd::decode::look_up::look_up_byte;
+use crate::simd::decode::table_rows::{Rows, rows_of};
 
 /// The value of each byte, and the affine form of this table.
 ///
@@ -48,5 +50,16 @@ impl ValueTable {
         ensures { HoldsAffine self.now.entries result }
     {
         self.form.form()
+    }
+    /// Returns the entry of `byte`. No address depends on a symbol.
+    #[inline]
+    pub fn entry(&self, byte: u8) -> u8
+        requires { IsTrue (agrees self.now.entries self.now.form) }
+        ensures { result ≡ slice_index self.now.entries byte }
+    {
+        if self.is_affine() {
+            return look_up_byte::<Affine>(&self.entries, &self.affine(), byte);
+        }
+        look_up_byte::<Rows>(&self.entries, &rows_of(&self.entries), byte)
     }
 }

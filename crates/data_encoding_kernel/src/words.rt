@@ -1,13 +1,18 @@
 //! A group of bytes or of symbols as bits, in one word.
 
-ghost use Rattle.std.specs.Prelude.{◌≡◌, ℕ, ◌+◌, ◌-◌, ◌*◌, ◌/◌, ◌%◌, ◌^◌, ◌<◌, ◌≤◌, ◌↔◌, length, map, slice_index, IsTrue};
+ghost use Rattle.std.specs.Prelude.{◌≡◌, ℕ, ◌+◌, ◌-◌, ◌*◌, ◌/◌, ◌%◌, ◌^◌, ◌<◌, ◌≤◌, ◌↔◌, List, length, map, slice_index};
 ghost use Rattle.std.specs.List.{range_with_len};
 ghost use Rattle.data_encoding_meaning.specs.text.Base.{Base, meaning};
 ghost use Rattle.data_encoding_meaning.specs.decoding.Fault.{symbol_bytes};
-ghost use Rattle.data_encoding_kernel.specs.Tables.{IsTextBy, Reads};
+ghost use Rattle.data_encoding_kernel.specs.Tables.{AreValuesOf, IsTextBy, Reads};
+ghost use Rattle.data_encoding_kernel.specs.Values.{AreEntries};
 ghost use Rattle.data_encoding_kernel.specs.Words.{weight, digit, low_byte, word_of};
 
 use crate::group_size::GroupSize;
+use crate::platform::has_simd;
+use crate::simd::compare::count_below;
+use crate::simd::decode::look_up::LookUp;
+use crate::simd::padded_load::load_padded;
 use data_encoding_meaning::encoding::BitOrder;
 
 /// Returns the number of bits of a word below the digit at `index`, of `count` digits of `size`
@@ -156,55 +161,76 @@ pub fn decode_entries<G: GroupSize>(
     entries
 }
 
-/// Writes the bytes of a group of symbols, which may be shorter, and returns `true`.
+/// Returns the entries of a group, and the number of symbols at its start.
 ///
-/// The bits after the last whole byte are dropped. Returns `false` if a byte of `input` is not a
-/// symbol. The output is then unspecified.
-// Inlined, with the order as a constant, so that every shift is by a constant.
+/// No address depends on a symbol: the table is read at the byte after these symbols only.
 #[inline(always)]
-pub fn decode_symbols<G: GroupSize>(
-    values: &[u8; 256],
-    order: BitOrder,
-    input: &[u8],
-    output: &mut [u8],
-) -> bool
-    requires few { length input.now ≤ G.SYMBOLS }
-    requires exact { length output.old ≡ G.WIDTH * length input.now / 8 }
-    ensures symbols { IsTrue result ↔ ((k : ℕ) → k < length input.now
-        → slice_index values.now (slice_index input.now k) < 128) }
-    ensures bytes { (base : Base) → Reads base values.now G.WIDTH order → IsTrue result
-        → output.new ≡ symbol_bytes base (map (meaning base) input.now) }
+pub fn look_up_group<L: LookUp>(values: &[u8; 256], look_up: &L, group: &[u8]) -> ([u8; 16], usize)
+    requires held { L.holds values.now look_up.now }
+    requires few { length group.now ≤ 16 }
+    ensures within { result.1 ≤ length group.now }
+    ensures entries { AreEntries values.now group.now result.0 }
+    ensures symbols { (k : ℕ) → k < result.1 → slice_index result.0 k < 128 }
+    ensures there { result.1 < length group.now
+        → 128 ≤ slice_index values.now (slice_index group.now result.1) }
 {
-    let entries = match order {
-        BitOrder::MostSignificantFirst => decode_entries::<G>(
-            values,
-            BitOrder::MostSignificantFirst,
-            input,
-            output,
-        ),
-        BitOrder::LeastSignificantFirst => decode_entries::<G>(
-            values,
-            BitOrder::LeastSignificantFirst,
-            input,
-            output,
-        ),
+    let (mut entries, first) = if has_simd() {
+        look_up_front(look_up, group)
+    } else {
+        ([255; 16], 0)
     };
-    entries < 128
+    for index in first..group.len() {
+        let entry = entry_of(values, group[index]);
+        if entry >= 128 {
+            return (entries, index);
+        }
+        entries[index] = entry;
+    }
+    (entries, group.len())
 }
 
-/// Returns the index of the first byte that is not a symbol, or the length if there is none.
+/// Returns the entries that a look-up finds for a group, and the number of values at its start.
 #[inline(always)]
-pub fn symbol_position(values: &[u8; 256], input: &[u8]) -> usize
-    ensures before { (k : ℕ) → k < result
-        → slice_index values.now (slice_index input.now k) < 128 }
-    ensures inside { result ≤ length input.now }
-    ensures there { result < length input.now
-        → 128 ≤ slice_index values.now (slice_index input.now result) }
+fn look_up_front<L: LookUp>(look_up: &L, group: &[u8]) -> ([u8; 16], usize)
+    requires few { length group.now ≤ 16 }
+    ensures within { result.1 ≤ length group.now }
+    ensures entries { (values : List ℕ) → L.holds values look_up.now
+        → AreEntries values group.now result.0 }
+    ensures symbols { (k : ℕ) → k < result.1 → slice_index result.0 k < 128 }
 {
-    for index in 0..input.len() {
-        if entry_of(values, input[index]) >= 128 {
-            return index;
+    let entries = look_up.look_up_16(load_padded(group));
+    let count = count_below(128, entries);
+    (entries.to_array(), count.min(group.len()))
+}
+
+/// Returns the values of a group, which may be shorter, as a word. Missing values are zeros.
+fn word_of_values<G: GroupSize>(order: BitOrder, values: &[u8]) -> u64
+    requires few { length values.now ≤ G.SYMBOLS }
+    ensures word { ((k : ℕ) → k < length values.now → slice_index values.now k < 2 ^ G.WIDTH)
+        → result ≡ word_of order G.WIDTH G.SYMBOLS values.now }
+{
+    let width = G::WIDTH;
+    let count = G::SYMBOLS;
+    let mut word = 0;
+    for index in 0..count {
+        if index == values.len() {
+            break;
         }
+        word += (values[index] as u64) << weight_at(order, width, count, index);
     }
-    input.len()
+    word
+}
+
+/// Writes the bytes of the symbols with these values. The bits after the last whole byte are
+/// dropped.
+#[inline(always)]
+pub fn decode_values<G: GroupSize>(order: BitOrder, values: &[u8], output: &mut [u8])
+    requires few { length values.now ≤ G.SYMBOLS }
+    requires exact { length output.old ≡ G.WIDTH * length values.now / 8 }
+    ensures { (base : Base) → (table : List ℕ) → (symbols : List ℕ)
+        → Reads base table G.WIDTH order → AreValuesOf table symbols values.now
+        → output.new ≡ symbol_bytes base (map (meaning base) symbols) }
+{
+    let word = word_of_values::<G>(order, values);
+    bytes_of_word::<G>(order, word, output);
 }

@@ -1,7 +1,7 @@
 -- The results of judging a group by a table: its symbols, its fault, or its bytes.
-use Rattle.std.proofs.Common.{◌≡◌, ℕ, ◌-◌, ◌*◌, ◌/◌, ◌<◌, ◌≤◌, ◌==◌, ◌≢◌, nat_lt, Bool, true, false, not, ◌&&◌, List, ◌++◌, length, map, take, drop, replicate, slice_index, None, refl, sym, ap, ◌∙◌, arith, length-take-le, take-append-drop}
+use Rattle.std.proofs.Common.{◌≡◌, ℕ, ◌-◌, ◌*◌, ◌/◌, ◌<◌, ◌≤◌, ◌==◌, ◌≢◌, nat_lt, Bool, true, false, not, ◌&&◌, List, ◌++◌, length, map, take, drop, replicate, slice_index, None, refl, sym, ap, subst, ◌∙◌, arith, length-take-le, take-append-drop}
 use Rattle.std.proofs.lemmas.Bool.Decides.{nat_tests}
-use Rattle.std.proofs.lemmas.List.{drop_all, length-drop, length-map, take-map, take_at}
+use Rattle.std.proofs.lemmas.List.{drop_all, get_or-take, length-drop, length-map, take-map, take_at}
 use Rattle.std.proofs.lemmas.List.Folds.{list_any-append}
 use Rattle.std.specs.List.{filter_map, list_any, position}
 use Rattle.data_encoding_meaning.specs.declared.encoding.Character.{Character}
@@ -10,7 +10,8 @@ use Rattle.data_encoding_meaning.specs.declared.error.DecodeKind.TheVariants.{Sy
 use Rattle.data_encoding_meaning.specs.text.Base.{Base, meaning, is_padded, is_padding, is_symbol, value_of}
 use Rattle.data_encoding_meaning.specs.decoding.Decoding.{HasFault, HasSymbols, IsDecodedGroup}
 use Rattle.data_encoding_meaning.specs.decoding.Fault.{count_before_padding, group_fault, symbol_bytes, trailing_bits, trailing_fault}
-use Rattle.data_encoding_kernel.specs.Tables.{HoldsValues}
+use Rattle.data_encoding_kernel.specs.Tables.{AreValuesOf, HoldsValues}
+use Rattle.data_encoding_kernel.specs.Values.{AreEntries}
 use Rattle.data_encoding_meaning.proofs.lists.EndLemmas.{AllSo, count_before_end-at, count_before_end-map, end-passes}
 use Rattle.data_encoding_meaning.proofs.lists.ListLemmas.{list_any-none}
 use Rattle.data_encoding_meaning.proofs.grammar.GroupLemmas.{all_padding, any_padding, bytes_before_padding, symbols_alone}
@@ -123,4 +124,27 @@ module _ (base : Base) (values : List ℕ) (holds : HoldsValues base values) (gr
       final = has_padding;
       bytes = rw (take_at new rest (base.width * count / 8) len, bytes, later)
           (sym (bytes_before_padding base judged (length (drop count all))));
+    }
+
+-- The values of the symbols at the front of a group.
+pub values-front : (table group found : List ℕ) (front count : ℕ) → front ≤ length group
+    → front ≤ length found → AreEntries table group found
+    → ((k : ℕ) → k < front → slice_index found k < 128) → count ≤ front
+    → ((k : ℕ) → slice_index group k < 256)
+    → AreValuesOf table (take count group) (take count found)
+values-front table group found front count within few are below fewer are_bytes =
+    let symbols_len : length (take count group) ≡ count =
+    length-take-le count group (omega (arith, fewer, within)) in
+    record {
+      len = length-take-le count found (omega (arith, fewer, few)) ∙ sym symbols_len;
+      bytes = part_bytes group are_bytes count;
+      same = λ k inside.
+          let less : k < count = omega (arith, inside, symbols_len) in
+          get_or-take count found k 0 less
+          ∙ are k (omega (arith, less, fewer, within)) (below k (omega (arith, less, fewer)))
+          ∙ ap (slice_index table) (sym (get_or-take count group k 0 less));
+      below = λ k inside.
+          let less : k < count = omega (arith, inside, symbols_len) in
+          subst (λ v. v < 128) (sym (get_or-take count found k 0 less))
+          (below k (omega (arith, less, fewer)));
     }

@@ -1,12 +1,12 @@
 -- The bytes of a group: the first that is no symbol, and the trailing bits.
-use Rattle.std.proofs.Common.{◌≡◌, ℕ, ◌+◌, ◌-◌, ◌*◌, ◌/◌, ◌%◌, ◌^◌, ◌<◌, ◌≤◌, ◌==◌, Bool, true, not, ◌||◌, List, [], ◌∷◌, ◌++◌, length, map, take, drop, reverse, slice_index, Some, None, refl, sym, ap, ◌∙◌, arith, length-append, pow-add, pow_pos, div-lt_iff_lt-mul, mod-lt, mul_comm, flat_map, slice_get}
+use Rattle.std.proofs.Common.{◌≡◌, ℕ, ◌+◌, ◌-◌, ◌*◌, ◌/◌, ◌%◌, ◌^◌, ◌<◌, ◌≤◌, ◌==◌, Bool, true, not, ◌||◌, List, [], ◌∷◌, ◌++◌, length, map, take, drop, reverse, slice_index, Some, None, refl, sym, ap, subst, ◌∙◌, arith, length-append, pow-add, pow_pos, div-lt_iff_lt-mul, mod-lt, mul_comm, flat_map, slice_get}
 use Rattle.std.proofs.lemmas.Bool.Decides.{nat_tests}
 use Rattle.std.proofs.lemmas.List.{length-map, length-reverse, reverse-append, map-append, append-nil, drop_at, take_more, take_all}
 use Rattle.std.proofs.lemmas.List.Concat.{flat_map-append}
 use Rattle.std.proofs.lemmas.List.Folds.{list_any-append}
 use Rattle.std.proofs.Math.ListN.{get_or-map}
 use Rattle.std.proofs.lemmas.List.Sums.{position_or_len_is}
-use Rattle.std.proofs.lemmas.Option.{get_or_from_slice_get, slice_get_within}
+use Rattle.std.proofs.lemmas.Option.{get_or_from_slice_get, slice_get-get_or, slice_get_within}
 use Rattle.std.proofs.Math.Bool.{or-false, or_comm}
 use Rattle.std.proofs.Math.Seq.{drop-append-add}
 use Rattle.std.specs.List.{list_any, position, prefix_len}
@@ -15,7 +15,7 @@ use Rattle.data_encoding_meaning.specs.declared.encoding.BitOrder.TheVariants.{M
 use Rattle.data_encoding_meaning.specs.text.Base.{Base, meaning, is_symbol}
 use Rattle.data_encoding_meaning.specs.text.Bits.{bits_of, low_bits, number_of_low_bits}
 use Rattle.data_encoding_meaning.specs.text.Lengths.{is_valid_count}
-use Rattle.data_encoding_kernel.specs.Tables.{HoldsValues}
+use Rattle.data_encoding_kernel.specs.Tables.{AreValuesOf, HoldsValues}
 use Rattle.data_encoding_meaning.specs.decoding.Fault.{trailing_bits}
 use Rattle.data_encoding_meaning.proofs.digits.BitLemmas.{length-bits_of, length-low_bits, low_bits-add, low_bits-mod, number-low_bits}
 use Rattle.data_encoding_meaning.proofs.grammar.UnpaddedGroupLemmas.{length-bits_of_values}
@@ -146,6 +146,35 @@ pub record EndsWith (values group : List ℕ) (width last : ℕ) : Type 0 where
   pub low : (k : ℕ) → k < length group → slice_index values (slice_index group k) < 128
   pub valid : is_valid_count width (length group) ≡ true
   pub is_last : Some last ≡ slice_get group (length group - 1)
+
+-- The last of the values of symbols.
+module _ (table symbols values : List ℕ) (width value : ℕ) (are : AreValuesOf table symbols values)
+    (is_last : Some value ≡ slice_get values (length values - 1)) where
+  abbrev last_symbol : ℕ
+  last_symbol = slice_index symbols (length symbols - 1)
+
+  last-within : length symbols - 1 < length symbols
+  last-within =
+      omega (
+        arith,
+        slice_get_within values (length values - 1) value (sym is_last),
+        are.len,
+      )
+
+  pub last-value : slice_index table last_symbol ≡ value
+  last-value =
+      sym (are.same (length symbols - 1) last-within)
+      ∙ ap (λ n. slice_index values (n - 1)) (sym are.len)
+      ∙ get_or_from_slice_get values (length values - 1) value 0 (sym is_last)
+
+  pub ends-with : is_valid_count width (length values) ≡ true
+      → EndsWith table symbols width last_symbol
+  ends-with valid = record {
+    are_bytes = are.bytes;
+    low = λ k below. subst (λ v. v < 128) (are.same k below) (are.below k below);
+    valid = rw are.len at valid;
+    is_last = sym (slice_get-get_or symbols (length symbols - 1) 0 last-within);
+  }
 
 -- The last symbol has the trailing bits.
 module _ (base : Base) (width : ℕ) (values group : List ℕ) (width_is : base.width ≡ width)

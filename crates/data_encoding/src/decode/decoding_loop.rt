@@ -3,20 +3,20 @@
 ghost use Rattle.std.specs.Prelude.{◌≡◌, ℕ, List, true, false, ◌+◌, ◌<◌, ◌≤◌, length, drop, IsTrue};
 ghost use Rattle.data_encoding_meaning.specs.text.Base.{Base, ignores_some};
 ghost use Rattle.data_encoding_meaning.specs.decoding.Decoding.{HasDecodedTo, IsIgnoredFront};
-ghost use Rattle.data_encoding_kernel.specs.Tables.{HoldsValues};
-ghost use Rattle.data_encoding.specs.Progress.{GoesOn, HasExactOutput, HasReached, IsCodedIn, ReadsBy};
+ghost use Rattle.data_encoding_kernel.specs.Ignore.{HoldsIgnored};
+ghost use Rattle.data_encoding.specs.Progress.{GoesOn, HasExactOutput, HasReached, ReadsBy};
 ghost use Rattle.data_encoding.specs.Steps.{HasEnded, HasStepped};
 
 use crate::decode::Stop;
 use crate::decode::groups::Entries;
-use crate::decode::next_group::{ignored_front, starts_whole};
-use crate::encoding::{EncodingRef, IGNORED};
+use crate::decode::next_group::starts_whole;
+use crate::encoding::EncodingRef;
 use crate::error::DecodeKind;
 use data_encoding_kernel::bit_order::ConstantOrder;
 use data_encoding_kernel::group_size::GroupSize;
+use data_encoding_kernel::ignore::IgnoredBytes;
 use data_encoding_kernel::platform::has_simd;
 use data_encoding_kernel::simd::decode::look_up::LookUp;
-use data_encoding_kernel::words::entry_of;
 
 /// How far a text was read and its output written, and how many ignored bytes follow.
 #[derive(Clone, Copy, Drop)]
@@ -28,17 +28,22 @@ pub(crate) struct Progress {
 
 /// Returns the progress after `read` and `written` bytes. Counts the ignored bytes that follow.
 #[inline(always)]
-pub(crate) fn progress_at(values: &[u8; 256], read: usize, written: usize, input: &[u8]) -> Progress
+pub(crate) fn progress_at(
+    ignored: &IgnoredBytes,
+    read: usize,
+    written: usize,
+    input: &[u8],
+) -> Progress
     requires within { read ≤ length input.now }
     ensures read { result.read ≡ read }
     ensures written { result.written ≡ written }
-    ensures front { (base : Base) → HoldsValues base values.now
+    ensures front { (base : Base) → HoldsIgnored base ignored.now
         → IsIgnoredFront base (drop read input.now) result.ignored }
 {
     Progress {
         read,
         written,
-        ignored: ignored_front(values, &input[read..]),
+        ignored: ignored.front(&input[read..]),
     }
 }
 
@@ -64,17 +69,17 @@ impl EncodingRef<'_> {
     #[inline(always)]
     pub(crate) fn decode_steps<L: LookUp, O: ConstantOrder, G: GroupSize>(
         &self,
-        entries: Entries<'_, L>,
+        entries: &Entries<'_, L>,
         first: Progress,
         input: &[u8],
         output: &mut [u8],
         stop: &mut Stop,
     ) -> bool
-        requires entries { ReadsBy L.holds self.now entries G.WIDTH O.ORDER }
+        requires entries { ReadsBy L.holds self.now entries.now G.WIDTH O.ORDER }
         requires first { HasReached self.now input.now first output.old }
         ensures { HasEnded self.now input.now output.new stop.new result }
     {
-        let values = entries.values;
+        let ignores = self.fields.ignores;
         let mut at = first;
         let mut len = at.read;
         while at.read + at.ignored < input.len() {
@@ -82,12 +87,14 @@ impl EncodingRef<'_> {
                 at = self.decode_lines::<L, O, G>(entries, len, at, input, output);
             } else {
                 let read = at.read;
-                if self.is_broken_next::<G>(values, at, input) {
-                    at = self.decode_packed::<L, O, G>(at, input, output);
+                if self.is_broken_next::<G>(&entries.ignored, at, input) {
+                    at = self.decode_packed::<L, O, G>(entries, at, input, output);
                 }
                 if at.read == read {
-                    match self.decode_next::<O, G>(self.fields.ignores, at, input, output, stop) {
-                        Step::More => at = progress_at(values, stop.read, stop.written, input),
+                    match self.decode_next::<L, O, G>(entries, ignores, at, input, output, stop) {
+                        Step::More => {
+                            at = progress_at(&entries.ignored, stop.read, stop.written, input);
+                        }
                         Step::Ended => return true,
                         Step::Faulty => return false,
                     }
@@ -108,34 +115,41 @@ impl EncodingRef<'_> {
     #[inline(never)]
     fn decode_lines<L: LookUp, O: ConstantOrder, G: GroupSize>(
         &self,
-        entries: Entries<'_, L>,
+        entries: &Entries<'_, L>,
         len: usize,
         at: Progress,
         input: &[u8],
         output: &mut [u8],
     ) -> Progress
-        requires entries { ReadsBy L.holds self.now entries G.WIDTH O.ORDER }
+        requires entries { ReadsBy L.holds self.now entries.now G.WIDTH O.ORDER }
         requires some { 0 < len }
         requires at { HasReached self.now input.now at output.old }
         ensures { GoesOn self.now input.now at.read result output.new }
     {
-        let values = entries.values;
         let mut at = at;
         for _ in 0..input.len() {
             let start = at.read + at.ignored;
             let rest = &input[start..];
-            if len >= rest.len() || entry_of(values, rest[len]) != IGNORED {
+            if len >= rest.len() {
+                break;
+            }
+            let ignored = entries.ignored.front(&rest[len..]);
+            if ignored == 0 {
                 break;
             }
             let found = entries.decode_line::<O, G>(rest, len, &mut output[at.written..]);
             let written = at.written + found.written;
             if found.read != len {
                 if found.read > 0 {
-                    at = progress_at(values, start + found.read, written, input);
+                    at = progress_at(&entries.ignored, start + found.read, written, input);
                 }
                 break;
             }
-            at = progress_at(values, start + len, written, input);
+            at = Progress {
+                read: start + len,
+                written,
+                ignored,
+            };
         }
         at
     }
@@ -144,12 +158,12 @@ impl EncodingRef<'_> {
     #[inline(always)]
     fn decode_in_place<L: LookUp, O: ConstantOrder, G: GroupSize>(
         &self,
-        entries: Entries<'_, L>,
+        entries: &Entries<'_, L>,
         at: Progress,
         input: &[u8],
         output: &mut [u8],
     ) -> Progress
-        requires entries { ReadsBy L.holds self.now entries G.WIDTH O.ORDER }
+        requires entries { ReadsBy L.holds self.now entries.now G.WIDTH O.ORDER }
         requires at { HasReached self.now input.now at output.old }
         ensures on { GoesOn self.now input.now at.read result output.new }
         ensures past { at.read < result.read → at.read + at.ignored < result.read }
@@ -162,34 +176,40 @@ impl EncodingRef<'_> {
             return at;
         }
         let written = at.written + found.written;
-        progress_at(entries.values, start + found.read, written, input)
+        progress_at(&entries.ignored, start + found.read, written, input)
     }
 
     /// Returns `true` if bytes before or within the next group are ignored.
     // With fewer than sixteen bytes left, groups by themselves take less time than packing.
     #[inline(always)]
-    fn is_broken_next<G: GroupSize>(&self, values: &[u8; 256], at: Progress, input: &[u8]) -> bool
+    fn is_broken_next<G: GroupSize>(
+        &self,
+        ignored: &IgnoredBytes,
+        at: Progress,
+        input: &[u8],
+    ) -> bool
         requires { at.read + at.ignored ≤ length input.now }
     {
         if !has_simd() || !self.fields.ignores {
             return false;
         }
         let rest = &input[at.read + at.ignored..];
-        rest.len() >= 16 && (at.ignored > 0 || !starts_whole::<G>(values, rest))
+        rest.len() >= 16 && (at.ignored > 0 || !starts_whole::<G>(ignored, rest))
     }
 
     /// Decodes the next group by itself.
     // The caller makes the error, since a result with room for one makes short texts slower.
     #[inline(always)]
-    pub(crate) fn decode_next<O: ConstantOrder, G: GroupSize>(
+    pub(crate) fn decode_next<L: LookUp, O: ConstantOrder, G: GroupSize>(
         &self,
+        entries: &Entries<'_, L>,
         ignores: bool,
         at: Progress,
         input: &[u8],
         output: &mut [u8],
         stop: &mut Stop,
     ) -> Step
-        requires coded { IsCodedIn self.now G.WIDTH O.ORDER }
+        requires entries { ReadsBy L.holds self.now entries.now G.WIDTH O.ORDER }
         requires ignores { ignores ≡ ignores_some self.now }
         requires at { HasReached self.now input.now at output.old }
         ensures { HasStepped self.now input.now at.read output.new stop.new result }
@@ -200,13 +220,13 @@ impl EncodingRef<'_> {
             return Step::Ended;
         }
         let mut room = [0; 8];
-        let group = self.next_group::<G>(ignores, &input[start..], &mut room);
+        let group = self.next_group::<G>(ignores, &entries.ignored, &input[start..], &mut room);
         if group.bytes.is_empty() {
             stop.written = at.written;
             return Step::Ended;
         }
         let rest = &mut output[at.written..];
-        let count = match self.decode_group::<G>(O::ORDER, group.bytes, rest) {
+        let count = match self.decode_group::<L, G>(entries, O::ORDER, group.bytes, rest) {
             Ok(count) => count,
             Err(fault) => {
                 *stop = Stop::new(at.read, at.written, fault.index, fault.kind);
@@ -235,10 +255,14 @@ impl EncodingRef<'_> {
             → HasDecodedTo self.now input.now stop.old.read stop.old.written true output
             → HasEnded self.now input.now output stop.new result }
     {
-        let mut room = [0; 8];
         let rest = &input[stop.read..];
+        if rest.is_empty() {
+            return true;
+        }
+        let ignored = IgnoredBytes::of(&self.fields.values.entries);
+        let mut room = [0; 8];
         let group = self
-            .next_group::<G>(self.fields.ignores, rest, &mut room)
+            .next_group::<G>(self.fields.ignores, &ignored, rest, &mut room)
             .bytes;
         if group.is_empty() {
             return true;

@@ -2,13 +2,12 @@
 
 ghost use Rattle.std.specs.Prelude.{◌≡◌};
 ghost use Rattle.data_encoding_meaning.specs.text.Base.{IsWidth};
-ghost use Rattle.data_encoding.specs.Progress.{HasExactOutput, HasReached, IsCodedIn};
+ghost use Rattle.data_encoding.specs.Progress.{HasExactOutput, HasReached, IsCodedIn, ReadsBy};
 ghost use Rattle.data_encoding.specs.Steps.{HasEnded};
 
 use crate::decode::Stop;
-use crate::decode::decoding_loop::{Progress, Step};
+use crate::decode::decoding_loop::{Progress, Step, progress_at};
 use crate::decode::groups::Entries;
-use crate::decode::next_group::ignored_front;
 use crate::encoding::{BitOrder, EncodingRef};
 use data_encoding_kernel::bit_order::{ConstantOrder, LeastSignificantFirst, MostSignificantFirst};
 use data_encoding_kernel::call_by_width;
@@ -90,10 +89,11 @@ impl EncodingRef<'_> {
         if self.fields.ignores {
             return self.decode_ignoring::<L, O, G>(input, output, stop);
         }
-        let at = self.decode_first_run::<L, O, G>(input, output);
-        match self.decode_next::<O, G>(false, at, input, output, stop) {
+        let entries = self.entries::<L>();
+        let at = self.decode_first_run::<L, O, G>(&entries, input, output);
+        match self.decode_next::<L, O, G>(&entries, false, at, input, output, stop) {
             Step::More if stop.read == input.len() => true,
-            Step::More => self.decode_rest::<L, O, G>(0, input, output, stop),
+            Step::More => self.decode_rest::<L, O, G>(input, output, stop),
             Step::Ended => true,
             Step::Faulty => false,
         }
@@ -113,29 +113,28 @@ impl EncodingRef<'_> {
         requires exact { HasExactOutput self.now input.now output.old }
         ensures { HasEnded self.now input.now output.new stop.new result }
     {
-        let run = self.decode_first_run::<L, O, G>(input, output);
-        let ignored = ignored_front(&self.fields.values.entries, &input[run.read..]);
+        let run = self.decode_first_run::<L, O, G>(&self.entries::<L>(), input, output);
         stop.read = run.read;
         stop.written = run.written;
-        if run.read + ignored == input.len() {
+        if run.read == input.len() {
             return true;
         }
-        self.decode_rest::<L, O, G>(ignored, input, output, stop)
+        self.decode_rest::<L, O, G>(input, output, stop)
     }
 
     /// Decodes the whole groups of symbols at the start of a text.
     #[inline(always)]
     fn decode_first_run<L: LookUp, O: ConstantOrder, G: GroupSize>(
         &self,
+        entries: &Entries<'_, L>,
         input: &[u8],
         output: &mut [u8],
     ) -> Progress
-        requires coded { IsCodedIn self.now G.WIDTH O.ORDER }
+        requires entries { ReadsBy L.holds self.now entries.now G.WIDTH O.ORDER }
         requires exact { HasExactOutput self.now input.now output.old }
         ensures { HasReached self.now input.now result output.new }
     {
-        let look_up = L::of(&self.fields.values);
-        let count = decode_run::<L, O, G>(&self.fields.values.entries, &look_up, input, output);
+        let count = decode_run::<L, O, G>(entries.values, &entries.look_up, input, output);
         Progress {
             read: count * G::SYMBOLS,
             written: count * G::BYTES,
@@ -143,12 +142,11 @@ impl EncodingRef<'_> {
         }
     }
 
-    /// Decodes the bytes of a text after those read and the ignored ones that follow them.
+    /// Decodes the bytes of a text after those read.
     // Not inlined, so that short texts do not pay for the stack of the loop.
     #[inline(never)]
     fn decode_rest<L: LookUp, O: ConstantOrder, G: GroupSize>(
         &self,
-        ignored: usize,
         input: &[u8],
         output: &mut [u8],
         stop: &mut Stop,
@@ -157,20 +155,12 @@ impl EncodingRef<'_> {
         requires at { HasReached self.now input.now (record {
           read = stop.old.read;
           written = stop.old.written;
-          ignored = ignored;
+          ignored = 0;
         }) output.old }
         ensures { HasEnded self.now input.now output.new stop.new result }
     {
-        let look_up = L::of(&self.fields.values);
-        let entries = Entries {
-            values: &self.fields.values.entries,
-            look_up: &look_up,
-        };
-        let at = Progress {
-            read: stop.read,
-            written: stop.written,
-            ignored,
-        };
-        self.decode_steps::<L, O, G>(entries, at, input, output, stop)
+        let entries = self.entries::<L>();
+        let at = progress_at(&entries.ignored, stop.read, stop.written, input);
+        self.decode_steps::<L, O, G>(&entries, at, input, output, stop)
     }
 }

@@ -1,22 +1,24 @@
 //! Decoding of consecutive whole groups, without ignored bytes.
 
-ghost use Rattle.std.specs.Prelude.{◌≡◌, true, ◌+◌, ◌*◌, ◌/◌, ◌≤◌, length, take, IsTrue};
+ghost use Rattle.std.specs.Prelude.{◌≡◌, ℕ, true, ◌+◌, ◌*◌, ◌/◌, ◌≤◌, length, take, IsTrue};
 ghost use Rattle.data_encoding.specs.Groups.{HasReadGroups};
 ghost use Rattle.data_encoding.specs.Progress.{IsCodedIn, ReadsBy};
+ghost use Rattle.data_encoding_meaning.specs.declared.encoding.BitOrder.{BitOrder};
 ghost use Rattle.data_encoding_meaning.specs.text.Base.{Base};
 
-use crate::encoding::{EncodingRef, PADDING};
+use crate::encoding::EncodingRef;
 use data_encoding_kernel::bit_order::ConstantOrder;
 use data_encoding_kernel::decode::{decode_iterations, decode_run_within};
 use data_encoding_kernel::group_size::GroupSize;
+use data_encoding_kernel::ignore::IgnoredBytes;
 use data_encoding_kernel::simd::decode::look_up::LookUp;
-use data_encoding_kernel::words::entry_of;
 
-/// The entries of all bytes, and the look-up that has them in SIMD vectors.
+/// The entries of all bytes, the look-up that has them in SIMD vectors, and the ignored bytes.
 #[derive(Clone, Copy, Drop)]
 pub(crate) struct Entries<'a, L> {
     pub(crate) values: &'a [u8; 256],
-    pub(crate) look_up: &'a L,
+    pub(crate) look_up: L,
+    pub(crate) ignored: IgnoredBytes,
 }
 
 /// How many bytes of a part were read, and how many of the output were written.
@@ -41,7 +43,7 @@ impl<L: LookUp> Entries<'_, L> {
         ensures { (base : Base) → ReadsBy L.holds base self.now G.WIDTH O.ORDER
             → HasReadGroups base (take len part.now) result output.new }
     {
-        let count = decode_iterations::<L, O, G>(self.look_up, part, len, output) / G::SYMBOLS;
+        let count = decode_iterations::<L, O, G>(&self.look_up, part, len, output) / G::SYMBOLS;
         Groups {
             read: count * G::SYMBOLS,
             written: count * G::BYTES,
@@ -50,6 +52,20 @@ impl<L: LookUp> Entries<'_, L> {
 }
 
 impl EncodingRef<'_> {
+    /// Returns the entries of the encoding.
+    #[inline(always)]
+    pub(crate) fn entries<L: LookUp>(&self) -> Entries<'_, L>
+        ensures { (width : ℕ) → (order : BitOrder) → IsCodedIn self.now width order
+            → ReadsBy L.holds self.now result width order }
+    {
+        let values = &self.fields.values;
+        Entries {
+            values: &values.entries,
+            look_up: L::of(values),
+            ignored: IgnoredBytes::of(&values.entries),
+        }
+    }
+
     /// Decodes whole groups of the first `len` bytes of `part`: groups of symbols and, if texts may
     /// be concatenated, padded ones.
     ///
@@ -58,12 +74,12 @@ impl EncodingRef<'_> {
     #[inline(always)]
     pub(crate) fn decode_groups<L: LookUp, O: ConstantOrder, G: GroupSize>(
         &self,
-        entries: Entries<'_, L>,
+        entries: &Entries<'_, L>,
         part: &[u8],
         len: usize,
         output: &mut [u8],
     ) -> Groups
-        requires entries { ReadsBy L.holds self.now entries G.WIDTH O.ORDER }
+        requires entries { ReadsBy L.holds self.now entries.now G.WIDTH O.ORDER }
         requires few { len ≤ length part.now }
         requires room { len / G.SYMBOLS * G.BYTES ≤ length output.old }
         ensures { HasReadGroups self.now (take len part.now) result output.new }
@@ -74,7 +90,7 @@ impl EncodingRef<'_> {
         };
         for _ in 0..len {
             let next = self.decode_run_at::<L, O, G>(entries, part, len, at, output);
-            at = self.decode_padded_at::<O, G>(entries.values, part, len, next, output);
+            at = self.decode_padded_at::<L, O, G>(entries, part, len, next, output);
             if at.read == next.read {
                 break;
             }
@@ -86,24 +102,24 @@ impl EncodingRef<'_> {
     #[inline(always)]
     fn decode_run_at<L: LookUp, O: ConstantOrder, G: GroupSize>(
         &self,
-        entries: Entries<'_, L>,
+        entries: &Entries<'_, L>,
         part: &[u8],
         len: usize,
         at: Groups,
         output: &mut [u8],
     ) -> Groups
-        requires entries { ReadsBy L.holds self.now entries G.WIDTH O.ORDER }
+        requires entries { ReadsBy L.holds self.now entries.now G.WIDTH O.ORDER }
         requires few { len ≤ length part.now }
         requires at { HasReadGroups self.now (take len part.now) at output.old }
         ensures on { HasReadGroups self.now (take len part.now) result output.new }
         ensures further { at.read ≤ result.read }
     {
-        if self.is_padded_at::<G>(entries.values, part, len, at.read) {
+        if self.is_padded_at::<G>(part, len, at.read) {
             return at;
         }
         let count = decode_run_within::<L, O, G>(
             entries.values,
-            entries.look_up,
+            &entries.look_up,
             &part[at.read..],
             len - at.read,
             &mut output[at.written..],
@@ -116,25 +132,26 @@ impl EncodingRef<'_> {
 
     /// Decodes the next group, if it is padded and others may follow it.
     #[inline(always)]
-    fn decode_padded_at<O: ConstantOrder, G: GroupSize>(
+    fn decode_padded_at<L: LookUp, O: ConstantOrder, G: GroupSize>(
         &self,
-        values: &[u8; 256],
+        entries: &Entries<'_, L>,
         part: &[u8],
         len: usize,
         at: Groups,
         output: &mut [u8],
     ) -> Groups
-        requires coded { IsCodedIn self.now G.WIDTH O.ORDER }
+        requires entries { ReadsBy L.holds self.now entries.now G.WIDTH O.ORDER }
         requires few { len ≤ length part.now }
         requires at { HasReadGroups self.now (take len part.now) at output.old }
         ensures on { HasReadGroups self.now (take len part.now) result output.new }
         ensures further { at.read ≤ result.read }
     {
-        if !self.is_padded_at::<G>(values, part, len, at.read) {
+        if !self.is_padded_at::<G>(part, len, at.read) {
             return at;
         }
         let group = &part[at.read..at.read + G::SYMBOLS];
-        match self.decode_group::<G>(O::ORDER, group, &mut output[at.written..]) {
+        let room = &mut output[at.written..];
+        match self.decode_group::<L, G>(entries, O::ORDER, group, room) {
             Ok(count) => Groups {
                 read: at.read + G::SYMBOLS,
                 written: at.written + G::WIDTH * count / 8,
@@ -143,15 +160,10 @@ impl EncodingRef<'_> {
         }
     }
 
-    /// Returns `true` if the next group ends in padding, and others may follow it.
+    /// Returns `true` if the next group ends in the padding character, and others may follow it.
+    // Groups that end in a byte that is translated to padding are decoded one by one.
     #[inline(always)]
-    fn is_padded_at<G: GroupSize>(
-        &self,
-        values: &[u8; 256],
-        part: &[u8],
-        len: usize,
-        read: usize,
-    ) -> bool
+    fn is_padded_at<G: GroupSize>(&self, part: &[u8], len: usize, read: usize) -> bool
         requires few { len ≤ length part.now }
         requires within { read ≤ len }
         ensures concatenates { IsTrue result → self.now.concatenates ≡ true }
@@ -159,6 +171,6 @@ impl EncodingRef<'_> {
     {
         self.fields.concatenates
             && len - read >= G::SYMBOLS
-            && entry_of(values, part[read + G::SYMBOLS - 1]) == PADDING
+            && part[read + G::SYMBOLS - 1] == self.fields.padding
     }
 }

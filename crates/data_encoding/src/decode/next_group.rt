@@ -1,14 +1,15 @@
 //! The next group of a text: its next bytes that are not ignored.
 
-ghost use Rattle.std.specs.Prelude.{◌≡◌, ◌-◌, ◌<◌, ◌≤◌, false, length, slice_index, take, drop, IsTrue};
-ghost use Rattle.data_encoding_meaning.specs.text.Base.{Base, ignores_some, is_ignored, meaning};
-ghost use Rattle.data_encoding_meaning.specs.decoding.Decoding.{IsGathered, IsIgnoredFront};
+ghost use Rattle.std.specs.Prelude.{◌≡◌, ◌<◌, ◌≤◌, length, take, IsTrue};
+ghost use Rattle.data_encoding_meaning.specs.text.Base.{Base, ignores_some};
+ghost use Rattle.data_encoding_meaning.specs.decoding.Decoding.{IsGathered};
 ghost use Rattle.data_encoding_meaning.specs.decoding.Fault.{position_of};
 ghost use Rattle.data_encoding_meaning.specs.text.Grammar.{kept};
-ghost use Rattle.data_encoding_kernel.specs.Tables.{HoldsValues};
+ghost use Rattle.data_encoding_kernel.specs.Ignore.{HoldsIgnored};
 
-use crate::encoding::{EncodingRef, IGNORED};
+use crate::encoding::EncodingRef;
 use data_encoding_kernel::group_size::GroupSize;
+use data_encoding_kernel::ignore::IgnoredBytes;
 
 /// A group of a text: its bytes, and the length of the text up to its end, with ignored bytes.
 #[derive(Clone, Copy, Drop)]
@@ -31,14 +32,16 @@ impl EncodingRef<'_> {
     pub(crate) fn next_group<'a, G: GroupSize>(
         &self,
         ignores: bool,
+        ignored: &IgnoredBytes,
         rest: &'a [u8],
         room: &'a mut [u8; 8],
     ) -> Group<'a>
-        requires { ignores ≡ ignores_some self.now }
+        requires ignores { ignores ≡ ignores_some self.now }
+        requires ignored { HoldsIgnored self.now ignored.now }
         ensures { IsGathered self.now G.SYMBOLS rest.now result.bytes.now result.span }
     {
-        if ignores && !starts_whole::<G>(&self.fields.values.entries, rest) {
-            let gathered = gather::<G>(&self.fields.values.entries, rest, room);
+        if ignores && !starts_whole::<G>(ignored, rest) {
+            let gathered = gather::<G>(ignored, rest, room);
             return Group {
                 bytes: &room[..gathered.count],
                 span: gathered.span,
@@ -68,9 +71,10 @@ impl EncodingRef<'_> {
         if !self.fields.ignores {
             return index.min(part.len());
         }
+        let ignored = IgnoredBytes::of(&self.fields.values.entries);
         let mut left = index;
         for position in 0..part.len() {
-            if self.fields.values.entries[part[position] as usize] != IGNORED {
+            if !ignored.contains(part[position]) {
                 if left == 0 {
                     return position;
                 }
@@ -83,8 +87,8 @@ impl EncodingRef<'_> {
 
 /// Returns `true` only if no byte of the next group is ignored.
 #[inline(always)]
-pub(crate) fn starts_whole<G: GroupSize>(values: &[u8; 256], rest: &[u8]) -> bool
-    ensures { IsTrue result → (base : Base) → HoldsValues base values.now
+pub(crate) fn starts_whole<G: GroupSize>(ignored: &IgnoredBytes, rest: &[u8]) -> bool
+    ensures { IsTrue result → (base : Base) → HoldsIgnored base ignored.now
         → IsGathered base G.SYMBOLS rest.now (take G.SYMBOLS rest.now) G.SYMBOLS }
 {
     let most = G::SYMBOLS;
@@ -92,7 +96,7 @@ pub(crate) fn starts_whole<G: GroupSize>(values: &[u8; 256], rest: &[u8]) -> boo
         return false;
     }
     for index in 0..most {
-        if values[rest[index] as usize] == IGNORED {
+        if ignored.contains(rest[index]) {
             return false;
         }
     }
@@ -100,15 +104,15 @@ pub(crate) fn starts_whole<G: GroupSize>(values: &[u8; 256], rest: &[u8]) -> boo
 }
 
 /// Gathers the first bytes that are not ignored at the start of `room`.
-fn gather<G: GroupSize>(values: &[u8; 256], rest: &[u8], room: &mut [u8; 8]) -> Gathered
+fn gather<G: GroupSize>(ignored: &IgnoredBytes, rest: &[u8], room: &mut [u8; 8]) -> Gathered
     ensures few { result.count ≤ G.SYMBOLS }
-    ensures first { (base : Base) → HoldsValues base values.now
+    ensures first { (base : Base) → HoldsIgnored base ignored.now
         → IsGathered base G.SYMBOLS rest.now (take result.count room.new) result.span }
 {
     let most = G::SYMBOLS;
     let mut span = 0;
     for count in 0..most {
-        let at = next_kept(values, rest, span);
+        let at = span + ignored.front(&rest[span..]);
         if at == rest.len() {
             return Gathered { count, span };
         }
@@ -116,39 +120,4 @@ fn gather<G: GroupSize>(values: &[u8; 256], rest: &[u8], room: &mut [u8; 8]) -> 
         span = at + 1;
     }
     Gathered { count: most, span }
-}
-
-/// Returns the position of the first byte from `start` on that is not ignored, or the length.
-// The first byte is tested before the loop, since mostly it is not ignored.
-#[inline(always)]
-fn next_kept(values: &[u8; 256], rest: &[u8], start: usize) -> usize
-    requires { start ≤ length rest.now }
-    ensures further { start ≤ result }
-    ensures within { result ≤ length rest.now }
-    ensures front { (base : Base) → HoldsValues base values.now
-        → IsIgnoredFront base (drop start rest.now) (result - start) }
-    ensures next { (base : Base) → HoldsValues base values.now → result < length rest.now
-        → is_ignored (meaning base (slice_index rest.now result)) ≡ false }
-{
-    if start < rest.len() && values[rest[start] as usize] != IGNORED {
-        return start;
-    }
-    start + ignored_front(values, &rest[start..])
-}
-
-/// Returns how many bytes are ignored before the first that is not.
-#[inline(always)]
-pub(crate) fn ignored_front(values: &[u8; 256], rest: &[u8]) -> usize
-    ensures within { result ≤ length rest.now }
-    ensures front { (base : Base) → HoldsValues base values.now
-        → IsIgnoredFront base rest.now result }
-    ensures next { (base : Base) → HoldsValues base values.now → result < length rest.now
-        → is_ignored (meaning base (slice_index rest.now result)) ≡ false }
-{
-    for index in 0..rest.len() {
-        if values[rest[index] as usize] != IGNORED {
-            return index;
-        }
-    }
-    rest.len()
 }

@@ -4,13 +4,12 @@ ghost use Rattle.std.specs.Prelude.{◌≡◌, ◌+◌, ◌-◌, ◌≤◌, leng
 ghost use Rattle.data_encoding_meaning.specs.text.Base.{Base};
 ghost use Rattle.data_encoding_meaning.specs.text.Grammar.{kept};
 ghost use Rattle.data_encoding_kernel.specs.Ignore.{HoldsIgnored};
-ghost use Rattle.data_encoding_kernel.specs.Tables.{HoldsValues};
 ghost use Rattle.data_encoding.specs.Groups.{EndsBefore};
-ghost use Rattle.data_encoding.specs.Progress.{GoesOn, HasReached, IsCodedIn};
+ghost use Rattle.data_encoding.specs.Progress.{GoesOn, HasReached, ReadsBy};
 
 use crate::decode::decoding_loop::Progress;
 use crate::decode::groups::Entries;
-use crate::encoding::{EncodingRef, IGNORED};
+use crate::encoding::EncodingRef;
 use data_encoding_kernel::bit_order::ConstantOrder;
 use data_encoding_kernel::group_size::GroupSize;
 use data_encoding_kernel::ignore::{IgnoredBytes, pack};
@@ -28,31 +27,25 @@ impl EncodingRef<'_> {
     #[inline(never)]
     pub(crate) fn decode_packed<L: LookUp, O: ConstantOrder, G: GroupSize>(
         &self,
+        entries: &Entries<'_, L>,
         at: Progress,
         input: &[u8],
         output: &mut [u8],
     ) -> Progress
-        requires coded { IsCodedIn self.now G.WIDTH O.ORDER }
+        requires entries { ReadsBy L.holds self.now entries.now G.WIDTH O.ORDER }
         requires at { HasReached self.now input.now at output.old }
         ensures { GoesOn self.now input.now at.read result output.new }
     {
-        let values = &self.fields.values.entries;
-        let look_up = L::of(&self.fields.values);
-        let entries = Entries {
-            values,
-            look_up: &look_up,
-        };
-        let ignored = IgnoredBytes::of(values);
         let start = at.read + at.ignored;
         let mut packed = [0; ROOM];
-        let (span, count) = pack(&ignored, &input[start..], &mut packed);
+        let (span, count) = pack(&entries.ignored, &input[start..], &mut packed);
         let room = &mut output[at.written..];
         let found = self.decode_groups::<L, O, G>(entries, &packed, count, room);
         if found.read == 0 {
             return at;
         }
         let part = &input[start..start + span];
-        let end = span_before(&ignored, values, part, count - found.read);
+        let end = span_before(&entries.ignored, part, count - found.read);
         Progress {
             read: start + end,
             written: at.written + found.written,
@@ -64,13 +57,13 @@ impl EncodingRef<'_> {
 /// Returns the end of the byte before the last `last` bytes of `part`, where ignored bytes do not
 /// count, or 0 if there is no such byte.
 #[inline(always)]
-fn span_before(ignored: &IgnoredBytes, values: &[u8; 256], part: &[u8], last: usize) -> usize
+fn span_before(ignored: &IgnoredBytes, part: &[u8], last: usize) -> usize
     ensures within { result ≤ length part.now }
-    ensures ends { (base : Base) → HoldsValues base values.now → HoldsIgnored base ignored.now
+    ensures ends { (base : Base) → HoldsIgnored base ignored.now
         → last ≤ length (kept base part.now) → EndsBefore base part.now last result }
 {
     let (end, left) = skip_sixteens(ignored, part, last);
-    span_before_some(values, &part[..end], left)
+    span_before_some(ignored, &part[..end], left)
 }
 
 /// Returns the length of a part without chunks of sixteen at its end that have at most `last` kept
@@ -97,15 +90,15 @@ fn skip_sixteens(ignored: &IgnoredBytes, part: &[u8], last: usize) -> (usize, us
 
 /// Like [`span_before`], byte by byte.
 #[inline(always)]
-fn span_before_some(values: &[u8; 256], part: &[u8], last: usize) -> usize
+fn span_before_some(ignored: &IgnoredBytes, part: &[u8], last: usize) -> usize
     ensures within { result ≤ length part.now }
-    ensures ends { (base : Base) → HoldsValues base values.now
+    ensures ends { (base : Base) → HoldsIgnored base ignored.now
         → last ≤ length (kept base part.now) → EndsBefore base part.now last result }
 {
     let mut left = last;
     for index in 0..part.len() {
         let end = part.len() - index;
-        if values[part[end - 1] as usize] != IGNORED {
+        if !ignored.contains(part[end - 1]) {
             if left == 0 {
                 return end;
             }

@@ -3,7 +3,7 @@ use Rattle.std.proofs.Common.{◌≡◌, ℕ, zero, suc, ◌+◌, ◌*◌, ◌/�
 use Rattle.std.proofs.lemmas.List.{drop-map, ext_get_or, get_or-drop, get_or-map, get_or-take, length-drop, length-map, nil_from_length, take-map, take_all}
 use Rattle.std.proofs.lemmas.List.Elements.{All-from_get_or, recursion_from_All}
 use Rattle.std.proofs.lemmas.List.FromFn.{length-map-range_with_len}
-use Rattle.std.proofs.Math.Nat.{lt_of_mul-lt-mul_right, zero-mul, mul-le-mul_right}
+use Rattle.std.proofs.Math.Nat.{zero-mul, mul-le-mul_right}
 use Rattle.std.proofs.Math.Seq.{take-append-add}
 use Rattle.std.specs.List.{AllByRecursion, range_with_len}
 use Rattle.std.specs.Simd.{first_chunks}
@@ -269,7 +269,7 @@ words-found total {width} {number} some same many holds order input entries made
       symbols = λ values held. found-symbols some (so_far values held);
     })
 
--- whole groups of sixteen symbols, at least one
+-- whole groups of sixteen symbols, and the room of their bytes
 module _ {width bytes symbols : ℕ} (group : IsGroup width bytes symbols) where
   pub sixteen-symbols : 16 / symbols * symbols ≡ 16
   sixteen-symbols =
@@ -277,6 +277,8 @@ module _ {width bytes symbols : ℕ} (group : IsGroup width bytes symbols) where
       (by_width (λ w. 16 / group_symbols w * group_symbols w ≡ 16) refl refl refl refl refl refl
       width group.is_width)
 
-  pub sixteen-some : 0 < 16 / symbols
-  sixteen-some =
-      lt_of_mul-lt-mul_right symbols (rw (zero-mul symbols, sixteen-symbols) (omega arith))
+  pub sixteen-few : 16 / symbols * bytes ≤ 16
+  sixteen-few =
+      rw (group.has_symbols, group.has_bytes)
+      (by_width (λ w. 16 / group_symbols w * group_bytes w ≤ 16) (omega arith) (omega arith)
+      (omega arith) (omega arith) (omega arith) (omega arith) width group.is_width)

@@ -16,7 +16,7 @@ use Rattle.data_encoding_meaning.specs.decoding.Fault.{symbol_bytes}
 use Rattle.data_encoding_kernel.specs.Tables.{HoldsValues}
 use Rattle.data_encoding_meaning.proofs.digits.WidthLemmas.{group_symbols-pos}
 use Rattle.data_encoding_meaning.proofs.grammar.KeptLemmas.{between}
-use Rattle.data_encoding_meaning.proofs.lists.PartLemmas.{groups-within, length-rest}
+use Rattle.data_encoding_meaning.proofs.lists.PartLemmas.{IsWhole-group, groups-within, length-rest}
 use Rattle.data_encoding_meaning.proofs.lists.RunLemmas.{runs-nil, runs-join, runs-short}
 
 module _ (base : Base) (width : IsWidth base.width) where
@@ -84,6 +84,22 @@ module _ (base : Base) (width : IsWidth base.width) where
         are_symbols = λ k h. symbols k (omega (arith, h, len));
         bytes = rw (all, take_all (1 * size) group (omega (arith, len)), short, append-nil _) is;
       }
+
+-- whole groups, by how many symbols they have
+pub zero-groups : (size : ℕ) → 0 / size ≡ 0
+zero-groups size = zero-div size
+
+pub groups-of_product : {s : ℕ} (count size : ℕ) → size ≡ s → 0 < s → count * size / s ≡ count
+groups-of_product {s} count size same pos =
+    ap (λ n. count * n / s) same ∙ ap (λ n. n / s) (omega arith) ∙ div-mul-add count s 0 pos
+
+-- groups after others
+pub groups-after : {s : ℕ} (first found size : ℕ) → size ≡ s → 0 < s
+    → (first * size + found) / s ≡ first + found / s
+groups-after {s} first found size same pos =
+    ap (λ n. (first * n + found) / s) same
+    ∙ ap (λ n. n / s) (omega (arith, mul_comm first s))
+    ∙ add-mul-div_left found first pos ∙ omega arith
 
 -- the same, with the sizes of a group under other names
 module _ (base : Base) (width : IsWidth base.width) (w bytes symbols : ℕ)
@@ -177,6 +193,23 @@ module _ (base : Base) (width : IsWidth base.width) (w bytes symbols : ℕ)
             ∙ bytes-more base width part i m whole);
       })
 
+  -- a run at the start of the rest after whole groups, up to the end
+  pub run-rest : {size count : ℕ} (part old output before piece : List ℕ) (at found i k : ℕ)
+      → count ≡ bytes → size ≡ symbols → at ≡ i * symbols → i * bytes ≤ length output
+      → found / symbols * bytes ≤ length piece → IsRun base part (at / symbols) old output
+      → IsRun base (between at (length part) part) (found / symbols) before piece
+      → IsRun base part ((at + found) / symbols) old (put_mid (at / size * count) k output piece)
+  run-rest part old output before piece at found i k count_is size_is at_is =
+      let some = (IsWhole-group w bytes symbols group).some_symbols in
+      rw (
+        count_is,
+        size_is,
+        at_is,
+        groups-of_product i symbols refl some,
+        groups-after i found symbols refl some,
+      )
+      (run-after part old output before piece i (found / symbols) k (length part) (omega arith))
+
   -- a run in the front of a part and of an output
   pub run-front : (part old output : List ℕ) (m reach far : ℕ) → m * bytes ≤ far
       → IsRun base (take reach part) m old (take far output) → IsRun base part m old output
@@ -204,6 +237,24 @@ module _ (base : Base) (width : IsWidth base.width) (w bytes symbols : ℕ)
             ∙ ap (run_bytes base)
             (sym (take-take (m * group_symbols base.width) reach part few));
       })
+
+  -- a run of a longer part, with its output copied
+  pub run-copied : (part more old made later before shown rest : List ℕ) (m : ℕ)
+      → m * symbols ≤ length part → m * bytes ≤ length made
+      → shown ≡ take (m * bytes) (made ++ later)
+      → IsRun base (part ++ more) m old made → IsRun base part m before (shown ++ rest)
+  run-copied part more old made later before shown rest m few enough shown_is run =
+      let cut = rw (take_at part more (length part) refl) at
+      (run-cut (part ++ more) old made m (length part) few run) in
+      record {
+        within = cut.within;
+        are_symbols = cut.are_symbols;
+        bytes = rw same_bytes
+            (let front = shown_is ∙ take-append-le (m * bytes) made later enough in
+            take_at shown rest (m * bytes)
+            (ap length front ∙ length-take-le (m * bytes) made enough)
+            ∙ front ∙ (rw same_bytes at cut.bytes));
+      }
 
   -- a group of symbols after a run
   pub group-next : (values part old output piece : List ℕ) (i k stop : ℕ)
@@ -272,22 +323,6 @@ module _ (base : Base) (width : IsWidth base.width) (w bytes symbols : ℕ)
       (λ i. long i / same_symbols i) in
       absurd (omega (arith, before, same))
 
--- whole groups, by how many symbols they have
-pub zero-groups : (size : ℕ) → 0 / size ≡ 0
-zero-groups size = zero-div size
-
-pub groups-of_product : {s : ℕ} (count size : ℕ) → size ≡ s → 0 < s → count * size / s ≡ count
-groups-of_product {s} count size same pos =
-    ap (λ n. count * n / s) same ∙ ap (λ n. n / s) (omega arith) ∙ div-mul-add count s 0 pos
-
--- groups after others
-pub groups-after : {s : ℕ} (first found size : ℕ) → size ≡ s → 0 < s
-    → (first * size + found) / s ≡ first + found / s
-groups-after {s} first found size same pos =
-    ap (λ n. (first * n + found) / s) same
-    ∙ ap (λ n. n / s) (omega (arith, mul_comm first s))
-    ∙ add-mul-div_left found first pos ∙ omega arith
-
 -- and no more than a turn has
 pub groups-at_most : {s : ℕ} (found number : ℕ) → 0 < s → found ≤ number * s → found / s ≤ number
 groups-at_most {s} found number pos h =
@@ -344,16 +379,6 @@ groups-left n size first pos h =
     omega (arith, div-add-mod' n size, ap (λ q. q * size) sum, add-mul rest first size) in
     ap (λ m. m / size) left ∙ div-mul-add rest size (n % size) (mod-lt n pos)
 
--- and that these are within all
-pub within-left : {s symbols : ℕ} (part : List ℕ) (first more : ℕ) → symbols ≡ s → 0 < s
-    → first ≤ length part / s
-    → more ≤ length (take (length part - first * symbols) (drop (first * symbols) part)) / s
-    → first + more ≤ length part / s
-within-left {s} part first more same =
-    rw same (λ pos h k.
-    let left = rw (length-rest (first * s) part, groups-left (length part) s first pos h) at k in
-    omega (arith, h, left))
-
 -- the room of groups
 pub groups-room : {b bytes : ℕ} (n first m : ℕ) → bytes ≡ b → first ≤ n → n * b ≤ m
     → first * bytes ≤ m
@@ -375,3 +400,12 @@ room-left {b} {s} part output first same_bytes same_symbols =
       length-rest (first * b) output,
       groups-left (length part) s first pos h,
     ) (omega (arith, all, room)))
+
+-- the same, from a position at the end of a group
+pub rest-room : {b s bytes symbols : ℕ} (part output : List ℕ) (at i : ℕ) → bytes ≡ b
+    → symbols ≡ s → 0 < s → at ≡ i * s → at ≤ length part → length part / s * b ≤ length output
+    → length (take (length part - at) (drop at part)) / s * b
+    ≤ length (take (length output - at / symbols * bytes) (drop (at / symbols * bytes) output))
+rest-room {s = s} part output at i same_bytes same_symbols pos at_is =
+    rw (same_bytes, same_symbols, at_is, groups-of_product i s refl pos)
+    (λ few. room-left part output i refl refl pos ((le-div_iff_mul-le pos).1 few))

@@ -12,8 +12,8 @@ group-within : (len : ℕ) (input : List ℕ) (symbols i : ℕ) → len ≤ leng
 group-within len input symbols i few inside =
     rw (length-take-le len input few) (group-before len symbols i inside)
 
-pub slice_bounds-decode_symbols-end : goal.slice_bounds-decode_symbols-end
-slice_bounds-decode_symbols-end g c =
+pub slice_bounds-decode_entries-end : goal.slice_bounds-decode_entries-end
+slice_bounds-decode_entries-end g c =
     group-within c.args.len c.args.input.now c.SYMBOLS-symbols.result c.loop-index.index
     c.requires.few c.loop-index-test.true
 
@@ -33,9 +33,9 @@ overflow_add-read g c =
       c.ranges.len,
     )
 
-pub slice_bounds-decode_symbols-end-in-loop-index :
-    goal.slice_bounds-decode_symbols-end-in-loop-index
-slice_bounds-decode_symbols-end-in-loop-index g c =
+pub slice_bounds-decode_entries-end-in-loop-index :
+    goal.slice_bounds-decode_entries-end-in-loop-index
+slice_bounds-decode_entries-end-in-loop-index g c =
     let room = group-room c.args.len c.loop-index.index (length c.args.output.now)
     c.BYTES-bytes.ensures c.SYMBOLS-symbols.ensures c.requires.room c.loop-index-test.true in
     omega arith
@@ -47,10 +47,10 @@ overflow_mul-written g c =
     omega arith
 
 pub overflow_add-written : goal.overflow_add-written
-overflow_add-written g c = omega (arith, slice_bounds-decode_symbols-end-in-loop-index g c)
+overflow_add-written g c = omega (arith, slice_bounds-decode_entries-end-in-loop-index g c)
 
-pub decode_symbols-requires-clause-few : goal.decode_symbols-requires-clause-few
-decode_symbols-requires-clause-few g c =
+pub decode_entries-entries-requires-clause-few : goal.decode_entries-entries-requires-clause-few
+decode_entries-entries-requires-clause-few g c =
     let within = group-within c.args.len c.args.input.now c.SYMBOLS-symbols.result
     c.loop-index.index c.requires.few c.loop-index-test.true in
     omega (
@@ -59,8 +59,8 @@ decode_symbols-requires-clause-few g c =
           (take c.args.len c.args.input.now) within,
     )
 
-pub decode_symbols-requires-clause-exact : goal.decode_symbols-requires-clause-exact
-decode_symbols-requires-clause-exact g c =
+pub decode_entries-entries-requires-clause-exact : goal.decode_entries-entries-requires-clause-exact
+decode_entries-entries-requires-clause-exact g c =
     let within = group-within c.args.len c.args.input.now c.SYMBOLS-symbols.result
     c.loop-index.index c.requires.few c.loop-index-test.true in
     let room = group-room c.args.len c.loop-index.index (length c.args.output.now)
@@ -74,31 +74,32 @@ decode_symbols-requires-clause-exact g c =
     g.G.GroupSize.is_group).same_bits in
     omega (arith, wrote, ap (λ n. g.G.GroupSize.WIDTH * n) read, same)
 
-pub returns-then-not-decode_symbols-clause-run : goal.returns-then-not-decode_symbols-clause-run
-returns-then-not-decode_symbols-clause-run g c = λ base reads.
+pub returns-then-entries-ge128-clause-run : goal.returns-then-entries-ge128-clause-run
+returns-then-entries-ge128-clause-run g c = λ base reads.
     let room = group-room c.args.len c.loop-index.index (length c.args.output.now)
     c.BYTES-bytes.ensures c.SYMBOLS-symbols.ensures c.requires.room c.loop-index-test.true in
     let group = IsGroup-same refl c.BYTES-bytes.ensures c.SYMBOLS-symbols.ensures
     g.G.GroupSize.is_group in
     run-kept base reads.holds.is_width g.G.GroupSize.WIDTH c.BYTES-bytes.result
     c.SYMBOLS-symbols.result group reads.width_is (take c.args.len c.args.input.now) _
-    c.loop-index.output c.decode_symbols.new.output c.loop-index.index _ (omega arith)
-    (c.loop-index.invariant.run base (rw c.ORDER-order.ensures reads))
+    c.loop-index.output c.decode_entries-entries.new.output c.loop-index.index _ (omega arith)
+    (c.loop-index.invariant.run base reads)
 
-pub returns-then-not-decode_symbols-clause-longest :
-    goal.returns-then-not-decode_symbols-clause-longest
-returns-then-not-decode_symbols-clause-longest g c = λ base reads.
+pub returns-then-entries-ge128-clause-longest :
+    goal.returns-then-entries-ge128-clause-longest
+returns-then-entries-ge128-clause-longest g c = λ base reads.
     let group = IsGroup-same refl c.BYTES-bytes.ensures c.SYMBOLS-symbols.ensures
     g.G.GroupSize.is_group in
     longest-at_group base reads.holds.is_width g.G.GroupSize.WIDTH c.BYTES-bytes.result
     c.SYMBOLS-symbols.result group reads.width_is
     c.args.values.now (take c.args.len c.args.input.now) c.loop-index.index _ refl reads.holds
     (part_bytes c.args.input.now (λ j. (c.type_inv.input j).fits) c.args.len)
-    (λ all. sym c.if-not-decode_symbols.true ∙ c.decode_symbols.ensures.symbols.1 all)
+    (λ all.
+    absurd (omega (arith, c.if-entries-ge128.true, c.decode_entries-entries.ensures.symbols.1 all)))
 
-pub returns-then-not-decode_symbols-clause-within :
-    goal.returns-then-not-decode_symbols-clause-within
-returns-then-not-decode_symbols-clause-within g c =
+pub returns-then-entries-ge128-clause-within :
+    goal.returns-then-entries-ge128-clause-within
+returns-then-entries-ge128-clause-within g c =
     omega (
       arith,
       group-before c.args.len c.SYMBOLS-symbols.result c.loop-index.index c.loop-index-test.true,
@@ -107,10 +108,7 @@ returns-then-not-decode_symbols-clause-within g c =
 
 pub loop-index-init : goal.loop-index-init
 loop-index-init g c =
-    record {
-      run = λ base reads.
-          c.decode_most-first.ensures.run base (rw c.ORDER-order.ensures at reads);
-    }
+    record { run = c.decode_most-first.ensures.run }
 
 pub loop-index-preserved : goal.loop-index-preserved
 loop-index-preserved g c =
@@ -125,18 +123,18 @@ loop-index-preserved g c =
     let output = c.loop-index.output in
     let enc = c.BYTES-bytes.result in
     let dec = c.SYMBOLS-symbols.result in
-    let shown_len : length c.decode_symbols.new.output ≡ enc =
-    c.decode_symbols.auto.output ∙ length-part (i * enc) enc output (omega arith) in
+    let shown_len : length c.decode_entries-entries.new.output ≡ enc =
+    c.decode_entries-entries.auto.output ∙ length-part (i * enc) enc output (omega arith) in
     record {
       run = λ base reads.
           group-next base reads.holds.is_width g.G.GroupSize.WIDTH enc dec group
           reads.width_is c.args.values.now
-          part _ output c.decode_symbols.new.output i _ _ refl within (omega arith)
+          part _ output c.decode_entries-entries.new.output i _ _ refl within (omega arith)
           shown_len reads.holds (c.loop-index.invariant.run base reads)
           (part_bytes c.args.input.now (λ j. (c.type_inv.input j).fits) c.args.len)
-          (c.decode_symbols.ensures.symbols.0 c.if-not-decode_symbols.false)
-          (c.decode_symbols.ensures.bytes base reads
-          c.if-not-decode_symbols.false);
+          (c.decode_entries-entries.ensures.symbols.0 c.if-entries-ge128.false)
+          (c.decode_entries-entries.ensures.bytes base (rw c.ORDER.ensures reads)
+          c.if-entries-ge128.false);
     }
 
 pub returns-then-is_longest-clause-within : goal.returns-then-is_longest-clause-within
@@ -161,7 +159,7 @@ returns-clause-run g c = λ base reads.
     (sym c.SYMBOLS-symbols.ensures) c.decode_most-first.ensures.within in
     let all : c.loop-index.index ≡ c.args.len / c.SYMBOLS-symbols.result =
     omega (arith, within, c.loop-index-test.false, c.loop-index.auto.index-end) in
-    rw all at (c.loop-index.invariant.run base (rw c.ORDER-order.ensures reads))
+    rw all at (c.loop-index.invariant.run base reads)
 
 pub returns-clause-within : goal.returns-clause-within
 returns-clause-within g c =

@@ -3,5 +3,6 @@ use Rattle.data_encoding_kernel.proofs.decode.decode_run_within.Given as goal
 
 abbrev pub invariant-loop-index : goal.invariant-loop-index
 invariant-loop-index g l = record {
-  run : IsRunBy l.values g.G.GroupSize.WIDTH l.order l.part l.index l.fn.output l.output;
+  run : IsRunBy l.values g.G.GroupSize.WIDTH g.O.ConstantOrder.ORDER l.part l.index l.fn.output
+      l.output;
 }

@@ -1,9 +1,10 @@
 //! The ways to look up the entries of bytes, with a lane for each byte.
 
-ghost use Rattle.std.specs.Prelude.{ℕ, List, IsTrue};
+ghost use Rattle.std.specs.Prelude.{◌≡◌, ℕ, List, slice_index, IsTrue};
 ghost use Rattle.data_encoding_kernel.specs.Affine.{HoldsAffine, agrees};
 ghost use Rattle.data_encoding_kernel.specs.Values.{AreEntries, HoldsRows};
 
+use crate::platform::has_simd;
 use crate::simd::decode::affine::{
     Affine, affine_entries_16, affine_entries_32, affine_entries_64,
 };
@@ -84,4 +85,21 @@ impl LookUp for Affine {
     fn look_up_64(&self, bytes: u8x64) -> u8x64 {
         affine_entries_64(self, bytes)
     }
+}
+
+/// Returns the entry of `byte` in the table `values`.
+///
+/// No address depends on a symbol: the table is read at other bytes only.
+#[inline(always)]
+pub fn look_up_byte<L: LookUp>(values: &[u8; 256], look_up: &L, byte: u8) -> u8
+    requires held { L.holds values.now look_up.now }
+    ensures { result ≡ slice_index values.now byte }
+{
+    if has_simd() {
+        let entry = look_up.look_up_16(u8x16::splat(byte)).to_array()[0];
+        if entry < 128 {
+            return entry;
+        }
+    }
+    values[byte as usize]
 }

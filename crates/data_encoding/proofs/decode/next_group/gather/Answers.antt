@@ -1,46 +1,63 @@
-use Rattle.std.proofs.Common.{◌+◌, ◌-◌, ◌<◌, ◌≡◌, length, ◌∙◌, arith, inl, inr, subst, take}
+use Rattle.std.proofs.Common.{ℕ, ◌+◌, ◌-◌, ◌<◌, ◌≤◌, ◌≡◌, length, drop, ◌∙◌, sym, ap, arith, inl, inr, subst, take, length-drop, slice_index}
+use Rattle.std.proofs.lemmas.List.{take_rest, get_or-drop}
 use Rattle.data_encoding_meaning.specs.decoding.Decoding.{IsGathered}
-use Rattle.data_encoding_meaning.specs.text.Base.{Base}
-use Rattle.data_encoding_kernel.specs.Tables.{HoldsValues}
+use Rattle.data_encoding_meaning.specs.text.Base.{Base, is_ignored, meaning}
+use Rattle.data_encoding_kernel.specs.Ignore.{HoldsIgnored}
 use Rattle.data_encoding_meaning.proofs.digits.SizeLemmas.{IsSmall-group}
 use Rattle.data_encoding_meaning.proofs.decoding.GatherLemmas.{HasGathered, gather-kept, gathered, nothing-gathered}
 use Rattle.data_encoding.proofs.decoding.PlacingLemmas.{gather-front}
 use Rattle.data_encoding.proofs.decode.next_group.gather.Given.{Over}
 use Rattle.data_encoding.proofs.decode.next_group.gather.Goals as goal
-use Rattle.data_encoding.proofs.decode.next_group.gather.Goals.{After-next_kept-at}
+use Rattle.data_encoding.proofs.decode.next_group.gather.Goals.{After-front}
 
 pub loop-count-init : goal.loop-count-init
 loop-count-init g c =
     (omega arith, λ base holds. nothing-gathered base c.args.rest.now c.args.room.now)
 
+-- the position of the next byte that is not ignored
+abbrev at : (g : Over) → After-front g → ℕ
+at g c = c.loop-count.span + c.front.result
+
+at-within : (g : Over) (c : After-front g) → at g c ≤ length c.args.rest.now
+at-within g c = omega (arith, c.front.ensures.within, c.loop-count.invariant.0, length-drop {A = ℕ})
+
 -- what was gathered, with the ignored bytes that follow
-front : (g : Over) (c : After-next_kept-at g) (base : Base) → HoldsValues base c.args.values.now
-    → HasGathered base c.args.rest.now c.next_kept-at.result c.loop-count.count c.loop-count.span
+front : (g : Over) (c : After-front g) (base : Base) → HoldsIgnored base c.args.ignored.now
+    → HasGathered base c.args.rest.now (at g c) c.loop-count.count c.loop-count.span
     c.loop-count.room
 front g c base holds =
-    let at = c.next_kept-at in
-    let place : c.loop-count.span + (at.result - c.loop-count.span) ≡ at.result =
-    omega (arith, at.ensures.further) in
-    rw place at (gather-front (at.result - c.loop-count.span)
-    (c.loop-count.invariant.1 base holds) c.loop-count.invariant.0 (at.ensures.front base holds))
+    gather-front c.front.result
+    (c.loop-count.invariant.1 base holds) c.loop-count.invariant.0
+    (rw (take_rest c.args.rest.now c.loop-count.span) at (c.front.ensures.front base holds))
+
+-- the byte there
+next-byte : (g : Over) (c : After-front g) → slice_index c.args.rest.now (at g c)
+    ≡ slice_index (take (length c.args.rest.now - c.loop-count.span)
+    (drop c.loop-count.span c.args.rest.now)) c.front.result
+next-byte g c =
+    let rest = c.args.rest.now in
+    let span = c.loop-count.span in
+    sym (get_or-drop span rest c.front.result 0)
+    ∙ ap (λ l. slice_index l c.front.result) (sym (take_rest rest span))
 
 pub returns-then-at-rest-clause-first : goal.returns-then-at-rest-clause-first
 returns-then-at-rest-clause-first g c base holds =
-    let at = (goal.at.returns-then-at-rest-clause-first g c).After-next_kept-at in
-    gathered (front g at base holds) (omega (arith, c.if-at-rest.true))
+    let before = (goal.at.returns-then-at-rest-clause-first g c).After-front in
+    gathered (front g before base holds) (omega (arith, c.if-at-rest.true))
     (omega (arith, c.loop-count-test.true, c.SYMBOLS-most.ensures))
     (inr (omega (arith, c.if-at-rest.true)))
 
 pub loop-count-preserved : goal.loop-count-preserved
 loop-count-preserved g c =
-    let at = (goal.at.loop-count-preserved g c).After-next_kept-at in
+    let before = (goal.at.loop-count-preserved g c).After-front in
     let few = (IsSmall-group g.G.GroupSize.is_group).few_symbols in
-    let next : c.next_kept-at.result < length c.args.rest.now =
-    omega (arith, c.next_kept-at.ensures.within, c.if-at-rest.false) in (
+    let next : at g before < length c.args.rest.now =
+    omega (arith, at-within g before, c.if-at-rest.false) in (
       omega (arith, next),
-      λ base holds. gather-kept base c.args.rest.now c.next_kept-at.result next c.loop-count.count
-          c.loop-count.span c.loop-count.room (front g at base holds)
-          (c.next_kept-at.ensures.next base holds next)
+      λ base holds. gather-kept base c.args.rest.now (at g before) next c.loop-count.count
+          c.loop-count.span c.loop-count.room (front g before base holds)
+          (ap (λ byte. is_ignored (meaning base byte)) (next-byte g before)
+          ∙ before.front.ensures.next base holds (omega (arith, next, length-drop {A = ℕ})))
           (omega (arith, few, c.loop-count-test.true, c.SYMBOLS-most.ensures)),
     )
 

@@ -1,5 +1,4 @@
-use Rattle.std.proofs.Common.{◌≡◌, ◌<◌, get_or, arith, inl}
-use Rattle.std.proofs.lemmas.Bool.Decides.{nat_tests}
+use Rattle.std.proofs.Common.{◌≡◌, sym, ◌∙◌, arith, inl}
 use Rattle.data_encoding_meaning.proofs.decoding.GatherLemmas.{gather-in_place, gathered}
 use Rattle.data_encoding.proofs.decode.next_group.starts_whole.Goals as goal
 
@@ -7,10 +6,8 @@ pub loop-index-preserved : goal.loop-index-preserved
 loop-index-preserved g c base holds =
     let rest = c.args.rest.now in
     let index = c.loop-index.index in
-    let byte = get_or rest index 0 in
-    let small : byte < 256 = omega (arith, (c.type_inv.rest index).fits) in
     gather-in_place base rest index (omega (arith, c.loop-index-test.true, c.if-rest-most.false))
-    (grind (arith, nat_tests, holds.ignoreds byte small, c.if-values-rest.false))
+    (sym (c.contains.ensures base holds) ∙ c.if-contains.false)
     (c.loop-index.invariant base holds)
 
 pub returns : goal.returns

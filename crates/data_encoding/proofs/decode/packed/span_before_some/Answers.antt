@@ -1,9 +1,8 @@
-use Rattle.std.proofs.Common.{◌≡◌, ◌+◌, ◌-◌, ◌<◌, length, get_or, arith}
-use Rattle.std.proofs.lemmas.Bool.Decides.{nat_tests}
+use Rattle.std.proofs.Common.{◌≡◌, ◌+◌, ◌-◌, ◌<◌, length, sym, ◌∙◌, arith}
 use Rattle.std.proofs.lemmas.List.{take_all}
 use Rattle.data_encoding_meaning.proofs.decoding.GatherLemmas.{more-here, none-here}
 use Rattle.data_encoding.proofs.decode.packed.span_before_some.Goals as goal
-use Rattle.data_encoding.proofs.decode.packed.span_before_some.Goals.{then-values-part+else-left-eq0, else-values-part}
+use Rattle.data_encoding.proofs.decode.packed.span_before_some.Goals.{then-not-contains+else-left-eq0, else-not-contains}
 
 pub loop-index-init : goal.loop-index-init
 loop-index-init c =
@@ -12,15 +11,10 @@ loop-index-init c =
     (omega arith, λ base holds. rw all (omega arith))
 
 pub returns-then-left-eq0-clause-ends : goal.returns-then-left-eq0-clause-ends
-returns-then-left-eq0-clause-ends c base holds few =
-    let part = c.args.part.now in
-    let byte = get_or part (length part - c.loop-index.index - 1) 0 in
-    let ignored = holds.ignoreds byte
-    (omega (arith, (c.type_inv.part (length part - c.loop-index.index - 1)).fits)) in
-    record {
-      before = omega (arith, c.loop-index.invariant.1 base holds, c.if-left-eq0.true);
-      ends = λ some. grind (arith, nat_tests, ignored, c.if-values-part.true);
-    }
+returns-then-left-eq0-clause-ends c base holds few = record {
+  before = omega (arith, c.loop-index.invariant.1 base holds, c.if-left-eq0.true);
+  ends = λ some. sym (c.contains.ensures base holds) ∙ c.if-not-contains.true;
+}
 
 pub loop-index-preserved : goal.loop-index-preserved
 loop-index-preserved c =
@@ -28,17 +22,14 @@ loop-index-preserved c =
     let index = c.loop-index.index in
     let at = length part - index - 1 in
     let inside : at < length part = omega (arith, c.loop-index-test.true) in
-    let byte = get_or part at 0 in
-    let small : byte < 256 = omega (arith, (c.type_inv.part at).fits) in
     let end : at + 1 ≡ length part - index = omega (arith, c.loop-index-test.true) in
     let next : length part - (index + 1) ≡ at = omega arith in
-    elim c.if-values-part.branch [
-      | then-values-part+else-left-eq0 w ↦ (
+    elim c.if-not-contains.branch [
+      | then-not-contains+else-left-eq0 w ↦ (
         omega (arith, c.loop-index.invariant.0, w.left-is),
         λ base holds.
-            let ignored = holds.ignoreds byte small in
             let more = rw end at (more-here base part at inside
-            (grind (arith, nat_tests, ignored, w.if-values-part.true))) in
+            (sym (c.contains.ensures base holds) ∙ w.if-not-contains.true)) in
             rw next (omega (
               arith,
               more,
@@ -48,12 +39,11 @@ loop-index-preserved c =
               w.if-left-eq0.false,
             )),
       )
-      | else-values-part w ↦ (
+      | else-not-contains w ↦ (
         omega (arith, c.loop-index.invariant.0, w.left-is),
         λ base holds.
-            let ignored = holds.ignoreds byte small in
             let none = rw end at (none-here base part at inside
-            (grind (arith, nat_tests, ignored, w.if-values-part.false))) in
+            (sym (c.contains.ensures base holds) ∙ w.if-not-contains.false)) in
             rw next (omega (arith, none, c.loop-index.invariant.1 base holds, w.left-is)),
       )
     ]

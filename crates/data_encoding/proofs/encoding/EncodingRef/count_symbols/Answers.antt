@@ -2,7 +2,7 @@ use Rattle.std.proofs.Common.{◌≡◌, arith}
 use Rattle.std.proofs.lemmas.Bool.Decides.{nat_tests}
 use Rattle.data_encoding_meaning.specs.text.Base.{group_symbols}
 use Rattle.data_encoding_meaning.proofs.decoding.GroupJudgementLemmas.{few-bits, group-short, length-invalid, padding-invalid, symbols-all, symbols-before}
-use Rattle.data_encoding.proofs.tables.TableLemmas.{HoldsValues-seen, IsWidth-seen}
+use Rattle.data_encoding.proofs.tables.TableLemmas.{IsWidth-seen}
 use Rattle.data_encoding.proofs.encoding.EncodingRef.count_symbols.Goals as goal
 use Rattle.data_encoding.proofs.encoding.EncodingRef.count_symbols.Goals.{then-count-eq0-via-then-count-eq0, then-count-eq0-via-else-count-eq0+then-width-count}
 
@@ -32,8 +32,7 @@ returns-then-count-eq0-clause-fault g c =
     cc g.G.GroupSize.is_group.has_symbols in
     rw c.faulty-then-count-eq0.ensures
     (padding-invalid seen group (cc) (omega arith) count
-    (c.before_padding-count.ensures.count seen
-    (HoldsValues-seen _ c.self.invariant seen c.self.view_is))
+    (c.before_padding-count.ensures.count seen c.requires.values)
     (IsWidth-seen _ c.self.invariant seen c.self.view_is) c.requires.some
     c.before_padding-count.ensures.within
     (elim c.then-count-eq0.branch [
@@ -48,8 +47,7 @@ returns-clause-symbols g c =
     let symbols : c.SYMBOLS.result ≡ group_symbols seen.width =
     cc g.G.GroupSize.is_group.has_symbols in
     symbols-before seen c.args.group.now (cc) (omega arith) c.before_padding-count.result
-    (c.before_padding-count.ensures.count seen
-    (HoldsValues-seen _ c.self.invariant seen c.self.view_is))
+    (c.before_padding-count.ensures.count seen c.requires.values)
     c.before_padding-count.ensures.within (grind (arith, nat_tests)) (grind (arith, nat_tests))
 
 pub overflow_mul-trailing : goal.overflow_mul-trailing

@@ -22,7 +22,7 @@ returns-clause-on g c =
         so_far = rw (at.read, at.written) (placed-here c.requires.entries.reads.holds.is_width
             c.requires.at c.decode_groups-found.new.output c.decode_groups-found.auto.output _
             c.decode_groups-found.ensures some);
-        front = rw at.read (at.front c.args.self.now c.requires.entries.reads.holds);
+        front = rw at.read (at.front c.args.self.now c.requires.entries.ignored);
       };
       further = omega (arith, at.read);
     }

@@ -1,5 +1,7 @@
-use Rattle.std.proofs.Common.{◌≡◌, ◌+◌, ◌-◌, ◌/◌, ◌≤◌, length, take, drop, refl, arith}
+use Rattle.std.proofs.Common.{◌≡◌, ◌+◌, ◌-◌, ◌/◌, ◌≤◌, length, take, drop, refl, ap, ◌∙◌, subst, arith}
 use Rattle.std.proofs.Math.Nat.{mul-le-mul_right}
+use Rattle.std.proofs.lemmas.List.{drop-drop, take_rest}
+use Rattle.data_encoding_meaning.specs.decoding.Decoding.{IsIgnoredFront}
 use Rattle.std.proofs.lemmas.Nat.{le-div}
 use Rattle.data_encoding_meaning.proofs.lists.PartLemmas.{IsWhole-same, groups-within}
 use Rattle.data_encoding_meaning.proofs.lists.WriteLemmas.{length-rewritten_same}
@@ -28,8 +30,9 @@ decode_line-found-requires-clause-room g c =
 
 pub loop-preserved : goal.loop-preserved
 loop-preserved g c =
-    let at = c.progress_at-at-in-loop.ensures in
     let reached = c.loop.invariant.on.reached in
+    let start = c.loop.at.read + c.loop.at.ignored in
+    let rest = take (length c.args.input.now - start) (drop start c.args.input.now) in
     let whole : c.decode_line-found.result.read ≡ c.args.len = c.if-found-len.false in
     record {
       on = record {
@@ -37,14 +40,17 @@ loop-preserved g c =
           exact = exact-same reached.exact (length-rewritten_same c.loop.at.written
               c.loop.output c.decode_line-found.new.output reached.so_far.fits
               c.decode_line-found.auto.output);
-          so_far = rw (at.read, at.written, ← whole)
+          so_far = rw (← whole)
               (placed-here c.requires.entries.reads.holds.is_width reached
               c.decode_line-found.new.output c.decode_line-found.auto.output c.args.len
               (c.decode_line-found.ensures c.args.self.now c.requires.entries)
               (omega (arith, whole, c.requires.some)));
-          front = rw at.read (at.front c.args.self.now c.requires.entries.reads.holds);
+          front = subst (λ l. IsIgnoredFront c.args.self.now l c.front-ignored.result)
+              (take_rest rest c.args.len ∙ ap (drop c.args.len) (take_rest c.args.input.now start)
+              ∙ drop-drop c.args.len start c.args.input.now)
+              (c.front-ignored.ensures.front c.args.self.now c.requires.entries.ignored);
         };
-        further = omega (arith, at.read, c.loop.invariant.on.further);
+        further = omega (arith, c.loop.invariant.on.further);
       };
     }
 
@@ -61,7 +67,7 @@ returns-then-found-gt0 g c =
             (placed-here c.requires.entries.reads.holds.is_width reached
             c.decode_line-found.new.output c.decode_line-found.auto.output c.args.len
             (c.decode_line-found.ensures c.args.self.now c.requires.entries) c.if-found-gt0.true);
-        front = rw at.read (at.front c.args.self.now c.requires.entries.reads.holds);
+        front = rw at.read (at.front c.args.self.now c.requires.entries.ignored);
       };
       further = omega (arith, at.read, c.loop.invariant.on.further);
     }

@@ -12,18 +12,18 @@ use Rattle.data_encoding.proofs.encoding.EncodingRef.decode_next.Goals.{After-WI
 
 pub returns-then-start-input : goal.returns-then-start-input
 returns-then-start-input g c =
-    decoded-after (under_way g.G.GroupSize.is_group c.requires.coded.width_is c.requires.at.exact
-    c.requires.at.so_far) c.requires.at.front (omega arith)
+    decoded-after (under_way g.G.GroupSize.is_group c.requires.entries.reads.width_is
+    c.requires.at.exact c.requires.at.so_far) c.requires.at.front (omega arith)
 
 pub returns-then-is_empty : goal.returns-then-is_empty
 returns-then-is_empty g c =
-    decoded-none (under_way g.G.GroupSize.is_group c.requires.coded.width_is c.requires.at.exact
-    c.requires.at.so_far) c.requires.at.front c.next_group-group.ensures c.is_empty.ensures
-    c.if-is_empty.true
+    decoded-none (under_way g.G.GroupSize.is_group c.requires.entries.reads.width_is
+    c.requires.at.exact c.requires.at.so_far) c.requires.at.front c.next_group-group.ensures
+    c.is_empty.ensures c.if-is_empty.true
 
 pub decode_group-requires-clause-room : goal.decode_group-requires-clause-room
 decode_group-requires-clause-room g c =
-    let now = under_way g.G.GroupSize.is_group c.requires.coded.width_is c.requires.at.exact
+    let now = under_way g.G.GroupSize.is_group c.requires.entries.reads.width_is c.requires.at.exact
     c.requires.at.so_far in
     let some = some-group c.next_group-group.ensures c.is_empty.ensures c.if-is_empty.false in
     room-next_group now (gathered-next now c.requires.at.front c.next_group-group.ensures some)
@@ -49,8 +49,8 @@ after : (g : Over) (c : After-WIDTH g) {final : Bool}
     (rewritten c.args.at.written c.args.output.now c.decode_group.new.output)
 after g c =
     let group = IsGroup-same c.WIDTH.ensures refl refl g.G.GroupSize.is_group in
-    let now = under_way group (c.requires.coded.width_is ∙ sym c.WIDTH.ensures) c.requires.at.exact
-    c.requires.at.so_far in
+    let now = under_way group (c.requires.entries.reads.width_is ∙ sym c.WIDTH.ensures)
+    c.requires.at.exact c.requires.at.so_far in
     let some = some-group c.next_group-group.ensures c.is_empty.ensures c.if-is_empty.false in
     after_group now (gathered-next now c.requires.at.front c.next_group-group.ensures some) some
     c.decode_group.auto.output c.in-Ok.ensures.sound
@@ -98,7 +98,7 @@ returns g c =
 
 pub returns-in-Err : goal.returns-in-Err
 returns-in-Err g c =
-    let now = under_way g.G.GroupSize.is_group c.requires.coded.width_is c.requires.at.exact
+    let now = under_way g.G.GroupSize.is_group c.requires.entries.reads.width_is c.requires.at.exact
     c.requires.at.so_far in
     let some = some-group c.next_group-group.ensures c.is_empty.ensures c.if-is_empty.false in
     rw c.new.ensures (group-stopped now

@@ -1,10 +1,9 @@
-use Rattle.std.proofs.Common.{◌≡◌, ℕ, ◌+◌, ◌-◌, ◌/◌, ◌<◌, ◌≤◌, List, length, take, drop, false, refl, sym, ap, subst, arith, length-take-le}
+use Rattle.std.proofs.Common.{◌≡◌, ◌+◌, ◌-◌, ◌/◌, ◌<◌, ◌≤◌, length, take, drop, refl, sym, ap, subst, arith, length-take-le}
 use Rattle.std.proofs.Math.Nat.{mul-le-mul_right}
 use Rattle.std.proofs.lemmas.List.{take_rest}
 use Rattle.std.proofs.lemmas.Nat.{le-div}
-use Rattle.data_encoding_meaning.specs.text.Base.{Base, IsWidth}
+use Rattle.data_encoding_meaning.specs.text.Base.{IsWidth}
 use Rattle.data_encoding_meaning.specs.text.Grammar.{kept}
-use Rattle.data_encoding_meaning.specs.decoding.Decoding.{HasDecodedTo, IsIgnoredFront}
 use Rattle.data_encoding_meaning.proofs.decoding.IgnoredFrontLemmas.{no_front}
 use Rattle.data_encoding_meaning.proofs.grammar.PositionLemmas.{length-by_bytes}
 use Rattle.data_encoding_meaning.proofs.lists.PartLemmas.{IsWhole-same, groups-within}
@@ -12,18 +11,9 @@ use Rattle.data_encoding_meaning.proofs.lists.WriteLemmas.{length-rewritten_same
 use Rattle.data_encoding.proofs.decoding.OutputLemmas.{exact-same, goes-nowhere_rest}
 use Rattle.data_encoding.proofs.decoding.PlacingLemmas.{IsPackedTo, packed-to}
 use Rattle.data_encoding.proofs.decoding.StepLemmas.{room-next_run, under_way}
-use Rattle.data_encoding.proofs.tables.TableLemmas.{Reads-seen, ascii-seen}
 use Rattle.data_encoding.proofs.encoding.EncodingRef.decode_packed.Given.{Over}
 use Rattle.data_encoding.proofs.encoding.EncodingRef.decode_packed.Goals as goal
 use Rattle.data_encoding.proofs.encoding.EncodingRef.decode_packed.Goals.{After-span_before-end}
-
-pub decode_groups-found-requires-clause-entries : goal.decode_groups-found-requires-clause-entries
-decode_groups-found-requires-clause-entries g c =
-    record {
-      reads = Reads-seen _ c.self.invariant c.args.self.now c.self.view_is g.G.GroupSize.WIDTH
-          g.O.ConstantOrder.ORDER c.requires.coded.width_is c.requires.coded.order_is;
-      held = c.of-look_up.ensures;
-    }
 
 pub decode_groups-found-requires-clause-room : goal.decode_groups-found-requires-clause-room
 decode_groups-found-requires-clause-room g c =
@@ -43,13 +33,13 @@ decode_groups-found-requires-clause-room g c =
     omega (
       arith,
       mul-le-mul_right g.G.GroupSize.BYTES fewer,
-      room-next_run (under_way g.G.GroupSize.is_group c.requires.coded.width_is
+      room-next_run (under_way g.G.GroupSize.is_group c.requires.entries.reads.width_is
           c.requires.at.exact c.requires.at.so_far) c.requires.at.front,
     )
 
 pub returns-then-found-eq0 : goal.returns-then-found-eq0
 returns-then-found-eq0 g c =
-    goes-nowhere_rest _ (subst IsWidth (sym c.requires.coded.width_is)
+    goes-nowhere_rest _ (subst IsWidth (sym c.requires.entries.reads.width_is)
     g.G.GroupSize.is_group.is_width) c.requires.at c.decode_groups-found.auto.output
 
 -- the packed groups, placed in the text
@@ -65,20 +55,18 @@ reached g c =
     let start = c.args.at.read + c.args.at.ignored in
     let text = c.args.input.now in
     let span = c.pack-span.result.0 in
-    let width = subst IsWidth (sym c.requires.coded.width_is) g.G.GroupSize.is_group.is_width in
+    let width = subst IsWidth (sym c.requires.entries.reads.width_is)
+    g.G.GroupSize.is_group.is_width in
     let whole = take_rest text start in
     let slice : take (start + span - start) (drop start text) ≡ take span (drop start text) =
     ap (λ n. take n (drop start text)) (omega arith) in
-    let reads = Reads-seen _ c.self.invariant c.args.self.now c.self.view_is g.G.GroupSize.WIDTH
-    g.O.ConstantOrder.ORDER c.requires.coded.width_is c.requires.coded.order_is in
-    let ignores = c.of-ignored.ensures base reads.holds
-    (ascii-seen _ c.self.invariant base c.self.view_is) in
+    let ignores = c.requires.entries.ignored in
     let within = rw whole at c.pack-span.ensures.within in
     let are = rw whole at (c.pack-span.ensures.kept base ignores) in
     let count_len = length-by_bytes (kept base (take span (drop start text))) _ are in
     let packed_len = length-take-le c.pack-span.result.1 c.pack-span.new.room
     c.pack-span.ensures.room in
-    let before = rw slice at (c.span_before-end.ensures.ends base reads.holds ignores
+    let before = rw slice at (c.span_before-end.ensures.ends base ignores
     (rw slice (omega (arith, count_len, packed_len)))) in
     let inside = rw slice at c.span_before-end.ensures.within in
     let some : 0 < c.decode_groups-found.result.read = omega (arith, c.if-found-eq0.false) in

@@ -10,7 +10,7 @@ returns-in-Ok-clause-on g c =
     let same : c.SYMBOLS.result ≡ c.SYMBOLS-in-Ok.result =
     c.SYMBOLS.ensures ∙ sym c.SYMBOLS-in-Ok.ensures in
     reads-group (IsGroup-same c.WIDTH.ensures refl c.SYMBOLS-in-Ok.ensures g.G.GroupSize.is_group)
-    c.args.self.now (c.requires.coded.width_is ∙ sym c.WIDTH.ensures) c.args.part.now
+    c.args.self.now (c.requires.entries.reads.width_is ∙ sym c.WIDTH.ensures) c.args.part.now
     c.args.len c.requires.few c.args.output.now c.decode_group.new.output c.requires.at
     c.decode_group.auto.output
     (omega (arith, c.SYMBOLS-in-Ok.ensures, c.if-not-is_padded_at.ensures.within refl))
@@ -39,7 +39,7 @@ decode_group-requires-clause-room g c whole =
     let len = length-part c.args.at.read c.SYMBOLS.result c.args.part.now
     (omega (arith, c.SYMBOLS.ensures, enough, c.requires.few)) in
     rw (len, c.SYMBOLS.ensures)
-    (group-room g.G.GroupSize.is_group c.args.self.now c.requires.coded.width_is
+    (group-room g.G.GroupSize.is_group c.args.self.now c.requires.entries.reads.width_is
     c.args.part.now c.args.len c.requires.few c.args.output.now c.args.output.now c.requires.at
     enough)
 
@@ -63,8 +63,9 @@ overflow_add-result-in-Ok g c =
       fits = omega (
         arith,
         c.requires.few,
-        reads-few g.G.GroupSize.is_group c.args.self.now c.requires.coded.width_is c.args.part.now
-            c.args.len c.requires.few c.args.output.now c.args.output.now c.requires.at,
+        reads-few g.G.GroupSize.is_group c.args.self.now c.requires.entries.reads.width_is
+            c.args.part.now c.args.len c.requires.few c.args.output.now c.args.output.now
+            c.requires.at,
         few-bits g.G.GroupSize.is_group c.WIDTH.ensures c.in-Ok.count
             (omega (arith, len, c.SYMBOLS.ensures, c.in-Ok.ensures.sound.within)),
       );

@@ -67,3 +67,8 @@ overflow_mul-result g c =
     let few = few-bits g.G.GroupSize.is_group c.WIDTH.ensures c.in-Ok.count
     (omega (arith, c.in-Ok.ensures.sound.within)) in
     record { fits = omega (arith, few) }
+
+pub decode_group-requires-clause-entries : goal.decode_group-requires-clause-entries
+decode_group-requires-clause-entries g c =
+    c.entries-entries.ensures g.G.GroupSize.WIDTH c.order.result
+    (record { width_is = c.requires.width; order_is = cc })

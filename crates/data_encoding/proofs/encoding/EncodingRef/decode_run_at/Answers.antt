@@ -1,4 +1,4 @@
-use Rattle.std.proofs.Common.{◌≤◌, ◌+◌, ◌*◌, refl, arith, length, take}
+use Rattle.std.proofs.Common.{◌≤◌, ◌+◌, ◌*◌, refl, arith, take}
 use Rattle.data_encoding_meaning.proofs.digits.SizeLemmas.{IsGroup-same}
 use Rattle.data_encoding.proofs.decoding.ReadGroupLemmas.{reads-few, reads-run}
 use Rattle.data_encoding_meaning.proofs.lists.WriteLemmas.{rewritten}

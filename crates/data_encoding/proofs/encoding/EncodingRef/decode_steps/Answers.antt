@@ -32,7 +32,7 @@ moved g c =
           so_far = rw (w.progress_at-at.ensures.read, w.progress_at-at.ensures.written)
               w.in-More.ensures.1;
           front = rw w.progress_at-at.ensures.read (w.progress_at-at.ensures.front
-              c.args.self.now c.requires.entries.reads.holds);
+              c.args.self.now c.requires.entries.ignored);
         };
         further = omega (
           arith,

@@ -9,3 +9,9 @@ returns-in-More g c =
     let now = under_way g.G.GroupSize.is_group c.requires.coded.width_is
     (exact-same c.requires.exact len) c.in-More.ensures.1 in
     decoded-all now (omega (arith, c.if-stop-input.true))
+
+pub decode_first_run-at-requires-clause-entries : goal.decode_first_run-at-requires-clause-entries
+decode_first_run-at-requires-clause-entries g c = c.entries-entries.ensures _ _ c.requires.coded
+
+pub decode_next-requires-clause-entries : goal.decode_next-requires-clause-entries
+decode_next-requires-clause-entries g c = c.entries-entries.ensures _ _ c.requires.coded
