@@ -1,7 +1,8 @@
 #!/usr/bin/env bash
-# Encodes two secrets in every length under valgrind's `lackey`, and compares the instructions that
-# ran and the addresses that were read and written. They must not differ: then neither branches nor
-# the cache depend on the data. tests/c/constant-time.c makes the calls, whole and in pieces.
+# Encodes and decodes two secrets in every length under valgrind's `lackey`, and compares the
+# instructions that ran and the addresses that were read and written. They must not differ: then
+# neither branches nor the cache depend on the data. tests/c/constant-time.c makes the calls, whole
+# and in pieces.
 #
 # usage: tests/constant-time.sh [LIB]: where build.sh left the library. Without a folder it is built.
 . "$(dirname "$0")/common.bash" || exit 1

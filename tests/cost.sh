@@ -33,8 +33,8 @@ done
 bounds='
 plain 2.65 1.35
 gaps 2.80 4.25
-ignored 4.00 8.00
-padded 8.50 17.4
+ignored 1.80 3.40
+padded 13.6 27.7
 '
 
 # count NAME: decodes each text with 16 KiB, and then with 64 KiB, where DE_CPU is NAME. Writes a

@@ -1,5 +1,6 @@
-/* Encodes secret data of many lengths, for tests/constant-time.sh, which compares the instructions
- * and the addresses of two runs with different secrets. A store to `marker` precedes each call.
+/* Encodes and decodes secret data of many lengths, for tests/constant-time.sh, which compares the
+ * instructions and the addresses of two runs with different secrets. A store to `marker` precedes
+ * each call.
  *
  * usage: constant-time [SEED]: a character, from which the secret is drawn. Without it, prints a line
  * for each call, in their order: the number of the encoding, the length, the call. */
@@ -7,14 +8,19 @@
 #include <stdbool.h>
 #include <stdio.h>
 #include <stdlib.h>
+#include <string.h>
 
 enum { SECRET_LEN = 1024, EACH_LEN = 300, PIECES_LEN = 64, TEXT_LIMIT = 16384 };
+
+/* Lines of texts with ignored bytes are at most this long. */
+enum { LINE_LIMIT = 40 };
 
 /* The predefined encodings, and those that follow them. */
 enum { NUMBERS = DE_BASE64URL_NOPAD + 1, OWN_COUNT = 3 };
 
 volatile unsigned marker;
 static unsigned char secret[SECRET_LEN];
+static unsigned char data[TEXT_LIMIT];
 static char text[TEXT_LIMIT];
 static de_encoding own[OWN_COUNT];
 static bool prints;
@@ -37,13 +43,27 @@ static void expect_ok(de_status status) {
     }
 }
 
-static void encode(size_t len) {
+/* Encodes, and returns the length of the text. */
+static size_t encode(size_t len) {
     size_t written;
     begin(len, "encode");
     expect_ok(by < NUMBERS
                   ? de_encode(by, secret, len, text, sizeof text, &written)
                   : de_encoding_encode(&own[by - NUMBERS], secret, len, text, sizeof text,
                                        &written));
+    return written;
+}
+
+static de_status decode_text(const char *input, size_t len) {
+    de_decoded decoded;
+    return by < NUMBERS ? de_decode(by, input, len, data, sizeof data, &decoded)
+                        : de_encoding_decode(&own[by - NUMBERS], input, len, data, sizeof data,
+                                             &decoded);
+}
+
+static void decode(size_t len) {
+    begin(len, "decode");
+    expect_ok(decode_text(text, len));
 }
 
 static void read_piece(de_encoder *encoder, const unsigned char *piece, size_t len) {
@@ -67,6 +87,53 @@ static void encode_pieces(size_t len) {
                   ? de_encoder_finish(by, &encoder, text, sizeof text, &written)
                   : de_encoding_encoder_finish(&own[by - NUMBERS], &encoder, text, sizeof text,
                                                &written));
+}
+
+static void read_text(de_decoder *decoder, const char *piece, size_t len) {
+    size_t written;
+    begin(len, "decoder_read");
+    expect_ok(by < NUMBERS ? de_decoder_read(by, decoder, piece, len, data, sizeof data, &written)
+                           : de_encoding_decoder_read(&own[by - NUMBERS], decoder, piece, len,
+                                                      data, sizeof data, &written));
+}
+
+/* Decodes in two pieces. */
+static void decode_pieces(size_t len) {
+    de_decoder decoder;
+    de_decoded decoded;
+    size_t first = len / 3;
+    expect_ok(de_decoder_new(&decoder));
+    read_text(&decoder, text, first);
+    read_text(&decoder, text + first, len - first);
+    begin(len, "decoder_finish");
+    expect_ok(by < NUMBERS
+                  ? de_decoder_finish(by, &decoder, data, sizeof data, &decoded)
+                  : de_encoding_decoder_finish(&own[by - NUMBERS], &decoder, data, sizeof data,
+                                               &decoded));
+}
+
+/* Writes line ends among the first len bytes of the text, and returns its length. */
+static size_t break_lines(size_t len, size_t line_len) {
+    static char unbroken[TEXT_LIMIT];
+    size_t broken_len = 0;
+    memcpy(unbroken, text, len);
+    for (size_t index = 0; index < len; index++) {
+        if (index % line_len == line_len - 1) {
+            text[broken_len++] = '\r';
+            text[broken_len++] = '\n';
+        }
+        text[broken_len++] = unbroken[index];
+    }
+    return broken_len;
+}
+
+/* Encodes and decodes len bytes. */
+static void both(size_t len) {
+    size_t text_len = encode(len);
+    decode(text_len);
+    if (decode_text("\r\n", 2) == DE_OK) {
+        decode(break_lines(text_len, 1 + len % LINE_LIMIT));
+    }
 }
 
 /* One without an offset form, one with lines, and one with the least significant bit first. */
@@ -100,11 +167,12 @@ int main(int count, char **words) {
     make_own();
     for (by = 0; by < NUMBERS + OWN_COUNT; by++) {
         for (size_t len = 0; len <= EACH_LEN; len++) {
-            encode(len);
+            both(len);
         }
-        encode(SECRET_LEN);
+        both(SECRET_LEN);
         for (size_t len = 0; len <= PIECES_LEN; len++) {
             encode_pieces(len);
+            decode_pieces(encode(len));
         }
     }
     return EXIT_SUCCESS;
