@@ -181,11 +181,12 @@ class Page(unittest.TestCase):
 
     def test_a_long_text(self) -> None:
         """It is converted after a pause."""
-        self.firefox.run("""
+        shown = self.firefox.run("""
             const area = document.querySelector("#data textarea");
             area.value = "x".repeat(100_000);
-            area.dispatchEvent(new InputEvent("input"));""")
-        self.assertEqual(self.shown("text"), "")
+            area.dispatchEvent(new InputEvent("input"));
+            return document.querySelector("#text textarea").value;""")
+        self.assertEqual(shown, "")
         end = time.monotonic() + 60
         while self.shown("text") == "":
             self.assertLess(time.monotonic(), end)
