@@ -1,13 +1,13 @@
 //! Decoding of whole groups of symbols, up to the first group with another byte.
 
-ghost use Rattle.std.specs.Prelude.{◌≡◌, ℕ, ◌*◌, ◌/◌, ◌<◌, ◌≤◌, List, length, take, IsTrue};
+ghost use Rattle.std.specs.Prelude.{◌≡◌, ℕ, ◌*◌, ◌/◌, ◌%◌, ◌<◌, ◌≤◌, List, length, take, IsTrue};
 ghost use Rattle.data_encoding_kernel.specs.Runs.{IsLongestBy, IsRunBy};
 
 mod iterations;
 
 use crate::bit_order::ConstantOrder;
 use crate::copy::copy_short;
-use crate::decode::iterations::{DecodeEight, DecodeSixteen, DecodeTurn};
+use crate::decode::iterations::{DecodeEight, DecodeTurn};
 use crate::group_size::GroupSize;
 use crate::platform::has_simd;
 use crate::simd::decode::look_up::LookUp;
@@ -132,13 +132,22 @@ fn decode_simd<L: LookUp, O: ConstantOrder, G: GroupSize>(
         output.new }
     ensures within { result ≤ len }
 {
-    if input.len() < 8 * G::SYMBOLS {
-        return decode_sixteens::<L, O, G>(look_up, &input[..len], output);
+    let part = &input[..len];
+    if len < 16 {
+        return decode_few::<L, O, G>(look_up, part, output);
     }
-    decode_long::<L, O, G>(look_up, input, len, output)
+    let mut at = 0;
+    if input.len() >= 8 * G::SYMBOLS {
+        at = decode_long::<L, O, G>(look_up, input, len, output);
+    }
+    // An iteration stopped within, or passed the end.
+    if at % (8 * G::SYMBOLS) != 0 {
+        return at;
+    }
+    decode_sixteens::<L, O, G>(look_up, at, part, output)
 }
 
-/// Like [`decode_simd`], with iterations of eight groups first.
+/// Calls [`decode_iterations`].
 // Not inlined, so that shorter texts do not pay for the stack that lanes take.
 #[inline(never)]
 fn decode_long<L: LookUp, O: ConstantOrder, G: GroupSize>(
@@ -154,43 +163,53 @@ fn decode_long<L: LookUp, O: ConstantOrder, G: GroupSize>(
         output.new }
     ensures within { result ≤ len }
 {
-    let count = count_turns::<G>(input.len(), len, output.len());
-    let at = decode_eight_groups::<L, O, G>(look_up, count, input, len, output);
-    // An iteration stopped within, or passed the end.
-    if at != count * 8 * G::SYMBOLS {
-        return at;
-    }
-    let part = &input[..len];
-    let written = at / G::SYMBOLS * G::BYTES;
-    at + decode_sixteens::<L, O, G>(look_up, &part[at..], &mut output[written..])
+    decode_iterations::<L, O, G>(look_up, input, len, output)
 }
 
-/// Decodes sixteen symbols per iteration, up to the first byte that is not a symbol, and returns
-/// the number of bytes read.
+/// Decodes sixteen symbols per iteration, after the first `at` bytes, up to the first byte that is
+/// not a symbol, and returns the number of bytes read.
 ///
 /// The whole groups among them are decoded.
 #[inline(always)]
 fn decode_sixteens<L: LookUp, O: ConstantOrder, G: GroupSize>(
     look_up: &L,
+    at: usize,
     input: &[u8],
     output: &mut [u8],
 ) -> usize
+    requires enough { 16 ≤ length input.now }
+    requires whole { at % G.SYMBOLS ≡ 0 }
+    requires within { at ≤ length input.now }
     requires room { length input.now / G.SYMBOLS * G.BYTES ≤ length output.old }
+    requires begun { (values : List ℕ) → L.holds values look_up.now
+        → IsRunBy values G.WIDTH O.ORDER input.now (at / G.SYMBOLS) output.old output.old }
     ensures run { (values : List ℕ) → L.holds values look_up.now
         → IsRunBy values G.WIDTH O.ORDER input.now (result / G.SYMBOLS) output.old output.new }
     ensures within { result ≤ length input.now }
 {
-    let whole = input.len() / 16;
-    let turn = DecodeSixteen { look_up: *look_up };
-    let read = decode_turns::<DecodeSixteen<L>, G>(&turn, O::ORDER, whole, input, output);
-    if read < 16 * whole || input.len() - read < G::SYMBOLS {
-        return read;
+    let symbols = G::SYMBOLS;
+    let bytes = G::BYTES;
+    let whole = input.len() / symbols * symbols;
+    let mut at = at;
+    while at < whole {
+        // The last sixteen symbols may overlap those before.
+        let read = at.min(whole - 16);
+        let written = read / symbols * bytes;
+        let found = decode_sixteen::<L, G>(
+            look_up,
+            O::ORDER,
+            &input[read..read + 16],
+            &mut output[written..written + 16 / symbols * bytes],
+        );
+        at = read + found;
+        if found < 16 {
+            return at;
+        }
     }
-    let written = read / G::SYMBOLS * G::BYTES;
-    read + decode_few::<L, O, G>(look_up, &input[read..], &mut output[written..])
+    at
 }
 
-/// Decodes the groups of fewer than sixteen bytes, like [`decode_sixteens`].
+/// Decodes the groups of fewer than sixteen bytes, like [`decode_simd`].
 ///
 /// The bytes are loaded with zeros after them, and take one iteration of sixteen symbols.
 #[inline(always)]
@@ -213,31 +232,6 @@ fn decode_few<L: LookUp, O: ConstantOrder, G: GroupSize>(
     let written = read / G::SYMBOLS * G::BYTES;
     copy_short(&bytes[..written], &mut output[..written]);
     read
-}
-
-/// Decodes eight groups per iteration, up to `len` or to the first byte that is not a symbol.
-///
-/// Takes at most `count` iterations. Returns the number of bytes read. The whole groups among them
-/// are decoded.
-#[inline(always)]
-fn decode_eight_groups<L: LookUp, O: ConstantOrder, G: GroupSize>(
-    look_up: &L,
-    count: usize,
-    input: &[u8],
-    len: usize,
-    output: &mut [u8],
-) -> usize
-    requires few { len ≤ length input.now }
-    requires symbols { count * 8 * G.SYMBOLS ≤ length input.now }
-    requires bytes { count * 8 * G.BYTES ≤ length output.old }
-    ensures run { (values : List ℕ) → L.holds values look_up.now
-        → IsRunBy values G.WIDTH O.ORDER (take len input.now) (result / G.SYMBOLS) output.old
-        output.new }
-    ensures within { result ≤ len }
-{
-    let lanes = DecodeEight { look_up: *look_up };
-    let at = decode_turns::<DecodeEight<L>, G>(&lanes, O::ORDER, count, input, output);
-    if at < len { at } else { len }
 }
 
 /// Returns the number of iterations of eight groups that start before `len`, and that the input and
@@ -286,7 +280,9 @@ pub fn decode_iterations<L: LookUp, O: ConstantOrder, G: GroupSize>(
     ensures within { result ≤ len }
 {
     let count = count_turns::<G>(input.len(), len, output.len());
-    decode_eight_groups::<L, O, G>(look_up, count, input, len, output)
+    let lanes = DecodeEight { look_up: *look_up };
+    let at = decode_turns::<DecodeEight<L>, G>(&lanes, O::ORDER, count, input, output);
+    if at < len { at } else { len }
 }
 
 /// Decodes the whole iterations of `input`, and returns the number of groups.

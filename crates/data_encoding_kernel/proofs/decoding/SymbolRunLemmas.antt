@@ -16,8 +16,17 @@ use Rattle.data_encoding_meaning.specs.decoding.Fault.{symbol_bytes}
 use Rattle.data_encoding_kernel.specs.Tables.{HoldsValues}
 use Rattle.data_encoding_meaning.proofs.digits.WidthLemmas.{group_symbols-pos}
 use Rattle.data_encoding_meaning.proofs.grammar.KeptLemmas.{between}
-use Rattle.data_encoding_meaning.proofs.lists.PartLemmas.{IsWhole-group, groups-within, length-rest}
+use Rattle.data_encoding_meaning.proofs.lists.PartLemmas.{IsWhole-group, groups-within}
 use Rattle.data_encoding_meaning.proofs.lists.RunLemmas.{runs-nil, runs-join, runs-short}
+
+-- a run does not depend on the output before
+pub run-same : (base : Base) {part old other new : List ℕ} {count : ℕ}
+    → IsRun base part count old new → IsRun base part count other new
+run-same base run = record {
+  within = run.within;
+  are_symbols = run.are_symbols;
+  bytes = run.bytes;
+}
 
 module _ (base : Base) (width : IsWidth base.width) where
   abbrev byte_count : ℕ
@@ -193,13 +202,13 @@ module _ (base : Base) (width : IsWidth base.width) (w bytes symbols : ℕ)
             ∙ bytes-more base width part i m whole);
       })
 
-  -- a run at the start of the rest after whole groups, up to the end
-  pub run-rest : {size count : ℕ} (part old output before piece : List ℕ) (at found i k : ℕ)
-      → count ≡ bytes → size ≡ symbols → at ≡ i * symbols → i * bytes ≤ length output
-      → found / symbols * bytes ≤ length piece → IsRun base part (at / symbols) old output
-      → IsRun base (between at (length part) part) (found / symbols) before piece
+  -- a run after whole groups, up to a position
+  pub run-on : {size count : ℕ} (part old output before piece : List ℕ) (at found i k stop : ℕ)
+      → count ≡ bytes → size ≡ symbols → at ≡ i * symbols → stop ≤ length part
+      → i * bytes ≤ length output → found / symbols * bytes ≤ length piece
+      → IsRun base part i old output → IsRun base (between at stop part) (found / symbols) before piece
       → IsRun base part ((at + found) / symbols) old (put_mid (at / size * count) k output piece)
-  run-rest part old output before piece at found i k count_is size_is at_is =
+  run-on part old output before piece at found i k stop count_is size_is at_is =
       let some = (IsWhole-group w bytes symbols group).some_symbols in
       rw (
         count_is,
@@ -208,7 +217,7 @@ module _ (base : Base) (width : IsWidth base.width) (w bytes symbols : ℕ)
         groups-of_product i symbols refl some,
         groups-after i found symbols refl some,
       )
-      (run-after part old output before piece i (found / symbols) k (length part) (omega arith))
+      (run-after part old output before piece i (found / symbols) k stop)
 
   -- a run in the front of a part and of an output
   pub run-front : (part old output : List ℕ) (m reach far : ℕ) → m * bytes ≤ far
@@ -369,43 +378,8 @@ turn-fits {number} {s} n count i same_groups same_size =
     let all : (i + 1) * number * s ≤ count * number * s = mul-le-mul_right s more in
     omega (arith, room, all))
 
--- how many groups are left after the first ones
-groups-left : (n size first : ℕ) → 0 < size → first ≤ n / size
-    → (n - first * size) / size ≡ n / size - first
-groups-left n size first pos h =
-    let rest = n / size - first in
-    let sum : n / size ≡ rest + first = omega (arith, h) in
-    let left : n - first * size ≡ rest * size + n % size =
-    omega (arith, div-add-mod' n size, ap (λ q. q * size) sum, add-mul rest first size) in
-    ap (λ m. m / size) left ∙ div-mul-add rest size (n % size) (mod-lt n pos)
-
 -- the room of groups
 pub groups-room : {b bytes : ℕ} (n first m : ℕ) → bytes ≡ b → first ≤ n → n * b ≤ m
     → first * bytes ≤ m
 groups-room {b} n first m same =
     rw same (λ h room. omega (arith, mul-le-mul_right b h, room))
-
--- the remaining groups have room, if all groups have
-pub room-left : {b s bytes symbols : ℕ} (part output : List ℕ) (first : ℕ) → bytes ≡ b
-    → symbols ≡ s → 0 < s → first ≤ length part / s → length part / s * b ≤ length output
-    → length (take (length part - first * symbols) (drop (first * symbols) part)) / s * b
-    ≤ length (take (length output - first * bytes) (drop (first * bytes) output))
-room-left {b} {s} part output first same_bytes same_symbols =
-    rw (same_bytes, same_symbols) (λ pos h room.
-    let rest = length part / s - first in
-    let sum : length part / s ≡ rest + first = omega (arith, h) in
-    let all = ap (λ q. q * b) sum ∙ add-mul rest first b in
-    rw (
-      length-rest (first * s) part,
-      length-rest (first * b) output,
-      groups-left (length part) s first pos h,
-    ) (omega (arith, all, room)))
-
--- the same, from a position at the end of a group
-pub rest-room : {b s bytes symbols : ℕ} (part output : List ℕ) (at i : ℕ) → bytes ≡ b
-    → symbols ≡ s → 0 < s → at ≡ i * s → at ≤ length part → length part / s * b ≤ length output
-    → length (take (length part - at) (drop at part)) / s * b
-    ≤ length (take (length output - at / symbols * bytes) (drop (at / symbols * bytes) output))
-rest-room {s = s} part output at i same_bytes same_symbols pos at_is =
-    rw (same_bytes, same_symbols, at_is, groups-of_product i s refl pos)
-    (λ few. room-left part output i refl refl pos ((le-div_iff_mul-le pos).1 few))

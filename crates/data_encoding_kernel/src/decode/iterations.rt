@@ -6,7 +6,6 @@ ghost use Rattle.data_encoding_kernel.specs.Runs.{IsRunBy};
 use crate::group_size::GroupSize;
 use crate::simd::decode::decode_eight;
 use crate::simd::decode::look_up::LookUp;
-use crate::simd::decode::sixteen_symbols::decode_sixteen;
 use crate::words::decode_entries;
 use data_encoding_meaning::encoding::BitOrder;
 
@@ -54,28 +53,8 @@ impl<L: LookUp, G: GroupSize> DecodeTurn<G> for DecodeEight<L> {
     }
 }
 
-/// Decodes the groups of sixteen symbols with SIMD, up to the first byte that is not a symbol.
-#[derive(Clone, Copy, Drop)]
-pub struct DecodeSixteen<L> {
-    /// The look-up of entries.
-    pub look_up: L,
-}
-
-impl<L: LookUp, G: GroupSize> DecodeTurn<G> for DecodeSixteen<L> {
-    ghost GROUPS = { 16 / G.SYMBOLS };
-
-    ghost holds = { λ values few. L.holds values few.look_up };
-
-    const GROUPS: usize = 16 / G::SYMBOLS;
-
-    #[inline(always)]
-    fn decode(&self, order: BitOrder, input: &[u8], output: &mut [u8]) -> usize {
-        decode_sixteen::<L, G>(&self.look_up, order, input, output)
-    }
-}
-
 // Decodes four groups or none, each as a word, by the table itself. A platform without SIMD takes
-// it in place of `DecodeSixteen`.
+// it.
 impl<G: GroupSize> DecodeTurn<G> for [u8; 256] {
     ghost GROUPS = { 4 };
 

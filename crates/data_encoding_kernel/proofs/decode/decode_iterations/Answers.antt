@@ -3,7 +3,7 @@ use Rattle.std.proofs.Math.Nat.{mul-le-mul_right}
 use Rattle.data_encoding_kernel.proofs.decoding.ShorterRunLemmas.{run-shorter}
 use Rattle.data_encoding_kernel.proofs.decoding.SymbolRunLemmas.{groups-at_most, groups-monotone, run-cut}
 use Rattle.data_encoding_meaning.proofs.lists.PartLemmas.{IsWhole-group, groups-within}
-use Rattle.data_encoding_kernel.proofs.decode.decode_eight_groups.Goals as goal
+use Rattle.data_encoding_kernel.proofs.decode.decode_iterations.Goals as goal
 
 pub returns-then-at-len-clause-run : goal.returns-then-at-len-clause-run
 returns-then-at-len-clause-run g c = λ values held base reads.
@@ -22,7 +22,7 @@ returns-else-at-len-clause-run g c = λ values held base reads.
     let bytes = g.G.GroupSize.BYTES in
     let len = c.args.len in
     let output = c.decode_turns-at.new.output in
-    let turns = c.args.count in
+    let turns = c.count_turns-count.result in
     let whole = IsWhole-group g.G.GroupSize.WIDTH g.G.GroupSize.BYTES g.G.GroupSize.SYMBOLS
     g.G.GroupSize.is_group in
     let most : read / symbols ≤ turns * 8 =
@@ -31,7 +31,7 @@ returns-else-at-len-clause-run g c = λ values held base reads.
     omega (
       arith,
       mul-le-mul_right bytes most,
-      c.requires.bytes,
+      c.count_turns-count.ensures.bytes,
       c.decode_turns-at.auto.output,
     ) in
     let few : len / symbols ≤ read / symbols =
