@@ -26,8 +26,8 @@ pub record IsCodedIn (base : Base) (width : ℕ) (order : BitOrder) : Type 0 whe
 pub record ReadsBy {L : Type 0} (holds : List ℕ → L → Type 0) (base : Base)
     (entries : Entries L) (width : ℕ) (order : BitOrder) : Type 0 where
   pub reads : Reads base entries.values.now width order
-  pub held : holds entries.values.now entries.look_up
-  pub ignored : HoldsIgnored base entries.ignored
+  pub held : holds entries.values.now entries.look_up.now
+  pub ignored : HoldsIgnored base entries.ignored.now
 
 -- The text is decoded as far as `at` states, and `at.ignored` ignored bytes follow.
 pub record HasReached (base : Base) (text : List ℕ) (at : Progress) (output : List ℕ)

@@ -16,11 +16,14 @@ ghost use Rattle.data_encoding_meaning.specs.text.Grammar.{kept};
 ghost use Rattle.data_encoding_meaning.specs.text.Lengths.{decoded_len};
 ghost use Rattle.data_encoding_meaning.specs.decoding.Partial.{is_length_fault};
 
+use crate::decode::groups::Entries;
 use crate::encoding::{Encoding, EncodingRef};
 use crate::error::{DecodeError, DecodeFault, DecodeKind, DecodePartial};
 use crate::memory::zeros;
 use data_encoding_kernel::call_by_width;
 use data_encoding_kernel::group_size::GroupSize;
+use data_encoding_kernel::ignore::IgnoredBytes;
+use data_encoding_kernel::simd::decode::look_up::LookUp;
 use data_encoding_kernel::simd::decode::table_rows::Rows;
 use data_encoding_meaning::limits;
 use std::alloc::Global;
@@ -156,8 +159,13 @@ impl EncodingRef<'_> {
         if len > G::SYMBOLS {
             return None;
         }
-        let entries = self.entries::<Rows>();
-        match self.decode_group::<Rows, G>(&entries, self.fields.order(), &rest[..len], output) {
+        let values = &self.fields.values;
+        let entries = Entries {
+            values: &values.entries,
+            look_up: &Rows::of(values),
+            ignored: &IgnoredBytes::of(&values.entries),
+        };
+        match self.decode_group::<Rows, G>(entries, self.fields.order(), &rest[..len], output) {
             Ok(count) => Some(G::WIDTH * count / 8),
             Err(_) => None,
         }

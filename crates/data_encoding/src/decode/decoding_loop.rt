@@ -69,13 +69,13 @@ impl EncodingRef<'_> {
     #[inline(always)]
     pub(crate) fn decode_steps<L: LookUp, O: ConstantOrder, G: GroupSize>(
         &self,
-        entries: &Entries<'_, L>,
+        entries: Entries<'_, L>,
         first: Progress,
         input: &[u8],
         output: &mut [u8],
         stop: &mut Stop,
     ) -> bool
-        requires entries { ReadsBy L.holds self.now entries.now G.WIDTH O.ORDER }
+        requires entries { ReadsBy L.holds self.now entries G.WIDTH O.ORDER }
         requires first { HasReached self.now input.now first output.old }
         ensures { HasEnded self.now input.now output.new stop.new result }
     {
@@ -87,13 +87,13 @@ impl EncodingRef<'_> {
                 at = self.decode_lines::<L, O, G>(entries, len, at, input, output);
             } else {
                 let read = at.read;
-                if self.is_broken_next::<G>(&entries.ignored, at, input) {
+                if self.is_broken_next::<G>(entries.ignored, at, input) {
                     at = self.decode_packed::<L, O, G>(entries, at, input, output);
                 }
                 if at.read == read {
                     match self.decode_next::<L, O, G>(entries, ignores, at, input, output, stop) {
                         Step::More => {
-                            at = progress_at(&entries.ignored, stop.read, stop.written, input);
+                            at = progress_at(entries.ignored, stop.read, stop.written, input);
                         }
                         Step::Ended => return true,
                         Step::Faulty => return false,
@@ -115,13 +115,13 @@ impl EncodingRef<'_> {
     #[inline(never)]
     fn decode_lines<L: LookUp, O: ConstantOrder, G: GroupSize>(
         &self,
-        entries: &Entries<'_, L>,
+        entries: Entries<'_, L>,
         len: usize,
         at: Progress,
         input: &[u8],
         output: &mut [u8],
     ) -> Progress
-        requires entries { ReadsBy L.holds self.now entries.now G.WIDTH O.ORDER }
+        requires entries { ReadsBy L.holds self.now entries G.WIDTH O.ORDER }
         requires some { 0 < len }
         requires at { HasReached self.now input.now at output.old }
         ensures { GoesOn self.now input.now at.read result output.new }
@@ -141,7 +141,7 @@ impl EncodingRef<'_> {
             let written = at.written + found.written;
             if found.read != len {
                 if found.read > 0 {
-                    at = progress_at(&entries.ignored, start + found.read, written, input);
+                    at = progress_at(entries.ignored, start + found.read, written, input);
                 }
                 break;
             }
@@ -158,12 +158,12 @@ impl EncodingRef<'_> {
     #[inline(always)]
     fn decode_in_place<L: LookUp, O: ConstantOrder, G: GroupSize>(
         &self,
-        entries: &Entries<'_, L>,
+        entries: Entries<'_, L>,
         at: Progress,
         input: &[u8],
         output: &mut [u8],
     ) -> Progress
-        requires entries { ReadsBy L.holds self.now entries.now G.WIDTH O.ORDER }
+        requires entries { ReadsBy L.holds self.now entries G.WIDTH O.ORDER }
         requires at { HasReached self.now input.now at output.old }
         ensures on { GoesOn self.now input.now at.read result output.new }
         ensures past { at.read < result.read → at.read + at.ignored < result.read }
@@ -176,7 +176,7 @@ impl EncodingRef<'_> {
             return at;
         }
         let written = at.written + found.written;
-        progress_at(&entries.ignored, start + found.read, written, input)
+        progress_at(entries.ignored, start + found.read, written, input)
     }
 
     /// Returns `true` if bytes before or within the next group are ignored.
@@ -202,14 +202,14 @@ impl EncodingRef<'_> {
     #[inline(always)]
     pub(crate) fn decode_next<L: LookUp, O: ConstantOrder, G: GroupSize>(
         &self,
-        entries: &Entries<'_, L>,
+        entries: Entries<'_, L>,
         ignores: bool,
         at: Progress,
         input: &[u8],
         output: &mut [u8],
         stop: &mut Stop,
     ) -> Step
-        requires entries { ReadsBy L.holds self.now entries.now G.WIDTH O.ORDER }
+        requires entries { ReadsBy L.holds self.now entries G.WIDTH O.ORDER }
         requires ignores { ignores ≡ ignores_some self.now }
         requires at { HasReached self.now input.now at output.old }
         ensures { HasStepped self.now input.now at.read output.new stop.new result }
@@ -220,7 +220,7 @@ impl EncodingRef<'_> {
             return Step::Ended;
         }
         let mut room = [0; 8];
-        let group = self.next_group::<G>(ignores, &entries.ignored, &input[start..], &mut room);
+        let group = self.next_group::<G>(ignores, entries.ignored, &input[start..], &mut room);
         if group.bytes.is_empty() {
             stop.written = at.written;
             return Step::Ended;

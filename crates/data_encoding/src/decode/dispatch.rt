@@ -2,7 +2,7 @@
 
 ghost use Rattle.std.specs.Prelude.{◌≡◌};
 ghost use Rattle.data_encoding_meaning.specs.text.Base.{IsWidth};
-ghost use Rattle.data_encoding.specs.Progress.{HasExactOutput, HasReached, IsCodedIn, ReadsBy};
+ghost use Rattle.data_encoding.specs.Progress.{HasExactOutput, HasReached, IsCodedIn};
 ghost use Rattle.data_encoding.specs.Steps.{HasEnded};
 
 use crate::decode::Stop;
@@ -13,6 +13,7 @@ use data_encoding_kernel::bit_order::{ConstantOrder, LeastSignificantFirst, Most
 use data_encoding_kernel::call_by_width;
 use data_encoding_kernel::decode::decode_run;
 use data_encoding_kernel::group_size::GroupSize;
+use data_encoding_kernel::ignore::IgnoredBytes;
 use data_encoding_kernel::simd::decode::affine::Affine;
 use data_encoding_kernel::simd::decode::look_up::LookUp;
 use data_encoding_kernel::simd::decode::table_rows::Rows;
@@ -89,9 +90,14 @@ impl EncodingRef<'_> {
         if self.fields.ignores {
             return self.decode_ignoring::<L, O, G>(input, output, stop);
         }
-        let entries = self.entries::<L>();
-        let at = self.decode_first_run::<L, O, G>(&entries, input, output);
-        match self.decode_next::<L, O, G>(&entries, false, at, input, output, stop) {
+        let at = self.decode_first_run::<L, O, G>(input, output);
+        let values = &self.fields.values;
+        let entries = Entries {
+            values: &values.entries,
+            look_up: &L::of(values),
+            ignored: &IgnoredBytes::of(&values.entries),
+        };
+        match self.decode_next::<L, O, G>(entries, false, at, input, output, stop) {
             Step::More if stop.read == input.len() => true,
             Step::More => self.decode_rest::<L, O, G>(input, output, stop),
             Step::Ended => true,
@@ -113,7 +119,7 @@ impl EncodingRef<'_> {
         requires exact { HasExactOutput self.now input.now output.old }
         ensures { HasEnded self.now input.now output.new stop.new result }
     {
-        let run = self.decode_first_run::<L, O, G>(&self.entries::<L>(), input, output);
+        let run = self.decode_first_run::<L, O, G>(input, output);
         stop.read = run.read;
         stop.written = run.written;
         if run.read == input.len() {
@@ -126,15 +132,15 @@ impl EncodingRef<'_> {
     #[inline(always)]
     fn decode_first_run<L: LookUp, O: ConstantOrder, G: GroupSize>(
         &self,
-        entries: &Entries<'_, L>,
         input: &[u8],
         output: &mut [u8],
     ) -> Progress
-        requires entries { ReadsBy L.holds self.now entries.now G.WIDTH O.ORDER }
+        requires coded { IsCodedIn self.now G.WIDTH O.ORDER }
         requires exact { HasExactOutput self.now input.now output.old }
         ensures { HasReached self.now input.now result output.new }
     {
-        let count = decode_run::<L, O, G>(entries.values, &entries.look_up, input, output);
+        let values = &self.fields.values;
+        let count = decode_run::<L, O, G>(&values.entries, &L::of(values), input, output);
         Progress {
             read: count * G::SYMBOLS,
             written: count * G::BYTES,
@@ -159,8 +165,13 @@ impl EncodingRef<'_> {
         }) output.old }
         ensures { HasEnded self.now input.now output.new stop.new result }
     {
-        let entries = self.entries::<L>();
-        let at = progress_at(&entries.ignored, stop.read, stop.written, input);
-        self.decode_steps::<L, O, G>(&entries, at, input, output, stop)
+        let values = &self.fields.values;
+        let entries = Entries {
+            values: &values.entries,
+            look_up: &L::of(values),
+            ignored: &IgnoredBytes::of(&values.entries),
+        };
+        let at = progress_at(entries.ignored, stop.read, stop.written, input);
+        self.decode_steps::<L, O, G>(entries, at, input, output, stop)
     }
 }

@@ -24,12 +24,12 @@ impl EncodingRef<'_> {
     #[inline(always)]
     pub(crate) fn decode_group<L: LookUp, G: GroupSize>(
         &self,
-        entries: &Entries<'_, L>,
+        entries: Entries<'_, L>,
         order: BitOrder,
         group: &[u8],
         output: &mut [u8],
     ) -> Result<usize, GroupFault>
-        requires entries { ReadsBy L.holds self.now entries.now G.WIDTH order }
+        requires entries { ReadsBy L.holds self.now entries G.WIDTH order }
         requires some { 0 < length group.now }
         requires few { length group.now ≤ G.SYMBOLS }
         requires room { (is_padded self.now ≡ true → length group.now ≡ G.SYMBOLS)
@@ -38,7 +38,7 @@ impl EncodingRef<'_> {
             IsDecodedGroup self.now group.now count output.new) }
         ensures fault { IfErr result (HasFault self.now false group.now) }
     {
-        let (found, front) = look_up_group(entries.values, &entries.look_up, group);
+        let (found, front) = look_up_group(entries.values, entries.look_up, group);
         let count = match self.count_symbols::<G>(entries.values, &found, group) {
             Ok(count) => count,
             Err(fault) => return Err(fault),

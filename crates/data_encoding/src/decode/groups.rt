@@ -2,8 +2,7 @@
 
 ghost use Rattle.std.specs.Prelude.{◌≡◌, ℕ, true, ◌+◌, ◌*◌, ◌/◌, ◌≤◌, length, take, IsTrue};
 ghost use Rattle.data_encoding.specs.Groups.{HasReadGroups};
-ghost use Rattle.data_encoding.specs.Progress.{IsCodedIn, ReadsBy};
-ghost use Rattle.data_encoding_meaning.specs.declared.encoding.BitOrder.{BitOrder};
+ghost use Rattle.data_encoding.specs.Progress.{ReadsBy};
 ghost use Rattle.data_encoding_meaning.specs.text.Base.{Base};
 
 use crate::encoding::EncodingRef;
@@ -14,11 +13,13 @@ use data_encoding_kernel::ignore::IgnoredBytes;
 use data_encoding_kernel::simd::decode::look_up::LookUp;
 
 /// The entries of all bytes, the look-up that has them in SIMD vectors, and the ignored bytes.
+// Passed by value, and held by references: an address of the struct would leave the function, so
+// that short texts would compute the ignored bytes too.
 #[derive(Clone, Copy, Drop)]
 pub(crate) struct Entries<'a, L> {
     pub(crate) values: &'a [u8; 256],
-    pub(crate) look_up: L,
-    pub(crate) ignored: IgnoredBytes,
+    pub(crate) look_up: &'a L,
+    pub(crate) ignored: &'a IgnoredBytes,
 }
 
 /// How many bytes of a part were read, and how many of the output were written.
@@ -33,17 +34,17 @@ impl<L: LookUp> Entries<'_, L> {
     /// eight groups reach.
     #[inline(always)]
     pub(crate) fn decode_line<O: ConstantOrder, G: GroupSize>(
-        &self,
+        self,
         part: &[u8],
         len: usize,
         output: &mut [u8],
     ) -> Groups
         requires few { len ≤ length part.now }
         requires room { len / G.SYMBOLS * G.BYTES ≤ length output.old }
-        ensures { (base : Base) → ReadsBy L.holds base self.now G.WIDTH O.ORDER
+        ensures { (base : Base) → ReadsBy L.holds base self.entry G.WIDTH O.ORDER
             → HasReadGroups base (take len part.now) result output.new }
     {
-        let count = decode_iterations::<L, O, G>(&self.look_up, part, len, output) / G::SYMBOLS;
+        let count = decode_iterations::<L, O, G>(self.look_up, part, len, output) / G::SYMBOLS;
         Groups {
             read: count * G::SYMBOLS,
             written: count * G::BYTES,
@@ -52,20 +53,6 @@ impl<L: LookUp> Entries<'_, L> {
 }
 
 impl EncodingRef<'_> {
-    /// Returns the entries of the encoding.
-    #[inline(always)]
-    pub(crate) fn entries<L: LookUp>(&self) -> Entries<'_, L>
-        ensures { (width : ℕ) → (order : BitOrder) → IsCodedIn self.now width order
-            → ReadsBy L.holds self.now result width order }
-    {
-        let values = &self.fields.values;
-        Entries {
-            values: &values.entries,
-            look_up: L::of(values),
-            ignored: IgnoredBytes::of(&values.entries),
-        }
-    }
-
     /// Decodes whole groups of the first `len` bytes of `part`: groups of symbols and, if texts may
     /// be concatenated, padded ones.
     ///
@@ -74,12 +61,12 @@ impl EncodingRef<'_> {
     #[inline(always)]
     pub(crate) fn decode_groups<L: LookUp, O: ConstantOrder, G: GroupSize>(
         &self,
-        entries: &Entries<'_, L>,
+        entries: Entries<'_, L>,
         part: &[u8],
         len: usize,
         output: &mut [u8],
     ) -> Groups
-        requires entries { ReadsBy L.holds self.now entries.now G.WIDTH O.ORDER }
+        requires entries { ReadsBy L.holds self.now entries G.WIDTH O.ORDER }
         requires few { len ≤ length part.now }
         requires room { len / G.SYMBOLS * G.BYTES ≤ length output.old }
         ensures { HasReadGroups self.now (take len part.now) result output.new }
@@ -102,13 +89,13 @@ impl EncodingRef<'_> {
     #[inline(always)]
     fn decode_run_at<L: LookUp, O: ConstantOrder, G: GroupSize>(
         &self,
-        entries: &Entries<'_, L>,
+        entries: Entries<'_, L>,
         part: &[u8],
         len: usize,
         at: Groups,
         output: &mut [u8],
     ) -> Groups
-        requires entries { ReadsBy L.holds self.now entries.now G.WIDTH O.ORDER }
+        requires entries { ReadsBy L.holds self.now entries G.WIDTH O.ORDER }
         requires few { len ≤ length part.now }
         requires at { HasReadGroups self.now (take len part.now) at output.old }
         ensures on { HasReadGroups self.now (take len part.now) result output.new }
@@ -119,7 +106,7 @@ impl EncodingRef<'_> {
         }
         let count = decode_run_within::<L, O, G>(
             entries.values,
-            &entries.look_up,
+            entries.look_up,
             &part[at.read..],
             len - at.read,
             &mut output[at.written..],
@@ -134,13 +121,13 @@ impl EncodingRef<'_> {
     #[inline(always)]
     fn decode_padded_at<L: LookUp, O: ConstantOrder, G: GroupSize>(
         &self,
-        entries: &Entries<'_, L>,
+        entries: Entries<'_, L>,
         part: &[u8],
         len: usize,
         at: Groups,
         output: &mut [u8],
     ) -> Groups
-        requires entries { ReadsBy L.holds self.now entries.now G.WIDTH O.ORDER }
+        requires entries { ReadsBy L.holds self.now entries G.WIDTH O.ORDER }
         requires few { len ≤ length part.now }
         requires at { HasReadGroups self.now (take len part.now) at output.old }
         ensures on { HasReadGroups self.now (take len part.now) result output.new }

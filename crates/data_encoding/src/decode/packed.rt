@@ -27,25 +27,25 @@ impl EncodingRef<'_> {
     #[inline(never)]
     pub(crate) fn decode_packed<L: LookUp, O: ConstantOrder, G: GroupSize>(
         &self,
-        entries: &Entries<'_, L>,
+        entries: Entries<'_, L>,
         at: Progress,
         input: &[u8],
         output: &mut [u8],
     ) -> Progress
-        requires entries { ReadsBy L.holds self.now entries.now G.WIDTH O.ORDER }
+        requires entries { ReadsBy L.holds self.now entries G.WIDTH O.ORDER }
         requires at { HasReached self.now input.now at output.old }
         ensures { GoesOn self.now input.now at.read result output.new }
     {
         let start = at.read + at.ignored;
         let mut packed = [0; ROOM];
-        let (span, count) = pack(&entries.ignored, &input[start..], &mut packed);
+        let (span, count) = pack(entries.ignored, &input[start..], &mut packed);
         let room = &mut output[at.written..];
         let found = self.decode_groups::<L, O, G>(entries, &packed, count, room);
         if found.read == 0 {
             return at;
         }
         let part = &input[start..start + span];
-        let end = span_before(&entries.ignored, part, count - found.read);
+        let end = span_before(entries.ignored, part, count - found.read);
         Progress {
             read: start + end,
             written: at.written + found.written,

@@ -8,27 +8,27 @@ use Rattle.data_encoding.specs.Groups.{HasReadGroups}
 use Rattle.data_encoding.proofs.decoding.OutputLemmas.{exact-same}
 use Rattle.data_encoding.proofs.decoding.ReadGroupLemmas.{reads-few, reads-first}
 use Rattle.data_encoding.proofs.decoding.StepLemmas.{room-next_run, under_way}
+use Rattle.data_encoding.proofs.tables.TableLemmas.{Reads-seen}
 use Rattle.data_encoding.proofs.encoding.EncodingRef.decode_first_run.Given.{Over}
 use Rattle.data_encoding.proofs.encoding.EncodingRef.decode_first_run.Goals as goal
-use Rattle.data_encoding.proofs.encoding.EncodingRef.decode_first_run.Goals.{After-BYTES, Start}
+use Rattle.data_encoding.proofs.encoding.EncodingRef.decode_first_run.Goals.{After-BYTES, After-of}
 
 -- the output has room for all groups
-room : (g : Over) (c : Start g)
+room : (g : Over) (c : After-of g)
     → length c.args.input.now / g.G.GroupSize.SYMBOLS * g.G.GroupSize.BYTES
     ≤ length c.args.output.now
 room g c =
     let base = c.args.self.now in
     let text = c.args.input.now in
-    let now = under_way g.G.GroupSize.is_group c.requires.entries.reads.width_is c.requires.exact
-    (begin base (subst IsWidth (sym c.requires.entries.reads.width_is)
-    g.G.GroupSize.is_group.is_width)
+    let now = under_way g.G.GroupSize.is_group c.requires.coded.width_is c.requires.exact
+    (begin base (subst IsWidth (sym c.requires.coded.width_is) g.G.GroupSize.is_group.is_width)
     text c.args.output.now) in
     rw (take_rest text 0, take_rest c.args.output.now 0) at
     (room-next_run now (no_front base text))
 
 pub decode_run-count-requires-clause-room : goal.decode_run-count-requires-clause-room
 decode_run-count-requires-clause-room g c =
-    room g (goal.at.decode_run-count-requires-clause-room g c).Start
+    room g (goal.at.decode_run-count-requires-clause-room g c).After-of
 
 -- the groups of the run
 found : (g : Over) (c : After-BYTES g)
@@ -43,10 +43,11 @@ found : (g : Over) (c : After-BYTES g)
 found g c fits =
     let base = c.args.self.now in
     let text = c.args.input.now in
-    let reads = c.requires.entries.reads in
+    let reads = Reads-seen _ c.self.invariant base c.self.view_is g.G.GroupSize.WIDTH
+    g.O.ConstantOrder.ORDER c.requires.coded.width_is c.requires.coded.order_is in
     let group = IsGroup-same refl c.BYTES.ensures c.SYMBOLS.ensures g.G.GroupSize.is_group in
     let whole = take_all (length text) text (omega arith) in
-    reads-first group base c.requires.entries.reads.width_is text (length text) (omega arith)
+    reads-first group base c.requires.coded.width_is text (length text) (omega arith)
     c.args.output.now c.decode_run-count.new.output
     (room-same (length text) (length c.args.output.now) c.BYTES.ensures c.SYMBOLS.ensures fits)
     c.decode_run-count.auto.output c.decode_run-count.result
@@ -59,7 +60,7 @@ returns g c =
     record {
       exact = exact-same c.requires.exact c.decode_run-count.auto.output;
       so_far = (rw (take_all (length text) text (omega arith)) at
-          (found g at.After-BYTES (room g at.Start))).so_far;
+          (found g at.After-BYTES (room g at.After-of))).so_far;
       front = no_front c.args.self.now _;
     }
 
@@ -70,9 +71,9 @@ overflow_mul-result-2 g c =
     record {
       fits = omega (
         arith,
-        reads-few group c.args.self.now c.requires.entries.reads.width_is c.args.input.now
+        reads-few group c.args.self.now c.requires.coded.width_is c.args.input.now
             (length c.args.input.now) (omega arith) c.args.output.now c.args.output.now
-            (found g at.After-BYTES (room g at.Start)),
+            (found g at.After-BYTES (room g at.After-of)),
         c.requires.exact.limit,
       );
     }

@@ -39,7 +39,7 @@ look_up_group-front-requires-clause-few g c =
 pub returns-then-front-count-clause-fault : goal.returns-then-front-count-clause-fault
 returns-then-front-count-clause-fault g c =
     let group = c.args.group.now in
-    let values = c.args.entries.now.values.now in
+    let values = c.args.entries.values.now in
     let count = c.in-Ok.count in
     let found = c.look_up_group-front in
     let len = length-take-le count group c.in-Ok.ensures.symbols.within in
@@ -67,12 +67,12 @@ count-few g c =
     omega (arith, front-few g before, c.if-front-count.false)
 
 are : (g : Over) (c : Else-front-count g)
-    → AreValuesOf c.args.entries.now.values.now (take c.in-Ok.count c.args.group.now)
+    → AreValuesOf c.args.entries.values.now (take c.in-Ok.count c.args.group.now)
     (take c.in-Ok.count c.look_up_group-front.result.0)
 are g c =
     let before = (goal.at-Else-front-count g c).After-look_up_group-front in
     let found = c.look_up_group-front in
-    values-front c.args.entries.now.values.now c.args.group.now found.result.0 found.result.1
+    values-front c.args.entries.values.now c.args.group.now found.result.0 found.result.1
     c.in-Ok.count found.ensures.within (front-few g before) found.ensures.entries
     found.ensures.symbols (omega (arith, c.if-front-count.false)) (λ k. (c.type_inv.group k).fits)
 
@@ -147,7 +147,7 @@ overflow_sub-count g c =
 -- each of them is a symbol
 symbols-low : (g : Over) (c : Else-front-count g) (k : ℕ)
     → k < length (take c.in-Ok.count c.args.group.now)
-    → slice_index c.args.entries.now.values.now
+    → slice_index c.args.entries.values.now
     (slice_index (take c.in-Ok.count c.args.group.now) k) < 128
 symbols-low g c k below =
     subst (λ v. v < 128) ((are g c).same k below) ((are g c).below k below)
@@ -155,7 +155,7 @@ symbols-low g c k below =
 pub returns-then-has_trailing-clause-fault : goal.returns-then-has_trailing-clause-fault
 returns-then-has_trailing-clause-fault g c =
     let before = (goal.at.returns-then-has_trailing-clause-fault g c).Else-front-count in
-    let values = c.args.entries.now.values.now in
+    let values = c.args.entries.values.now in
     let symbols = take c.in-Ok.count c.args.group.now in
     let reads = c.requires.entries.reads in
     rw c.faulty-then-has_trailing.ensures
@@ -171,7 +171,7 @@ returns-clause-sound g c =
     let seen = c.args.self.now in
     let group = c.args.group.now in
     let count = c.in-Ok.count in
-    let values = c.args.entries.now.values.now in
+    let values = c.args.entries.values.now in
     let symbols = take count group in
     let reads = c.requires.entries.reads in
     group-sound seen values reads.holds group (λ k. (c.type_inv.group k).fits) count

@@ -3,9 +3,6 @@ use Rattle.data_encoding_meaning.proofs.decoding.IgnoredFrontLemmas.{no_front}
 use Rattle.data_encoding.proofs.decoding.StepLemmas.{decoded-all, under_way}
 use Rattle.data_encoding.proofs.encoding.EncodingRef.decode_ignoring.Goals as goal
 
-pub decode_first_run-run-requires-clause-entries : goal.decode_first_run-run-requires-clause-entries
-decode_first_run-run-requires-clause-entries g c = c.entries.ensures _ _ c.requires.coded
-
 pub decode_rest-requires-clause-at : goal.decode_rest-requires-clause-at
 decode_rest-requires-clause-at g c =
     record {

@@ -3,6 +3,7 @@ use Rattle.data_encoding_meaning.specs.text.Base.{Base, group_symbols}
 use Rattle.data_encoding_meaning.specs.decoding.Decoding.{valid_front}
 use Rattle.data_encoding_meaning.specs.text.Lengths.{greatest_valid_length}
 use Rattle.data_encoding_meaning.proofs.decoding.GroupJudgementLemmas.{HasFault-some, few-bits, room-symbols}
+use Rattle.data_encoding.proofs.tables.TableLemmas.{HoldsValues-seen, Reads-seen, ascii-seen}
 use Rattle.data_encoding.proofs.encoding.EncodingRef.decode_prefix_by_width.Goals as goal
 
 module _ (base : Base) (rest : List ℕ) {len : ℕ}
@@ -70,5 +71,11 @@ overflow_mul-result g c =
 
 pub decode_group-requires-clause-entries : goal.decode_group-requires-clause-entries
 decode_group-requires-clause-entries g c =
-    c.entries-entries.ensures g.G.GroupSize.WIDTH c.order.result
-    (record { width_is = c.requires.width; order_is = cc })
+    record {
+      reads = Reads-seen _ c.self.invariant c.args.self.now c.self.view_is g.G.GroupSize.WIDTH
+          c.order.result c.requires.width cc;
+      held = c.of.ensures;
+      ignored = c.of-2.ensures c.args.self.now
+          (HoldsValues-seen _ c.self.invariant c.args.self.now c.self.view_is)
+          (ascii-seen _ c.self.invariant c.args.self.now c.self.view_is);
+    }

@@ -5,7 +5,7 @@ use Rattle.data_encoding.proofs.decode.groups.Entries.decode_line.Goals as goal
 
 pub returns : goal.returns
 returns g c base by =
-    let found = c.decode_iterations.ensures.run c.args.self.now.values.now by.held base by.reads in
+    let found = c.decode_iterations.ensures.run c.args.self.values.now by.held base by.reads in
     let group = IsGroup-same refl c.BYTES.ensures c.SYMBOLS-2.ensures g.G.GroupSize.is_group in
     let same = ap (λ n. c.decode_iterations.result / n) (sym c.SYMBOLS.ensures) in
     let run = rw same at found in
