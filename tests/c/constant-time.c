@@ -158,7 +158,8 @@ static void make_own(void) {
 }
 
 int main(int count, char **words) {
-    unsigned state = count > 1 ? (unsigned char)words[1][0] : 0;
+    /* In the highest bits, so that the first bytes of two secrets differ too. */
+    unsigned state = count > 1 ? (unsigned)(unsigned char)words[1][0] << 24 : 0;
     prints = count < 2;
     for (size_t index = 0; index < SECRET_LEN; index++) {
         state = state * 1664525 + 1013904223;
