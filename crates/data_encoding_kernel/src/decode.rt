@@ -117,7 +117,7 @@ fn decode_most<L: LookUp, O: ConstantOrder, G: GroupSize>(
 /// Decodes with SIMD up to the first byte that is not a symbol, and returns the number of bytes
 /// read.
 ///
-/// The whole groups among them are decoded. Stops before a last group that is not whole.
+/// The whole groups among them are decoded. May stop before a last group that is not whole.
 #[inline(always)]
 fn decode_simd<L: LookUp, O: ConstantOrder, G: GroupSize>(
     look_up: &L,
@@ -136,40 +136,22 @@ fn decode_simd<L: LookUp, O: ConstantOrder, G: GroupSize>(
     if len < 16 {
         return decode_few::<L, O, G>(look_up, part, output);
     }
+    let eight = 8 * G::SYMBOLS;
     let mut at = 0;
-    if input.len() >= 8 * G::SYMBOLS {
-        at = decode_long::<L, O, G>(look_up, input, len, output);
+    if input.len() >= eight {
+        at = decode_iterations::<L, O, G>(look_up, input, len, output);
     }
-    // An iteration stopped within, or passed the end.
-    if at % (8 * G::SYMBOLS) != 0 {
+    // An iteration stopped at a byte that is not a symbol, or passed the end.
+    if at % eight != 0 || len - at >= eight {
         return at;
     }
     decode_sixteens::<L, O, G>(look_up, at, part, output)
 }
 
-/// Calls [`decode_iterations`].
-// Not inlined, so that shorter texts do not pay for the stack that lanes take.
-#[inline(never)]
-fn decode_long<L: LookUp, O: ConstantOrder, G: GroupSize>(
-    look_up: &L,
-    input: &[u8],
-    len: usize,
-    output: &mut [u8],
-) -> usize
-    requires few { len ≤ length input.now }
-    requires room { len / G.SYMBOLS * G.BYTES ≤ length output.old }
-    ensures run { (values : List ℕ) → L.holds values look_up.now
-        → IsRunBy values G.WIDTH O.ORDER (take len input.now) (result / G.SYMBOLS) output.old
-        output.new }
-    ensures within { result ≤ len }
-{
-    decode_iterations::<L, O, G>(look_up, input, len, output)
-}
-
-/// Decodes sixteen symbols per iteration, after the first `at` bytes, up to the first byte that is
-/// not a symbol, and returns the number of bytes read.
+/// Decodes sixteen symbols per iteration, up to the first byte that is not a symbol, and returns
+/// the number of bytes read.
 ///
-/// The whole groups among them are decoded.
+/// The whole groups among them are decoded. Those of the first `at` bytes are decoded before.
 #[inline(always)]
 fn decode_sixteens<L: LookUp, O: ConstantOrder, G: GroupSize>(
     look_up: &L,
