@@ -61,6 +61,9 @@ pub fn decode_run_within<L: LookUp, O: ConstantOrder, G: GroupSize>(
     let bytes = G::BYTES;
     let part = &input[..len];
     let count = len / symbols;
+    if count == 0 {
+        return 0;
+    }
     let (first, is_longest) = decode_most::<L, O, G>(values, look_up, input, len, output);
     if is_longest {
         return first;

@@ -206,7 +206,8 @@ module _ (base : Base) (width : IsWidth base.width) (w bytes symbols : ℕ)
   pub run-on : {size count : ℕ} (part old output before piece : List ℕ) (at found i k stop : ℕ)
       → count ≡ bytes → size ≡ symbols → at ≡ i * symbols → stop ≤ length part
       → i * bytes ≤ length output → found / symbols * bytes ≤ length piece
-      → IsRun base part i old output → IsRun base (between at stop part) (found / symbols) before piece
+      → IsRun base part i old output
+      → IsRun base (between at stop part) (found / symbols) before piece
       → IsRun base part ((at + found) / symbols) old (put_mid (at / size * count) k output piece)
   run-on part old output before piece at found i k stop count_is size_is at_is =
       let some = (IsWhole-group w bytes symbols group).some_symbols in
