@@ -7,7 +7,7 @@
 # and with 64 KiB, so a byte does not take more instructions in a longer text. The bound of `plain`
 # is the number of instructions for each byte.
 #
-# Each bound is the ratio of the worst text, and about a tenth more. The worst are, of `gaps`, lines
+# Each bound is the ratio of the worst text, and at most a tenth more. The worst are, of `gaps`, lines
 # that get shorter by one group each, of `ignored`, its only text, and of `padded`, padded texts of
 # one byte. Change a bound if that text takes less, or more for a reason.
 #
@@ -32,7 +32,7 @@ done
 # x86-64-v3.
 bounds='
 plain 2.65 1.35
-gaps 2.80 4.25
+gaps 2.95 4.60
 ignored 1.80 3.40
 padded 13.6 27.7
 '
