@@ -1,4 +1,9 @@
-/** Base encodings with proofs: data as text over an alphabet of symbols, and back. */
+/**
+ * Base encodings with proofs: data as text over an alphabet of symbols, and back.
+ *
+ * Encoding and decoding are not constant-time: `SECURITY.md` of the sources has the packages in which
+ * they are.
+ */
 
 /** Bytes: data, or a text in ASCII. */
 export type Bytes = ArrayBufferLike | ArrayBufferView;

@@ -14,7 +14,8 @@
  *
  * Lengths are in bytes. No call writes a NUL after a text. No call allocates memory.
  *
- * Calls are not constant-time: how long one takes depends on its data or text.
+ * On x86-64 and ARM64 the calls that encode and decode are constant-time, as is tested: SECURITY.md
+ * of the sources has the promise and its limits.
  *
  * The library is for Linux with glibc, on x86-64 (x86-64-v2 or newer) and 64-bit ARM (ARMv8-A or
  * newer). On x86-64-v3 it uses calls made for that level. On an older x86-64 processor a call ends
@@ -224,8 +225,8 @@ de_status de_decode_len(de_number number, size_t len, size_t *most);
  *
  * The status of an invalid text is one of the four DE_INVALID_. If output has the length that
  * de_decode_len writes, the first decoded->read bytes of input then decode to the first
- * decoded->written bytes of output. In a shorter output no data is left: both numbers are 0. If
- * de_decode_len refuses the length, nothing is read and output is unchanged.
+ * decoded->written bytes of output. With a shorter output both numbers are 0, and all of output is
+ * unspecified. If de_decode_len refuses the length, nothing is read and output is unchanged.
  *
  * Within the length of de_decode_len, output after the decoded->written bytes is unspecified. After
  * DE_SHORT_BUFFER all of output is. A long text is decoded faster to an output of the length that
