@@ -9,6 +9,7 @@ ghost use Rattle.data_encoding.specs.Shown.{shown_data, shown_text};
 ghost use Rattle.data_encoding_meaning.specs.text.Text.{text_of};
 
 use crate::encode::ENCODE_LIMIT;
+use crate::encoding::lent_encoding::LentEncoding;
 use crate::encoding::{Encoding, EncodingRef, group_symbols};
 use std::fmt;
 use std::fmt::Write;
@@ -64,10 +65,7 @@ impl<'a> EncodingRef<'a> {
         ensures data { shown_data result ≡ input.now }
     {
         Display {
-            encoding: EncodingRef {
-                fields: self.fields,
-                separator: self.separator,
-            },
+            encoding: self.lend(),
             input,
         }
     }
@@ -104,9 +102,9 @@ impl<'a> EncodingRef<'a> {
 ///
 /// The width and the fill of the format have no effect. For empty data nothing is printed, and that
 /// never fails.
-#[derive(Debug, Drop)]
+#[derive(Clone, Copy, Debug, Drop)]
 pub struct Display<'a> {
-    encoding: EncodingRef<'a>,
+    encoding: LentEncoding<'a>,
     input: &'a [u8],
 }
 
@@ -118,6 +116,6 @@ impl fmt::Display for Display<'_> {
             f.new }
         ensures empty { length (shown_data self.now) ≡ 0 → IsOk result × (f.new ≡ f.old) }
     {
-        self.encoding.encode_write(self.input, f)
+        self.encoding.by_ref().encode_write(self.input, f)
     }
 }

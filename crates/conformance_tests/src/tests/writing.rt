@@ -142,5 +142,6 @@ pub(super) fn show_displayed(
     requires limit { length input.now ≤ ENCODE_LIMIT }
 {
     let shown = encoding.encode_display(input);
-    format!(in alloc; "Payload: {shown} {shown:*>20}")
+    let copied = shown;
+    format!(in alloc; "Payload: {shown} {copied:*>20}")
 }

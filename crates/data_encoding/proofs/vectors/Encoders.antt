@@ -13,18 +13,19 @@ use Rattle.data_encoding_meaning.specs.text.EncodedPieces.{HasEncoded}
 use Rattle.data_encoding.specs.Encoder.{base_of_encoder, output_name, written, capacity, held, HasTaken, IsUnchanged, name_handed_back}
 use Rattle.data_encoding.specs.declared.write.Display.{Display}
 use Rattle.data_encoding.specs.Shown.{shown_data, shown_text}
+use Rattle.data_encoding.specs.Lent.{base_of_lent}
 use Rattle.data_encoding_meaning.proofs.vectors.Examples.{bytes, Has}
 use Rattle.data_encoding_meaning.specs.text.Lengths.{alignment}
 
 shown_of : (base : Base) (bytes text : List ℕ) → text_of base bytes ≡ text
-    → (shown : Display) → shown.encoding ≡ base → shown_data shown ≡ bytes
+    → (shown : Display) → base_of_lent shown.encoding ≡ base → shown_data shown ≡ bytes
     → shown_text shown ≡ text
 shown_of base bytes text h shown is input_is =
     ap (λ b. text_of b (shown_data shown)) is ∙ ap (λ input. text_of base input) input_is ∙ h
 
 -- what a `Display` of `Hello world` prints
 text_shown :
-    Has base64_fields (λ base. (shown : Display) → shown.encoding ≡ base
+    Has base64_fields (λ base. (shown : Display) → base_of_lent shown.encoding ≡ base
     → shown_data shown ≡ codes "Hello world" → shown_text shown ≡ codes "SGVsbG8gd29ybGQ=")
 text_shown = shown_of _ _ _ refl
 
