@@ -50,8 +50,11 @@ fi
 is 'what the shared library gives' "$(grep -o '^[a-z].*\bde_[a-z_]*(' "$arm/data_encoding.h" |
     grep -o 'de_[a-z_]*($' | tr -d '(' | sort)" \
     "$(nm -D --defined-only "$arm/libdata_encoding.so" | sed 's/.* //' | sort)"
-holds 'instructions and addresses of calls with secrets' \
-    quietly tests/constant-time.sh --arm64 "$arm"
+said=$(tests/constant-time.sh --arm64 "$arm" 2>&1)
+status=$?
+grep '^skipped: ' <<<"$said" && skip 'instructions and addresses of calls with secrets, as above'
+is 'instructions and addresses of calls with secrets' 0 "$status"
+[ "$status" = 0 ] || echo "$said"
 
 # digest CC LIBRARY RUN..: what tests/c/digest.c prints.
 digest() {

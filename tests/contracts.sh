@@ -88,9 +88,10 @@ is 'words that are dropped' '`Encoding::encode_piece_len`, room' \
 is 'words after one was dropped' $((words - 1)) "$(grep -c '^- \*' "$room/copy/docs/CONTRACTS.md")"
 
 # Calls of the last column are named as the page names them.
-unknown=$(sed -n '/^## Differences from the Rust crate/,$ s/^| .* | //p' docs/LIBRARY.md |
-    grep -oE '\b[A-Z][A-Za-z]+::[a-z_]+\(' | tr -d '(' | sort -u |
-    while read -r call; do grep -qF "### \`$call\`" docs/CONTRACTS.md || echo "$call"; done)
+named=$(sed -n '/^## Differences from the Rust crate/,$ s/^| .* | //p' docs/LIBRARY.md |
+    grep -oE '\b[A-Z][A-Za-z]+::[a-z_]+\(' | tr -d '(' | sort -u)
+unknown=$(while read -r call; do grep -qF "### \`$call\`" docs/CONTRACTS.md || echo "$call"; done <<<"$named")
 is 'calls that are unknown' '' "$unknown"
+[ -n "$named" ] || fail 'the differences of docs/LIBRARY.md name no call'
 
 finish

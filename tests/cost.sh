@@ -77,7 +77,10 @@ at_most() {
 # judge NAME COLUMN: compares the table of these calls with the bounds of that column.
 judge() {
     local kind times len text
-    holds "a ratio for each text, $1" table "$1"
+    holds "makes a table, $1" table "$1"
+    is "a ratio for each text, $1" "$(grep -vc '^same' "$room/$1.calls")" "$(wc -l <"$room/table")"
+    is "the kinds of texts, $1" "$(awk '{ print $1 }' <<<"$bounds" | sort | grep .)" \
+        "$(cut -d ' ' -f 1 "$room/table" | sort -u)"
     while read -r kind times len text; do
         at_most "$text, $len bytes, $1" "$(awk -v kind="$kind" -v column="$2" \
             '$1 == kind { print $column }' <<<"$bounds")" "$times"

@@ -14,6 +14,9 @@
 # those of docs/INSTALL.md that use a file of a release, and tests/library.sh those of Rattle in README.md.
 # The programs there have at most eight lines each.
 #
+# It also compares links, names (docs/names.py), the sizes of code without proofs (docs/unproved.py), the
+# toolchain and tables with the sources.
+#
 # usage: tests/examples.sh [PROGRAM]
 . "$(dirname "$0")/common.bash" || exit 1
 
@@ -165,6 +168,25 @@ for page in *.md docs/*.md; do
     done < <(links "$page")
 done >"$room/lost"
 is 'links that lead nowhere' '' "$(cat "$room/lost")"
+[ "$(for page in *.md docs/*.md; do links "$page"; done | wc -l)" -ge 500 ] || fail 'the pages have fewer than 500 links'
+
+# said COMMAND..: what a script prints, and its status.
+said() {
+    "$@"
+    echo "status $?"
+}
+
+is 'names in pages that no source has, and numbers of runs' 'status 0' "$(said docs/names.py)"
+is 'the lines of code without proofs' 'status 0' "$(said docs/unproved.py --check)"
+
+# logics PAGE: the hashes of the logic of the toolchain that the page names, each once.
+logics() {
+    grep -ohE '\blogic [0-9a-f]{16}\b' "$@" | sort -u
+}
+logic=$(command rt version | grep -oE 'logic [0-9a-f]{16}')
+is 'the logic of the toolchain in README.md' "$logic" "$(logics README.md)"
+is 'the logic of the toolchain in docs/PROVED.md' "$logic" "$(logics docs/PROVED.md)"
+is 'the logic of the toolchain in all pages' "$logic" "$(logics *.md docs/*.md)"
 
 # cell PAGE ROW COLUMN: that cell of the first such row of the page, without its bounds.
 cell() {

@@ -7,9 +7,9 @@
 
 # Names of files with a version.
 named='[a-z_]+[-_]0\.[0-9]+\.[0-9]+[-_./a-z0-9]*'
-is 'the versions in names of files' '' \
-    "$(grep -hoE "$named" README.md docs/*.md |
-        grep -vE "[a-z][-_]${version//./\\.}" | sort -u)"
+files=$(grep -hoE "$named" README.md docs/*.md | sort -u)
+is 'the versions in names of files' '' "$(grep -vE "[a-z][-_]${version//./\\.}" <<<"$files")"
+[ -n "$files" ] || fail 'no page names a file with a version'
 is 'the versions of the crate that links' "$version $version" \
     "$(sed -n 's/^version = "\(.*\)"$/\1/p' bindings/rust/sys/Cargo.toml) \
 $(sed -n 's/^bamsturk-data-encoding-sys = { version = "\([^"]*\)".*/\1/p' bindings/rust/Cargo.toml)"
