@@ -1,10 +1,13 @@
 #!/usr/bin/env bash
-# Runs the built program from outside: its words, exit statuses and lines, and streams that fail.
+# Runs the built program from outside: its words, exit statuses and lines, and streams that fail. And
+# compares its functions with tests/not-inlined.txt.
 #
 # usage: tests/program.sh [PROGRAM]
 . "$(dirname "$0")/common.bash" || exit 1
 
 program=$(tests/find-program "$@") || exit 1
+said=$(tests/not-inlined "$program" --check 2>&1)
+is 'marked functions with code of their own (tests/not-inlined.txt)' '0 ' "$? $said"
 cd "$room" || exit 1
 usage='basecode: usage: basecode list OR encode NAME OR decode NAME OR canonical NAME'
 
