@@ -40,7 +40,8 @@ program 'calls of the shared library' tests/c/calls.c "-L$arm" -ldata_encoding
 program 'outputs that hold the data' tests/c/fits.c "$arm/libdata_encoding.a"
 program 'texts in pieces' tests/c/pieces.c "$arm/libdata_encoding.a"
 program 'data in pieces' tests/c/blocks.c "$arm/libdata_encoding.a"
-program 'what is written to a bool' tests/c/bools.c "$glue"/*.c "$arm/libdata_encoding.a" \
+opened=$(open_library "$arm/libdata_encoding.a" "$("$cc" -print-prog-name=objcopy)") || exit 1
+program 'what is written to a bool' tests/c/bools.c "$glue"/*.c "$opened" \
     -Wl,--wrap=de_numbered_is_canonical,--wrap=de_custom_is_canonical
 if [ -n "$arm_root" ]; then
     program 'two threads' tests/c/threads.c "$arm/libdata_encoding.a" -pthread

@@ -12,6 +12,7 @@ if ! command -v "$cc" >/dev/null; then
 fi
 
 find_library "$@"
+opened=$(open_library "$lib/libdata_encoding.a") || exit 1
 strict=(-std=c99 -Wall -Wextra -Wpedantic -Werror "-I$lib")
 sanitized=(-g -fsanitize=address,undefined -fno-sanitize-recover=all)
 glue=crates/data_encoding_c/glue
@@ -59,10 +60,10 @@ program 'outputs that hold the data' "$cc" "${strict[@]}" tests/c/fits.c "$lib/l
 program 'texts in pieces' "$cc" "${strict[@]}" tests/c/pieces.c "$lib/libdata_encoding.a"
 program 'data in pieces' "$cc" "${strict[@]}" tests/c/blocks.c "$lib/libdata_encoding.a"
 program 'what is written to a bool' "$cc" "${strict[@]}" tests/c/bools.c "$glue"/*.c \
-    "$lib/libdata_encoding.a" -Wl,--wrap=de_numbered_is_canonical,--wrap=de_custom_is_canonical
+    "$opened" -Wl,--wrap=de_numbered_is_canonical,--wrap=de_custom_is_canonical
 
 # Which calls are taken: those for x86-64-v3 are replaced here, by some that say so.
-"$cc" "${strict[@]}" -DDE_WIDE tests/c/processors.c "$glue"/*.c "$lib/libdata_encoding.a" \
+"$cc" "${strict[@]}" -DDE_WIDE tests/c/processors.c "$glue"/*.c "$opened" \
     -o "$room/processors"
 missing=$(for feature in abm avx avx2 bmi1 bmi2 f16c fma movbe xsave; do
     grep -m 1 '^flags' /proc/cpuinfo | grep -qw "$feature" || echo "$feature"
@@ -93,13 +94,13 @@ begin 'the program of speed' "$cc" -O2 "${strict[@]}" tests/c/speed.c "$lib/libd
 echo 'int main(void) { return 0; }' >"$room/empty.c"
 if "$cc" "${sanitized[@]}" "$room/empty.c" -o "$room/empty" 2>/dev/null; then
     program 'calls with sanitizers' "$cc" "${strict[@]}" "${sanitized[@]}" tests/c/calls.c \
-        "$glue"/*.c "$lib/libdata_encoding.a"
+        "$glue"/*.c "$opened"
     program 'outputs that hold the data, with sanitizers' "$cc" "${strict[@]}" "${sanitized[@]}" \
-        tests/c/fits.c "$glue"/*.c "$lib/libdata_encoding.a"
+        tests/c/fits.c "$glue"/*.c "$opened"
     program 'texts in pieces with sanitizers' "$cc" "${strict[@]}" "${sanitized[@]}" \
-        tests/c/pieces.c "$glue"/*.c "$lib/libdata_encoding.a"
+        tests/c/pieces.c "$glue"/*.c "$opened"
     program 'data in pieces with sanitizers' "$cc" "${strict[@]}" "${sanitized[@]}" \
-        tests/c/blocks.c "$glue"/*.c "$lib/libdata_encoding.a"
+        tests/c/blocks.c "$glue"/*.c "$opened"
 else
     skip 'sanitizers: this compiler has none'
 fi
@@ -161,9 +162,11 @@ is 'the version of the header' "$version \"$version\"" "$macros"
 interface=$(sed -n 's/^#define DE_INTERFACE //p' "$lib/data_encoding.h")
 is 'the name of the shared library' "libdata_encoding.so.$interface" \
     "$(readelf -d "$lib/libdata_encoding.so" | sed -n 's/.*SONAME.*\[\(.*\)\]/\1/p')"
-is 'what the shared library gives' "$(grep -o '^[a-z].*\bde_[a-z_]*(' "$lib/data_encoding.h" |
-    grep -o 'de_[a-z_]*($' | tr -d '(' | sort)" \
+calls=$(grep -o '^[a-z].*\bde_[a-z_]*(' "$lib/data_encoding.h" | grep -o 'de_[a-z_]*($' | tr -d '(' | sort)
+is 'the names of the shared library' "$calls" \
     "$(nm -D --defined-only "$lib/libdata_encoding.so" | sed 's/.* //' | sort)"
+is 'the names of the static library' "$calls" \
+    "$(nm -g --defined-only "$lib/libdata_encoding.a" | sed -n 's/^[0-9a-f].* //p' | sort)"
 
 # files FOLDER: the files below it, with their modes, and the links.
 files() {
@@ -295,13 +298,17 @@ size() {
 holds 'what is not called is left out' [ "$(size -Wl,--gc-sections)" -lt "$(($(size) / 2))" ]
 is 'what is left prints the same' SGVsbG8= "$(cat "$room/said")"
 
-# Without the choice of the processor, as in a library for one: the half in C, and the proved half.
-mkdir "$room/parts"
-(cd "$room/parts" && ar x "$lib/libdata_encoding.a" && rm data_encoding.o)
-"$cc" "${strict[@]}" -O2 -c "$glue/data_encoding.c" -o "$room/parts/one.o"
-is 'what a library for one processor needs' $'memcpy\nmemmove\nmemset' \
-    "$(nm -u "$room"/parts/*.o | sed -n 's/^ *U //p' |
-        grep -v '^de_\|^_GLOBAL_OFFSET_TABLE_$' | sort -u)"
+# needs FILE: the functions that a library or an object lacks, without those of the other half.
+needs() {
+    nm -u "$1" | sed -n 's/^ *U //p' | grep -v '^de_\|^_GLOBAL_OFFSET_TABLE_$' | sort -u
+}
+
+# For one processor there is no choice, and the half in C needs no more than the other.
+choice=$'__cpu_indicator_init\n__cpu_model\ngetenv\nstrcmp'
+is 'what the library needs' "$(sort <<<$'memcpy\nmemmove\nmemset\n'"$choice")" \
+    "$(needs "$lib/libdata_encoding.a")"
+"$cc" "${strict[@]}" -O2 -c "$glue/data_encoding.c" -o "$room/one.o"
+is 'what the choice of the processor needs' '' "$(needs "$room/one.o" | grep -Fx "$choice")"
 
 # An installed library is found after a move, also if the name of its folder has a blank.
 holds 'installs to be moved' quietly in_room "$install" "$lib" first

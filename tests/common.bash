@@ -65,6 +65,15 @@ find_library() {
     lib=$(realpath "$room/lib") || exit 1
 }
 
+# open_library FILE OBJCOPY: prints the path of a copy of a static library that also has its inner names,
+# and gives way to a program that has some of its functions itself.
+open_library() {
+    local opened
+    opened=$room/opened.$(basename "$(dirname "$1")").a
+    "${2:-objcopy}" -w --globalize-symbol='de_*' "$1" "$opened" && "${2:-objcopy}" -w --weaken-symbol='de_*' "$opened" || exit 1
+    echo "$opened"
+}
+
 # find_python: sets `python` to the first Python for which `lacking PYTHON`, which is the test's own,
 # prints nothing; where there is none, `python` is empty, and `missing` what the last one lacks.
 find_python() {

@@ -78,17 +78,15 @@ archive() {
     realpath "$made"
 }
 
-# join_wide ARCHIVE OBJECT: links what was built for x86-64-v3 into one object, which exports only
-# the names of glue/bytes.h, as de_wide_NAME.
+# join_wide ARCHIVE OBJECT: links what was built for x86-64-v3 into one object, with each name de_NAME as
+# de_wide_NAME, which exports only the names of glue/bytes.h.
 join_wide() {
-    local name renamed=()
-    for name in $(sed -n 's/^de_status CALL(\([a-z_]*\)).*/\1/p' glue/bytes.h); do
-        renamed+=(--redefine-sym "de_$name=de_wide_$name")
-    done
     mkdir "$room/wide"
     (cd "$room/wide" && ar x "$1" && ld -r -o ../joined.o ./*.o)
-    objcopy "${renamed[@]}" "$room/joined.o" "$room/renamed.o"
-    objcopy -w --keep-global-symbol='de_wide_*' "$room/renamed.o" "$2"
+    nm -g --defined-only "$room/joined.o" | sed -n 's/.* de_\(.*\)/de_\1 de_wide_\1/p' >"$room/renamed"
+    objcopy --redefine-syms="$room/renamed" "$room/joined.o" "$room/renamed.o"
+    sed -n 's/^de_status CALL(\([a-z_]*\)).*/de_wide_\1/p' glue/bytes.h >"$room/exported"
+    objcopy --keep-global-symbols="$room/exported" "$room/renamed.o" "$2"
     rm -r "$room/wide" "$room/joined.o" "$room/renamed.o"
 }
 
@@ -111,17 +109,14 @@ for source in glue/*.c; do
         -ffunction-sections -fdata-sections ${CFLAGS:-} ${wide[@]+"${wide[@]}"} -Iinclude \
         -c "$source" -o "$room/$(basename "$source" .c).o"
 done
-(cd "$room" && ar x "$made")
+# One object, which has only the names of the header: the proved half has others.
+(cd "$room" && ar x "$made" && "$("$cc" -print-prog-name=ld)" -r -o joined ./*.o)
+sed -n '/^DE_EXPORT/ { n; s/.*[ *]\(de_[a-z_]*\)(.*/\1/p; }' "$header" >"$room/names"
+"$("$cc" -print-prog-name=objcopy)" --keep-global-symbols="$room/names" "$room/joined" \
+    "$room/data_encoding.o"
 rm -f "$target/libdata_encoding.a"
-ar crs "$target/libdata_encoding.a" "$room"/*.o
-# The proved half also has names that the header does not have; they are not exported.
-{
-    echo '{ global:'
-    sed -n '/^DE_EXPORT/ { n; s/.*[ *]\(de_[a-z_]*\)(.*/    \1;/p; }' "$header"
-    echo 'local: *; };'
-} >"$room/names"
-"$cc" -shared -Wl,--version-script="$room/names" -Wl,-soname,"$shared" -o "$target/$shared" \
-    "$room"/*.o
+ar crs "$target/libdata_encoding.a" "$room/data_encoding.o"
+"$cc" -shared -Wl,-soname,"$shared" -o "$target/$shared" "$room/data_encoding.o"
 ln -sf "$shared" "$target/libdata_encoding.so"
 cp "$header" ../../LICENSE "$target"
 for file in package/*; do

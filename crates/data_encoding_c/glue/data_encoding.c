@@ -23,7 +23,7 @@ struct form {
 
 de_status de_numbered_encode_len(de_number number, size_t len, size_t *text_len);
 de_status de_numbered_decode_len(de_number number, size_t len, size_t *most);
-de_status de_numbered_is_canonical(de_number number, bool *canonical);
+de_status de_numbered_is_canonical(de_number number, bool *answer);
 de_status de_numbered_name(de_number number, byte *output, size_t output_len, size_t *written);
 de_status de_named_number(const byte *name, size_t name_len, de_number *number);
 
@@ -38,11 +38,11 @@ struct made de_custom_new(const struct form *form, const byte *symbols, size_t s
                         const byte *ignore, size_t ignore_len, const byte *separator,
                         size_t separator_len, const byte *from, size_t from_len, const byte *to,
                         size_t to_len);
-struct made de_custom_read(const byte *bytes, size_t len);
+struct made de_custom_read(const byte *bytes, size_t bytes_len);
 de_status de_custom_layout(const byte *held, byte *output, size_t output_len, size_t *written);
 de_status de_custom_encode_len(const byte *held, size_t len, size_t *text_len);
 de_status de_custom_decode_len(const byte *held, size_t len, size_t *most);
-de_status de_custom_is_canonical(const byte *held, bool *canonical);
+de_status de_custom_is_canonical(const byte *held, bool *answer);
 void de_plain_decoder_new(de_decoder *decoder);
 de_status de_numbered_decoder_most(de_number number, const de_decoder *decoder, size_t len,
                                    size_t *most);
@@ -97,7 +97,8 @@ static bool is_wide;
 /* The least length in bytes from which they take less time. */
 enum { WIDE_FROM = 64 };
 
-#define BY_PROCESSOR(name, len) (is_wide && (len) >= WIDE_FROM ? de_wide_##name : de_##name)
+#define BY_PROCESSOR(name, len, arguments)                                                         \
+    (is_wide && (len) >= WIDE_FROM ? de_wide_##name arguments : de_##name arguments)
 
 /* Returns true if the processor has x86-64-v3, and the system saves the wide registers. */
 static bool has_wide(void) {
@@ -116,7 +117,7 @@ __attribute__((constructor)) static void choose(void) {
     is_wide = (asked == NULL || strcmp(asked, "baseline") != 0) && has_wide();
 }
 #else
-#define BY_PROCESSOR(name, len) de_##name
+#define BY_PROCESSOR(name, len, arguments) de_##name arguments
 #endif
 
 /* The mark of a de_encoding that was made: eight bytes without a pattern. */
@@ -200,7 +201,8 @@ de_status de_encode(de_number number, const void *input, size_t input_len, char 
     if (from == NULL || to == NULL || written == NULL) {
         return DE_NULL_POINTER;
     }
-    return BY_PROCESSOR(numbered_encode, input_len)(number, from, input_len, to, output_len, written);
+    return BY_PROCESSOR(numbered_encode, input_len,
+                        (number, from, input_len, to, output_len, written));
 }
 
 de_status de_decode_len(de_number number, size_t len, size_t *most) {
@@ -217,7 +219,8 @@ de_status de_decode(de_number number, const char *input, size_t input_len, void 
     if (from == NULL || to == NULL || decoded == NULL) {
         return DE_NULL_POINTER;
     }
-    return BY_PROCESSOR(numbered_decode, input_len)(number, from, input_len, to, output_len, decoded);
+    return BY_PROCESSOR(numbered_decode, input_len,
+                        (number, from, input_len, to, output_len, decoded));
 }
 
 /* A caller's bool may be invalid before the call: the answer is written to another one first. */
@@ -282,7 +285,7 @@ de_status de_encoding_new(de_encoding *encoding, const de_specification *asked, 
     form.wrap_width = asked->wrap_width;
     form.has_padding = asked->padding >= 0;
     /* No character from 128 on is ASCII. */
-    form.padding = (byte)(asked->padding < 128 ? asked->padding & 127 : 128);
+    form.padding = (byte)(asked->padding < 0 ? 0 : asked->padding < 128 ? asked->padding : 128);
     form.least_significant_first = asked->least_significant_first;
     form.check_trailing_bits = asked->check_trailing_bits;
     form.concatenate = asked->concatenate;
@@ -338,7 +341,8 @@ de_status de_encoding_encode(const de_encoding *encoding, const void *input, siz
     if (!is_held(encoding)) {
         return DE_NO_ENCODING;
     }
-    return BY_PROCESSOR(custom_encode, input_len)(encoding->tables, from, input_len, to, output_len, written);
+    return BY_PROCESSOR(custom_encode, input_len,
+                        (encoding->tables, from, input_len, to, output_len, written));
 }
 
 de_status de_encoding_decode_len(const de_encoding *encoding, size_t len, size_t *most) {
@@ -361,7 +365,8 @@ de_status de_encoding_decode(const de_encoding *encoding, const char *input, siz
     if (!is_held(encoding)) {
         return DE_NO_ENCODING;
     }
-    return BY_PROCESSOR(custom_decode, input_len)(encoding->tables, from, input_len, to, output_len, decoded);
+    return BY_PROCESSOR(custom_decode, input_len,
+                        (encoding->tables, from, input_len, to, output_len, decoded));
 }
 
 de_status de_encoding_is_canonical(const de_encoding *encoding, bool *canonical) {
@@ -402,7 +407,8 @@ de_status de_decoder_read(de_number number, de_decoder *decoder, const char *inp
     if (decoder == NULL || from == NULL || to == NULL || written == NULL) {
         return DE_NULL_POINTER;
     }
-    return BY_PROCESSOR(numbered_decoder_read, input_len)(number, decoder, from, input_len, to, output_len, written);
+    return BY_PROCESSOR(numbered_decoder_read, input_len,
+                        (number, decoder, from, input_len, to, output_len, written));
 }
 
 de_status de_decoder_finish(de_number number, const de_decoder *decoder, void *output,
@@ -436,8 +442,8 @@ de_status de_encoding_decoder_read(const de_encoding *encoding, de_decoder *deco
     if (!is_held(encoding)) {
         return DE_NO_ENCODING;
     }
-    return BY_PROCESSOR(custom_decoder_read, input_len)(encoding->tables, decoder, from, input_len, to, output_len,
-                                written);
+    return BY_PROCESSOR(custom_decoder_read, input_len,
+                        (encoding->tables, decoder, from, input_len, to, output_len, written));
 }
 
 de_status de_encoding_decoder_finish(const de_encoding *encoding, const de_decoder *decoder,
@@ -561,7 +567,8 @@ de_status de_encoder_read(de_number number, de_encoder *encoder, const void *inp
     if (encoder == NULL || from == NULL || to == NULL || written == NULL) {
         return DE_NULL_POINTER;
     }
-    return BY_PROCESSOR(numbered_encoder_read, input_len)(number, encoder, from, input_len, to, output_len, written);
+    return BY_PROCESSOR(numbered_encoder_read, input_len,
+                        (number, encoder, from, input_len, to, output_len, written));
 }
 
 de_status de_encoder_finish(de_number number, const de_encoder *encoder, char *output,
@@ -595,8 +602,8 @@ de_status de_encoding_encoder_read(const de_encoding *encoding, de_encoder *enco
     if (!is_held(encoding)) {
         return DE_NO_ENCODING;
     }
-    return BY_PROCESSOR(custom_encoder_read, input_len)(encoding->tables, encoder, from, input_len, to, output_len,
-                                written);
+    return BY_PROCESSOR(custom_encoder_read, input_len,
+                        (encoding->tables, encoder, from, input_len, to, output_len, written));
 }
 
 de_status de_encoding_encoder_finish(const de_encoding *encoding, const de_encoder *encoder,
