@@ -56,6 +56,12 @@ for folder in '' "$room" lib; do
         build_ext 2>&1)
     is "without a library in '$folder'" "$wanted" "$given"
 done
+mkdir -p old/setuptools/command
+echo 'Extension = setup = None; __version__ = "60.10.0"' >old/setuptools/__init__.py
+echo 'build_ext = object' >old/setuptools/command/build_ext.py
+is 'an old setuptools' \
+    'setuptools 60.10.0 is too old: run `pip install "setuptools>=61" wheel` first' \
+    "$(cd bindings/python && PYTHONPATH=$room/old "$python" setup.py -q build_ext 2>&1)"
 is 'an sdist, which needs none' "data_encoding-$version" \
     "$(cd bindings/python && env -u DATA_ENCODING_DIR "$python" setup.py -q sdist --dist-dir .. \
         >/dev/null 2>&1 && tar -tf ../data*"$version.tar.gz" | head -n 1 | tr -d / | tr - _ |
@@ -117,15 +123,21 @@ is_from() {
 }
 
 try_with "$python" 'the package'
-# The wheel serves any other Python from 3.11 on. An older one has a module built with it.
+# The wheel serves any other Python from 3.11 on. An older one has a module built with it, and with
+# this setuptools, since its own may be too old.
+mkdir newer
+for module in setuptools pkg_resources _distutils_hack; do
+    found=$("$python" -c "import $module; print($module.__path__[0])" 2>/dev/null) &&
+        ln -s "$found" newer
+done
 for other in $(pythons); do
     if is_from "$other" 11; then
         try_with "$other" "the package with $other"
     elif is_from "$other" 9 && "$other" -c 'import setuptools' 2>/dev/null; then
         cp -r bindings/python older
         cp -r older/src site-older
-        (cd older && DATA_ENCODING_DIR=$lib quietly "$other" setup.py -q build_ext \
-            --build-lib ../site-older) || fail "a module for $other"
+        (cd older && DATA_ENCODING_DIR=$lib PYTHONPATH=$room/newer quietly "$other" setup.py -q \
+            build_ext --build-lib ../site-older) || fail "a module for $other"
         PYTHONPATH=$room/site-older try_with "$other" "the module for $other"
         rm -r older site-older
     fi
