@@ -179,6 +179,21 @@ PYTHONPATH=$room/site-copying holds 'the tests of a module that copies texts' \
 if command -v mypy >/dev/null; then
     MYPYPATH=site holds 'its types' quietly mypy --strict --cache-dir mypy site/data_encoding \
         "${tests[@]}"
+    cat >wrong.py <<'END'
+import io, sys
+from data_encoding import BASE64, compat
+
+compat.b64decode(5)
+compat.b64encode("text")
+compat.encodebytes("text")
+compat.decodebytes("text")
+BASE64.encode_stream(io.BytesIO(), 5)
+BASE64.encode_stream(io.BytesIO(), sys.stdout)
+BASE64.encode_stream(io.BytesIO(), sys.stdout.buffer)
+print(compat.b64encode(memoryview(b"data"), b"-_"), compat.b64decode(bytearray(b"Zm9v"), "-_"))
+END
+    is 'the lines with a wrong type' $'4\n5\n6\n7\n8' "$(MYPYPATH=site mypy --strict --cache-dir mypy \
+        wrong.py | sed -n 's/^wrong.py:\([0-9]*\): error.*/\1/p')"
 else
     skip 'the types of the package: no mypy'
 fi
