@@ -98,6 +98,16 @@ unset DATA_ENCODING_DIR
 is 'the versions of the module and of the wheel' "$version $version" "$("$python" -c '
 import importlib.metadata, data_encoding
 print(data_encoding.__version__, importlib.metadata.version("data-encoding"))')"
+if command -v qemu-x86_64 >/dev/null; then
+    is 'an older processor' 'data_encoding needs an x86-64-v2 processor' "$(qemu-x86_64 -cpu core2duo \
+        "$("$python" -c 'import os, sys; print(os.path.realpath(sys.executable))')" -c '
+try:
+    import data_encoding
+except ImportError as error:
+    print(error)' 2>&1)"
+else
+    skip 'the package on an older processor: no qemu-x86_64 (qemu-user)'
+fi
 tests=(bindings/python/tests/test_data_encoding.py bindings/python/tests/test_compat.py)
 
 # try_with PYTHON NAME: runs the tests of the package with a Python.
