@@ -27,9 +27,10 @@ for target in "${targets[@]}"; do
     jobs+=($!)
 done
 
-# A mistake: a text in pieces of which one has 5 bytes or more loses the first byte of that.
+# A mistake: a piece of 7 bytes loses its first byte where 3 bytes are held.
 cp -r crates/data_encoding_c/glue "$room/wrong"
-sed -i 's/(number, decoder, from, input_len, to, output_len, written));/(number, decoder, from + (input_len > 4), input_len - (input_len > 4), to, output_len, written));/' \
+echo '#define WRONG (decoder->count == 3 && input_len == 7)' >>"$room/wrong/bytes.h"
+sed -i 's/(number, decoder, from, input_len, to, output_len, written));/(number, decoder, from + WRONG, input_len - WRONG, to, output_len, written));/' \
     "$room/wrong/data_encoding.c"
 holds 'the mistake is planted' quietly eval '! cmp crates/data_encoding_c/glue/data_encoding.c "$room/wrong/data_encoding.c"'
 holds 'with the mistake' quietly tests/fuzz/build.sh "$lib" "$room/found" "$room/wrong"
