@@ -1,10 +1,10 @@
 #!/usr/bin/env python3
-"""Counts the lines of the code that no proof covers: what the library for C and the packages add.
+"""Counts the lines of the code that no proof covers: the packages for Python, Rust and JavaScript.
 
 usage: docs/unproved.py           prints the numbers, as a page may have them
        docs/unproved.py --check   prints what is wrong in the pages; status 1 if something is
 
-README.md, SECURITY.md and docs/PROVED.md may say `N lines of C`, or `N of C` in a list that begins so, and
+README.md, SECURITY.md and docs/PROVED.md may say `N lines of Rust`, or `N of Rust` in a list that begins so, and
 the same of the other languages. A number there is at most a twentieth from the lines. docs/PROVED.md has
 each.
 """
@@ -16,7 +16,6 @@ TOP = Path(__file__).resolve().parent.parent
 
 # The Python package has a file in C, and its lines are those of the package.
 SOURCES = {
-    "C": ["crates/data_encoding_c/glue/*.[ch]"],
     "Python": ["bindings/python/src/data_encoding/*.py", "bindings/python/src/data_encoding/*.c"],
     "Rust": ["bindings/rust/src/**/*.rs"],
     "JavaScript": ["bindings/javascript/src/*.js"],

@@ -20,6 +20,7 @@ done
 crate=$PWD/crates/data_encoding_c
 export WHY3CONFIG=$room/why3.conf
 why3 config detect >/dev/null 2>&1
+libc=$(frama-c -print-share-path)/libc
 cp "$crate/contracts/char.ml" "$room"
 holds 'a machine with an unsigned char' ocamlopt -shared -I "$(frama-c -print-lib-path)" -o "$room/char.cmxs" \
     "$room/char.ml"
@@ -29,15 +30,15 @@ frama() {
     local glue=$1 file=$2
     shift 2
     nice frama-c -load-module "$room/char.cmxs" -machdep gcc_x86_64_unsigned_char -no-frama-c-stdlib \
-        -cpp-extra-args="-nostdinc -I$crate/contracts/stub -I$(frama-c -print-share-path)/libc
-            -D__FC_MACHDEP_GCC_X86_64 -I$glue -I$crate/include -DDE_EXPORT= $wide" \
+        -cpp-extra-args="-nostdinc -I$crate/contracts/stub -I$libc -D__FC_MACHDEP_GCC_X86_64" \
+        -cpp-extra-args="-I$glue -I$crate/include -DDE_EXPORT= $wide" \
         "$crate/contracts/$file" -warn-invalid-pointer "$@" 2>&1
 }
 
 # wp GLUE OPTION..: tries to prove the layer in a folder.
 wp() {
     frama "$1" wp.c -warn-unsigned-downcast -warn-signed-downcast -warn-unsigned-overflow -wp -wp-rte \
-        -wp-model Typed -wp-prover cvc4 -wp-par 1 "${@:2}"
+        -wp-model Typed -wp-prover cvc4 "${@:2}"
 }
 
 # not_proved FILE: the goals that are not proved, by what WP printed.
@@ -58,15 +59,27 @@ alarms() {
         done | sort
 }
 
+# plant EDIT: makes an edit in "$room/wrong". The text that it replaces is there once.
+plant() {
+    python3 - "$1" "$room/wrong/data_encoding.c" <<'END'
+import sys
+edit, path = sys.argv[1:]
+old, new = (line.split(": ", 1)[1] for line in open(edit).read().splitlines()[1:])
+text = open(path).read()
+assert text.count(old) == 1
+open(path, "w").write(text.replace(old, new))
+END
+}
+
 # left TOOL: what the file names.
 left() {
     sed -n "s/^$1 //p" "$crate/contracts/left.txt" | sort
 }
 
-wp "$crate/glue" -wp-timeout 20 >"$room/wp" &
+wp "$crate/glue" -wp-par 2 -wp-timeout 20 >"$room/wp" &
 proof=$!
 
-holds 'Eva ends' eval 'frama "$crate/glue" eva.c -DEVA -eva -eva-precision 6 >"$room/eva"'
+holds 'Eva ends' eval 'frama "$crate/glue" eva.c -cpp-extra-args=-DEVA -eva -eva-precision 6 >"$room/eva"'
 is 'what Eva does not prove' "$(left eva)" "$(alarms "$room/eva")"
 holds 'Eva finds nothing wrong' grep -q ' 0 unknown *0 invalid *[0-9]* total' \
     <(grep Preconditions "$room/eva")
@@ -78,12 +91,9 @@ functions=
 for edit in "$crate"/contracts/must-fail/*.edit; do
     name=$(basename "$edit")
     functions+=,${name%%-*}
-    holds "$name is one edit" perl -e 'local $/; open F, shift; $_ = <F>; open G, shift; $edit = <G>;
-        ($old, $new) = $edit =~ /^old: (.*)\nnew: (.*)\n/m; $count = s/\Q$old\E/$new/g;
-        open F, ">", "'"$room"'/wrong/data_encoding.c"; print F; exit $count != 1' \
-        "$room/wrong/data_encoding.c" "$edit"
+    holds "$name is one edit" plant "$edit"
 done
-wp "$room/wrong" -wp-fct "${functions#,}" -wp-timeout 4 >"$room/edits"
+wp "$room/wrong" -wp-fct "${functions#,}" -wp-par 1 -wp-timeout 4 >"$room/edits"
 for edit in "$crate"/contracts/must-fail/*.edit; do
     name=$(basename "$edit" .edit)
     holds "$name is refused" grep -qE "^${name%%-*}_(call|none|null|long_name|ensures|assert|assigns|terminates|loop)" \

@@ -18,7 +18,7 @@
     Does(\old(by), \old(*state), \old(BYTES(output, output_len)), BYTES(output, output_len), \
         \old(*new), *new, \result)
 
-/* Three cases: a pointer is missing, the encoding was not made, or the call is that of an export. */
+/* Three cases: a pointer is missing, the encoding was not made, or the call is an export's. */
 #define REFUSES(no_pointer) \
     terminates yes; exits no; \
     behavior null: \
@@ -126,8 +126,8 @@ de_status de_number_named(const char *name, size_t name_len, de_number *number);
     base_of(fields_asked( \
         form_of(asked->wrap_width, \
             asked->padding < 0 ? 0 : asked->padding < 128 ? asked->padding : 128, \
-            asked->padding < 0 ? 0 : 1, asked->least_significant_first, asked->check_trailing_bits, \
-            asked->concatenate), \
+            asked->padding < 0 ? 0 : 1, asked->least_significant_first, \
+            asked->check_trailing_bits, asked->concatenate), \
         BYTES(asked->symbols, asked->symbols_len), BYTES(asked->ignore, asked->ignore_len), \
         BYTES(asked->wrap_separator, asked->wrap_separator_len), \
         BYTES(asked->translate_from, asked->translate_from_len), \
@@ -249,7 +249,8 @@ de_status de_decoder_most(de_number number, const de_decoder *decoder, size_t le
 /*@ requires chosen;
   @ requires in_bytes(input, input_len) && out_bytes(output, output_len);
   @ requires VALUE(decoder) && VALUE(written);
-  @ CALL_UNLESS(decoder == \null || missing(input, input_len) || missing(output, output_len) || written == \null)
+  @ CALL_UNLESS(decoder == \null || missing(input, input_len) ||
+  @     missing(output, output_len) || written == \null)
   @   requires \separated(SPAN(input, input_len), SPAN(output, output_len), decoder, written);
   @   assigns ((byte *)output)[0 .. output_len - 1], *decoder, *written;
   @   ensures READS(ReadsPieceByNumber, number, decoder);
@@ -278,7 +279,8 @@ de_status de_encoding_decoder_most(const de_encoding *encoding, const de_decoder
 /*@ requires chosen;
   @ requires in_bytes(input, input_len) && out_bytes(output, output_len);
   @ requires VALUE(decoder) && VALUE(written);
-  @ CALL_IF_MADE(decoder == \null || missing(input, input_len) || missing(output, output_len) || written == \null)
+  @ CALL_IF_MADE(decoder == \null || missing(input, input_len) ||
+  @     missing(output, output_len) || written == \null)
   @   requires \separated(SPAN(input, input_len), SPAN(output, output_len), decoder, written);
   @   requires \separated(encoding, SPAN(output, output_len), decoder, written);
   @   assigns ((byte *)output)[0 .. output_len - 1], *decoder, *written;
@@ -379,7 +381,8 @@ de_status de_encoder_most(de_number number, const de_encoder *encoder, size_t le
 /*@ requires chosen;
   @ requires in_bytes(input, input_len) && out_bytes(output, output_len);
   @ requires VALUE(encoder) && VALUE(written);
-  @ CALL_UNLESS(encoder == \null || missing(input, input_len) || missing(output, output_len) || written == \null)
+  @ CALL_UNLESS(encoder == \null || missing(input, input_len) ||
+  @     missing(output, output_len) || written == \null)
   @   requires \separated(SPAN(input, input_len), SPAN(output, output_len), encoder, written);
   @   assigns ((byte *)output)[0 .. output_len - 1], *encoder, *written;
   @   ensures READS(EncodesPieceByNumber, number, encoder);
@@ -408,7 +411,8 @@ de_status de_encoding_encoder_most(const de_encoding *encoding, const de_encoder
 /*@ requires chosen;
   @ requires in_bytes(input, input_len) && out_bytes(output, output_len);
   @ requires VALUE(encoder) && VALUE(written);
-  @ CALL_IF_MADE(encoder == \null || missing(input, input_len) || missing(output, output_len) || written == \null)
+  @ CALL_IF_MADE(encoder == \null || missing(input, input_len) ||
+  @     missing(output, output_len) || written == \null)
   @   requires \separated(SPAN(input, input_len), SPAN(output, output_len), encoder, written);
   @   requires \separated(encoding, SPAN(output, output_len), encoder, written);
   @   assigns ((byte *)output)[0 .. output_len - 1], *encoder, *written;

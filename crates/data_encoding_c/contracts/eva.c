@@ -41,7 +41,9 @@ static de_status calls(const void *input, size_t input_len, byte *output, size_t
     while (any) {
         switch (any) {
         case 0: status = de_encode_len(number, len, to_size); break;
-        case 1: status = de_encode(number, input, input_len, (char *)output, output_len, to_size); break;
+        case 1:
+            status = de_encode(number, input, input_len, (char *)output, output_len, to_size);
+            break;
         case 2: status = de_decode_len(number, len, to_size); break;
         case 3: status = de_decode(number, input, input_len, output, output_len, decoded); break;
         case 4: status = de_is_canonical(number, answer); break;
@@ -62,17 +64,30 @@ static de_status calls(const void *input, size_t input_len, byte *output, size_t
         case 8: status = de_encoding_layout(encoding, output, output_len, to_size); break;
         case 9: status = de_encoding_read(encoding, input, input_len); break;
         case 10: status = de_encoding_encode_len(encoding, len, to_size); break;
-        case 11: status = de_encoding_encode(encoding, input, input_len, (char *)output, output_len, to_size); break;
+        case 11:
+            status =
+                de_encoding_encode(encoding, input, input_len, (char *)output, output_len, to_size);
+            break;
         case 12: status = de_encoding_decode_len(encoding, len, to_size); break;
-        case 13: status = de_encoding_decode(encoding, input, input_len, output, output_len, decoded); break;
+        case 13:
+            status = de_encoding_decode(encoding, input, input_len, output, output_len, decoded);
+            break;
         case 14: status = de_encoding_is_canonical(encoding, answer); break;
         case 15: status = de_decoder_new(decoder); break;
         case 16: status = de_decoder_most(number, decoder, len, to_size); break;
-        case 17: status = de_decoder_read(number, decoder, input, input_len, output, output_len, to_size); break;
+        case 17:
+            status =
+                de_decoder_read(number, decoder, input, input_len, output, output_len, to_size);
+            break;
         case 18: status = de_decoder_finish(number, decoder, output, output_len, decoded); break;
         case 19: status = de_encoding_decoder_most(encoding, decoder, len, to_size); break;
-        case 20: status = de_encoding_decoder_read(encoding, decoder, input, input_len, output, output_len, to_size); break;
-        case 21: status = de_encoding_decoder_finish(encoding, decoder, output, output_len, decoded); break;
+        case 20:
+            status = de_encoding_decoder_read(encoding, decoder, input, input_len, output,
+                                              output_len, to_size);
+            break;
+        case 21:
+            status = de_encoding_decoder_finish(encoding, decoder, output, output_len, decoded);
+            break;
         case 22: status = de_encode_align(number, to_size); break;
         case 23: status = de_bit_width(number, to_size); break;
         case 24: status = de_specification_of(number, given, texts, texts_len); break;
@@ -81,11 +96,21 @@ static de_status calls(const void *input, size_t input_len, byte *output, size_t
         case 27: status = de_encoding_bit_width(encoding, to_size); break;
         case 28: status = de_encoder_new(encoder); break;
         case 29: status = de_encoder_most(number, encoder, len, to_size); break;
-        case 30: status = de_encoder_read(number, encoder, input, input_len, (char *)output, output_len, to_size); break;
-        case 31: status = de_encoder_finish(number, encoder, (char *)output, output_len, to_size); break;
+        case 30:
+            status = de_encoder_read(number, encoder, input, input_len, (char *)output, output_len,
+                                     to_size);
+            break;
+        case 31:
+            status = de_encoder_finish(number, encoder, (char *)output, output_len, to_size);
+            break;
         case 32: status = de_encoding_encoder_most(encoding, encoder, len, to_size); break;
-        case 33: status = de_encoding_encoder_read(encoding, encoder, input, input_len, (char *)output, output_len, to_size); break;
-        default: status = de_encoding_encoder_finish(encoding, encoder, (char *)output, output_len, to_size);
+        case 33:
+            status = de_encoding_encoder_read(encoding, encoder, input, input_len, (char *)output,
+                                              output_len, to_size);
+            break;
+        default:
+            status =
+                de_encoding_encoder_finish(encoding, encoder, (char *)output, output_len, to_size);
         }
     }
     return status;
@@ -98,15 +123,17 @@ int main(void) {
     (void)de_version();
     (void)de_status_text((de_status)any);
     // Every pointer, and bytes of any length.
-    calls(data, up_to(MOST), room, up_to(MOST), &size, &other, &decoded_room, &answer_room, &found_room,
-          &encoding_room, &decoder_room, &encoder_room, &asked_room, &given_room, texts_room, up_to(DE_TEXTS_LIMIT));
+    calls(data, up_to(MOST), room, up_to(MOST), &size, &other, &decoded_room, &answer_room,
+          &found_room, &encoding_room, &decoder_room, &encoder_room, &asked_room, &given_room,
+          texts_room, up_to(DE_TEXTS_LIMIT));
     // No bytes.
-    calls(NULL, 0, NULL, 0, &size, NULL, &decoded_room, &answer_room, &found_room,
-          &encoding_room, &decoder_room, &encoder_room, &asked_room, &given_room, NULL, 0);
+    calls(NULL, 0, NULL, 0, &size, NULL, &decoded_room, &answer_room, &found_room, &encoding_room,
+          &decoder_room, &encoder_room, &asked_room, &given_room, NULL, 0);
     // Any pointer is null, with any length.
     calls(NULL, any_size, NULL, any_size, &size, NULL, &decoded_room, &answer_room, &found_room,
           &encoding_room, &decoder_room, &encoder_room, &asked_room, &given_room, NULL, any_size);
-    calls(data, up_to(MOST), room, up_to(MOST), NULL, NULL, NULL, NULL, NULL, any ? NULL : &encoding_room,
-          any ? NULL : &decoder_room, any ? NULL : &encoder_room, any ? NULL : &asked_room, NULL, texts_room, up_to(DE_TEXTS_LIMIT));
+    calls(data, up_to(MOST), room, up_to(MOST), NULL, NULL, NULL, NULL, NULL,
+          any ? NULL : &encoding_room, any ? NULL : &decoder_room, any ? NULL : &encoder_room,
+          any ? NULL : &asked_room, NULL, texts_room, up_to(DE_TEXTS_LIMIT));
     return 0;
 }

@@ -472,7 +472,8 @@ de_status de_bit_width(de_number number, size_t *width) {
     return de_numbered_bit_width(number, width);
 }
 
-/* Fills in the specification that is returned, if there is one. */
+/* Fills in the specification that is returned, if there is one. Then `texts` is not null: there are
+ * two symbols or more. */
 static de_status given_back(de_status status, de_specification *given, const struct form *form,
                             const struct text_lengths *lengths, const char *texts) {
     if (status != DE_OK) {
