@@ -39,6 +39,7 @@ FOREIGN = {
     "inverse",                                            # a library of Rattle
     "EVP_EncodeBlock", "EVP_DecodeBlock",                 # OpenSSL
     "InternalEncoding",                                   # the original crate
+    "SIGILL",                                             # signals
     "decodebytes",                                        # Python's base64
     "fold", "pshufb", "simd128", "libos_c",               # tools, instructions, the toolchain
     "name_fields", "name_ref", "DE_NAME", "de_numbered_call", "de_custom_call",  # names to choose
