@@ -40,12 +40,12 @@ true-twice true h = refl
 true-twice false h = h
 
 -- the lanes at least the limit, as a mask
-abbrev mask_of : ℕ → ℕ → List ℕ → ℕ
+abbrev pub mask_of : ℕ → ℕ → List ℕ → ℕ
 mask_of limit count lanes =
     mask_l (map (top 7) (zip2 at_most (replicate count limit) lanes)) % 18446744073709551616
 
 module _ (limit count : ℕ) (lanes : List ℕ) (long : length lanes ≡ count) (few : count ≤ 64) where
-  mask-is : mask_of limit count lanes ≡ mask_l (map (leb limit) lanes)
+  pub mask-is : mask_of limit count lanes ≡ mask_l (map (leb limit) lanes)
   mask-is =
       ap (λ l. mask_l l % 18446744073709551616)
       (tops_compared w8 leb (replicate count limit) lanes

@@ -8,6 +8,7 @@ ghost use Rattle.data_encoding_kernel.specs.Values.{AreValues, joined};
 ghost use Rattle.data_encoding_kernel.specs.Words.{digit, word_of};
 
 pub mod affine;
+pub mod last_symbols;
 pub mod look_up;
 pub mod sixteen_symbols;
 pub mod table_rows;
