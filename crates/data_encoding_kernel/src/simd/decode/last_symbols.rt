@@ -349,9 +349,17 @@ impl Front {
         ensures alike { (k : ℕ) → k < result
             → slice_index self.now.text (self.now.symbols + k) ≡ byte }
     {
-        let alike = self.text.simd_eq(u8x16::splat(byte)).to_bitmask();
-        (alike >> self.symbols).trailing_ones() as usize
+        (alike_bits(self.text, byte) >> self.symbols).trailing_ones() as usize
     }
+}
+
+/// Returns the bits of the bytes that are `byte`.
+#[inline(always)]
+fn alike_bits(text: u8x16, byte: u8) -> u64
+    ensures few { result < 2 ^ 16 }
+    ensures alike { (k : ℕ) → k < 16 → bit_at result k ≡ 1 → slice_index text k ≡ byte }
+{
+    text.simd_eq(u8x16::splat(byte)).to_bitmask()
 }
 
 /// Decodes the symbols at the start of the first `len` bytes of a vector.
