@@ -15,5 +15,12 @@ pub mod FrontWordLemmas
 pub mod PaddedLemmas
 pub mod GatherRowLemmas
 pub mod GatherStoreLemmas
+pub mod JoinedLemmas
+pub mod FourLemmas
+pub mod MovedLaneLemmas
+pub mod OtherMaskLemmas
+pub mod FrontTextLemmas
+pub mod KeptLaneLemmas
+pub mod JoinedFrontLemmas
 pub mod AffineLemmas
 pub mod OffsetAlphabetLemmas

@@ -1,4 +1,6 @@
 pub mod Words
+pub mod Joins
+pub mod Fronts
 pub mod Tables
 pub mod Lanes
 pub mod DigitPairs

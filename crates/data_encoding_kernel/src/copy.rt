@@ -1,6 +1,6 @@
 //! Copies of few bytes.
 
-ghost use Rattle.std.specs.Prelude.{◌≡◌, ◌*◌, ◌≤◌, length};
+ghost use Rattle.std.specs.Prelude.{◌≡◌, ◌*◌, ◌≤◌, ◌++◌, length, take, drop};
 
 use crate::platform::has_simd;
 use std::simd::prelude::*;
@@ -43,4 +43,23 @@ fn copy_ends<const N: usize>(input: &[u8], output: &mut [u8])
     let last = Simd::<u8, N>::from_slice(&input[end..]);
     first.copy_to_slice(&mut output[..N]);
     last.copy_to_slice(&mut output[end..]);
+}
+
+/// Writes the first `count` bytes to the start of `output`.
+// Two copies of constant length, which may overlap. There is no call for a count of 0.
+#[inline(always)]
+pub fn store_front(bytes: &[u8; 16], count: usize, output: &mut [u8])
+    requires few { count ≤ 16 }
+    requires room { count ≤ length output.old }
+    ensures { output.new ≡ take count bytes.now ++ drop count output.old }
+{
+    if count >= 8 {
+        copy_ends::<8>(&bytes[..count], &mut output[..count]);
+    } else if count >= 4 {
+        copy_ends::<4>(&bytes[..count], &mut output[..count]);
+    } else if count >= 2 {
+        copy_ends::<2>(&bytes[..count], &mut output[..count]);
+    } else if count == 1 {
+        output[0] = bytes[0];
+    }
 }

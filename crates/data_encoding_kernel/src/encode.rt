@@ -51,36 +51,42 @@ fn encode_by_order<O: ConstantOrder, G: GroupSize>(
     requires exact { length output.old ≡ (8 * length input.now + (G.WIDTH - 1)) / G.WIDTH }
     ensures { IsTextBy table.now.entries G.WIDTH O.ORDER input.now output.new }
 {
-    let symbols = &table.entries;
     if !has_simd() {
-        return encode_turns::<EncodeOne, O, G>(&EncodeOne, symbols, input, output);
+        return encode_turns::<EncodeOne, O, G>(&EncodeOne, table, input, output);
     }
     // The rest of longer data is encoded by the same function.
     if input.len() < 10 * G::BYTES - 2 {
-        return encode_short::<O, G>(symbols, input, output);
+        return encode_short::<O, G>(table, input, output);
     }
     if G::WIDTH == 6 {
         if let Some(look_up) = table.offsets() {
             let turn = EncodeEight { look_up };
-            return encode_turns::<EncodeEight<OffsetAlphabet>, O, G>(&turn, symbols, input, output);
+            return encode_turns::<EncodeEight<OffsetAlphabet>, O, G>(&turn, table, input, output);
         }
     }
-    encode_turns::<EncodeEight<SymbolRows>, O, G>(&BY_ROWS, symbols, input, output);
+    encode_turns::<EncodeEight<SymbolRows>, O, G>(&BY_ROWS, table, input, output);
 }
 
 /// Encodes fewer bytes than an iteration of eight groups loads.
 // Not inlined, so that the loop over eight groups is small. It takes most of the time.
 #[inline(never)]
 fn encode_short<O: ConstantOrder, G: GroupSize>(
-    symbols: &[u8; 256],
+    table: &SymbolTable,
     input: &[u8],
     output: &mut [u8],
 )
+    requires agrees { IsTrue (has_sums table.now.entries table.now.form) }
     requires limit { length input.now ≤ ENCODE_LIMIT }
     requires exact { length output.old ≡ (8 * length input.now + (G.WIDTH - 1)) / G.WIDTH }
-    ensures { IsTextBy symbols.now G.WIDTH O.ORDER input.now output.new }
+    ensures { IsTextBy table.now.entries G.WIDTH O.ORDER input.now output.new }
 {
-    encode_turns::<EncodeSixteen, O, G>(&EncodeSixteen, symbols, input, output);
+    if G::WIDTH == 6 {
+        if let Some(look_up) = table.offsets() {
+            let turn = EncodeSixteen { look_up };
+            return encode_turns::<EncodeSixteen<OffsetAlphabet>, O, G>(&turn, table, input, output);
+        }
+    }
+    encode_turns::<EncodeSixteen<SymbolRows>, O, G>(&SIXTEEN_BY_ROWS, table, input, output);
 }
 
 /// Encodes one iteration after another, while the input has the bytes that it loads, and then the
@@ -88,16 +94,17 @@ fn encode_short<O: ConstantOrder, G: GroupSize>(
 #[inline(always)]
 fn encode_turns<T: EncodeTurn<G>, O: ConstantOrder, G: GroupSize>(
     turn: &T,
-    symbols: &[u8; 256],
+    table: &SymbolTable,
     input: &[u8],
     output: &mut [u8],
 )
     requires some { 0 < T.GROUPS }
     requires few { T.GROUPS ≤ 12 }
-    requires held { T.holds symbols.now turn.now }
+    requires held { T.holds table.now.entries turn.now }
+    requires agrees { IsTrue (has_sums table.now.entries table.now.form) }
     requires limit { length input.now ≤ ENCODE_LIMIT }
     requires exact { length output.old ≡ (8 * length input.now + (G.WIDTH - 1)) / G.WIDTH }
-    ensures { IsTextBy symbols.now G.WIDTH O.ORDER input.now output.new }
+    ensures { IsTextBy table.now.entries G.WIDTH O.ORDER input.now output.new }
 {
     let bytes = G::BYTES;
     let groups = T::GROUPS;
@@ -109,13 +116,13 @@ fn encode_turns<T: EncodeTurn<G>, O: ConstantOrder, G: GroupSize>(
         let read = index * read_len;
         let written = index * written_len;
         turn.encode::<O>(
-            symbols,
+            &table.entries,
             &input[read..read + (read_len + ahead_len)],
             &mut output[written..written + written_len],
         );
     }
-    T::encode_rest::<O>(
-        symbols,
+    turn.encode_rest::<O>(
+        table,
         &input[count * read_len..],
         &mut output[count * written_len..],
     );
@@ -145,11 +152,13 @@ trait EncodeTurn<G: GroupSize> {
             output.new };
 
     /// Encodes the rest after the last iteration: fewer bytes than an iteration loads.
-    fn encode_rest<O: ConstantOrder>(symbols: &[u8; 256], input: &[u8], output: &mut [u8])
+    fn encode_rest<O: ConstantOrder>(&self, table: &SymbolTable, input: &[u8], output: &mut [u8])
+        requires held { holds table.now.entries self.now }
+        requires agrees { IsTrue (has_sums table.now.entries table.now.form) }
         requires few { length input.now < GROUPS * G.BYTES + AHEAD }
         requires limit { length input.now ≤ ENCODE_LIMIT }
         requires exact { length output.old ≡ (8 * length input.now + (G.WIDTH - 1)) / G.WIDTH }
-        ensures { IsTextBy symbols.now G.WIDTH O.ORDER input.now output.new };
+        ensures { IsTextBy table.now.entries G.WIDTH O.ORDER input.now output.new };
 }
 
 /// Encodes eight groups with SIMD.
@@ -181,20 +190,29 @@ impl<S: SymbolLookUp, G: GroupSize> EncodeTurn<G> for EncodeEight<S> {
     }
 
     #[inline(always)]
-    fn encode_rest<O: ConstantOrder>(symbols: &[u8; 256], input: &[u8], output: &mut [u8]) {
-        encode_short::<O, G>(symbols, input, output);
+    fn encode_rest<O: ConstantOrder>(&self, table: &SymbolTable, input: &[u8], output: &mut [u8]) {
+        encode_short::<O, G>(table, input, output);
     }
 }
 
 /// Encodes the groups of sixteen symbols with SIMD.
-struct EncodeSixteen;
+#[derive(Clone, Copy, Drop)]
+struct EncodeSixteen<S> {
+    /// The look-up of symbols.
+    look_up: S,
+}
 
-impl<G: GroupSize> EncodeTurn<G> for EncodeSixteen {
+/// Encodes the groups of sixteen symbols, with the look-up in rows.
+const SIXTEEN_BY_ROWS: EncodeSixteen<SymbolRows> = EncodeSixteen {
+    look_up: SymbolRows,
+};
+
+impl<S: SymbolLookUp, G: GroupSize> EncodeTurn<G> for EncodeSixteen<S> {
     ghost GROUPS = { 16 / G.SYMBOLS };
 
     ghost AHEAD = { 0 };
 
-    ghost holds = { λ symbols turn. Unit {0} };
+    ghost holds = { λ symbols turn. S.holds symbols turn.look_up };
 
     const GROUPS: usize = 16 / G::SYMBOLS;
 
@@ -202,12 +220,12 @@ impl<G: GroupSize> EncodeTurn<G> for EncodeSixteen {
 
     #[inline(always)]
     fn encode<O: ConstantOrder>(&self, symbols: &[u8; 256], input: &[u8], output: &mut [u8]) {
-        encode_sixteen::<G>(symbols, O::ORDER, input, output);
+        encode_sixteen::<S, G>(&self.look_up, symbols, O::ORDER, input, output);
     }
 
     #[inline(always)]
-    fn encode_rest<O: ConstantOrder>(symbols: &[u8; 256], input: &[u8], output: &mut [u8]) {
-        encode_sixteen::<G>(symbols, O::ORDER, input, output);
+    fn encode_rest<O: ConstantOrder>(&self, table: &SymbolTable, input: &[u8], output: &mut [u8]) {
+        encode_sixteen::<S, G>(&self.look_up, &table.entries, O::ORDER, input, output);
     }
 }
 
@@ -232,7 +250,7 @@ impl<G: GroupSize> EncodeTurn<G> for EncodeOne {
 
     // The last group, which may be shorter or empty.
     #[inline(always)]
-    fn encode_rest<O: ConstantOrder>(symbols: &[u8; 256], input: &[u8], output: &mut [u8]) {
-        encode_group::<G>(symbols, O::ORDER, input, output);
+    fn encode_rest<O: ConstantOrder>(&self, table: &SymbolTable, input: &[u8], output: &mut [u8]) {
+        encode_group::<G>(&table.entries, O::ORDER, input, output);
     }
 }

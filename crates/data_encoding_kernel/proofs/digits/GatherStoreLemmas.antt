@@ -97,10 +97,10 @@ module _ (order : BitOrder) (size lane front count : ℕ) where
       (λ word. digits_of-below LeastSignificantFirst 8 lane 256 word (omega arith)))
       ∙ step words long
 
-four-bytes : (word : ℕ) → digits_l 256 4 word ≡ digits_of LeastSignificantFirst 8 4 word
+pub four-bytes : (word : ℕ) → digits_l 256 4 word ≡ digits_of LeastSignificantFirst 8 4 word
 four-bytes word = search arith depth 6
 
-eight-bytes : (word : ℕ) → digits_l 256 8 word ≡ digits_of LeastSignificantFirst 8 8 word
+pub eight-bytes : (word : ℕ) → digits_l 256 8 word ≡ digits_of LeastSignificantFirst 8 8 word
 eight-bytes word = search arith depth 10
 
 pub threes-picked : (order : BitOrder) (words : List ℕ) → length words ≡ 8

@@ -96,7 +96,7 @@ plain_text-word base order width bytes count symbols input group few writes =
     (bits_of_bytes (writes.order_is i) input))
 
 -- the bytes of the bits of values
-abbrev bytes_by : BitOrder → ℕ → List ℕ → List ℕ
+abbrev pub bytes_by : BitOrder → ℕ → List ℕ → List ℕ
 bytes_by order width values =
     map (number_of order)
     (runs 8 (take (length (flat_map (bits_of order width) values) / 8 * 8)

@@ -31,6 +31,19 @@ module _ {width bytes symbols : ℕ} (group : IsGroup width bytes symbols) where
       (by_width (λ w. 16 / group_symbols w * group_bytes w ≡ 2 * w) refl refl refl refl refl refl
       width group.is_width)
 
+  -- and there are one to eight of them
+  pub sixteen-some : 0 < 16 / symbols
+  sixteen-some =
+      rw group.has_symbols
+      (by_width (λ w. 0 < 16 / group_symbols w) (omega arith) (omega arith) (omega arith)
+      (omega arith) (omega arith) (omega arith) width group.is_width)
+
+  pub sixteen-most : 16 / symbols ≤ 8
+  sixteen-most =
+      rw group.has_symbols
+      (by_width (λ w. 16 / group_symbols w ≤ 8) (omega arith) (omega arith) (omega arith)
+      (omega arith) (omega arith) (omega arith) width group.is_width)
+
 -- the pieces of the first n numbers, where each piece has `count` elements
 pieces-front : {X : Type 0} (piece : ℕ → List X) (count n m start : ℕ)
     → ((k : ℕ) → length (piece k) ≡ count) → n ≤ m
@@ -51,12 +64,6 @@ pieces-front piece count (suc n) (suc m) start long few =
 -- the digits of the first sixteen symbols, from those of m groups
 module _ (order : BitOrder) (input found : List ℕ) {width bytes symbols : ℕ}
     (group : IsGroup width bytes symbols) where
-  sixteen-most : 16 / symbols ≤ 8
-  sixteen-most =
-      rw group.has_symbols
-      (by_width (λ w. 16 / group_symbols w ≤ 8) (omega arith) (omega arith) (omega arith)
-      (omega arith) (omega arith) (omega arith) width group.is_width)
-
   pub sixteen-front : (m : ℕ) → 16 / symbols ≤ m → take (m * symbols) found
       ≡ flat_map (digits_of order width symbols) (group_words order bytes m input)
       → take 16 found
@@ -78,12 +85,6 @@ module _ (order : BitOrder) (input found : List ℕ) {width bytes symbols : ℕ}
       ∙ pieces-front piece symbols n m 0 long few
       ∙ sym (flat_map-map (digits_of order width symbols) (group_word order bytes input)
       (range_with_len 0 n))
-
-  pub eight-front : take (8 * symbols) found
-      ≡ flat_map (digits_of order width symbols) (group_words order bytes 8 input)
-      → take 16 found
-      ≡ flat_map (digits_of order width symbols) (group_words order bytes (16 / symbols) input)
-  eight-front = sixteen-front 8 sixteen-most
 
   -- from those of m groups of the width w
   pub width-front : (w m : ℕ) → w ≡ width → 16 / group_symbols w ≤ m

@@ -12,10 +12,11 @@ pub mod digits;
 pub mod groups;
 pub mod offset_alphabet;
 
-use crate::copy::copy_short;
+use crate::copy::store_front;
 use crate::group_size::GroupSize;
 use crate::simd::encode::digits::{
-    digits_of_eight, digits_of_four, digits_of_two, octal_digits_of_four,
+    digits_of_eight, digits_of_four, digits_of_two, four_bit_digits, octal_digits_of_four,
+    one_bit_digits, two_bit_digits,
 };
 use crate::simd::encode::offset_alphabet::{OffsetAlphabet, offset_symbols_64};
 use crate::simd::padded_load::load_padded;
@@ -187,12 +188,14 @@ pub fn encode_eight<S: SymbolLookUp, G: GroupSize>(
 
 /// Writes the text of data of at most sixteen symbols.
 #[inline(always)]
-pub fn encode_sixteen<G: GroupSize>(
+pub fn encode_sixteen<S: SymbolLookUp, G: GroupSize>(
+    look_up: &S,
     symbols: &[u8; 256],
     order: BitOrder,
     input: &[u8],
     output: &mut [u8],
 )
+    requires held { S.holds symbols.now look_up.now }
     requires few { 8 * length input.now ≤ 16 * G.WIDTH }
     requires exact { length output.old ≡ (8 * length input.now + (G.WIDTH - 1)) / G.WIDTH }
     ensures { IsTextBy symbols.now G.WIDTH order input.now output.new }
@@ -202,8 +205,8 @@ pub fn encode_sixteen<G: GroupSize>(
     }
     let bytes = load_padded(input).to_array();
     let values = digits_of_sixteen::<G>(order, &bytes);
-    let text = first_sixteen(look_up::<G>(symbols, values)).to_array();
-    copy_short(&text[..output.len()], output);
+    let text = first_sixteen(look_up.symbols_of::<G>(symbols, values)).to_array();
+    store_front(&text, output.len(), output);
 }
 
 /// Returns the first sixteen digits of the groups, one after another, and others after them.
@@ -225,5 +228,11 @@ fn digits_of_sixteen<G: GroupSize>(order: BitOrder, input: &[u8]) -> u8x64
     if width == 6 {
         return digits_of_four(order, input);
     }
-    digits_of_eight::<G>(order, input)
+    if width == 1 {
+        return one_bit_digits(order, input);
+    }
+    if width == 2 {
+        return two_bit_digits(order, input);
+    }
+    four_bit_digits(order, input)
 }

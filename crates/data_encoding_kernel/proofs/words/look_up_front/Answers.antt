@@ -16,8 +16,8 @@ returns g c =
     record {
       within = omega (arith, c.min.ensures);
       entries = λ values held k inside low.
-          c.look_up_16-entries.ensures values held k (omega (arith, long, inside, c.requires.few))
-          low
+          (c.look_up_16-entries.ensures values held k
+          (omega (arith, long, inside, c.requires.few))).found_is low
           ∙ ap (λ l. slice_index values (slice_index l k)) c.load_padded.ensures
           ∙ ap (slice_index values) (get_or_append_left group zeros 0 k inside);
       symbols = λ k below.

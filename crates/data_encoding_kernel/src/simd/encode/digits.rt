@@ -176,7 +176,7 @@ fn join_twos(order: BitOrder, lanes: u16x8) -> u8x64
 
 /// Returns the one-bit digits of the first eight groups, one after another.
 #[inline(always)]
-fn one_bit_digits(order: BitOrder, input: &[u8]) -> u8x64
+pub fn one_bit_digits(order: BitOrder, input: &[u8]) -> u8x64
     requires { 8 ≤ length input.now }
     ensures digits { take 64 result
         ≡ flat_map (digits_of order 1 8) (group_words order 1 8 input.now) }
@@ -187,7 +187,7 @@ fn one_bit_digits(order: BitOrder, input: &[u8]) -> u8x64
 
 /// Returns the two-bit digits of the first eight groups, one after another.
 #[inline(always)]
-fn two_bit_digits(order: BitOrder, input: &[u8]) -> u8x64
+pub fn two_bit_digits(order: BitOrder, input: &[u8]) -> u8x64
     requires { 8 ≤ length input.now }
     ensures digits { take 32 result
         ≡ flat_map (digits_of order 2 4) (group_words order 1 8 input.now) }
@@ -212,7 +212,7 @@ fn three_bit_digits(order: BitOrder, input: &[u8]) -> u8x64
 
 /// Returns the four-bit digits of the first eight groups, one after another.
 #[inline(always)]
-fn four_bit_digits(order: BitOrder, input: &[u8]) -> u8x64
+pub fn four_bit_digits(order: BitOrder, input: &[u8]) -> u8x64
     requires { 8 ≤ length input.now }
     ensures digits { take 16 result
         ≡ flat_map (digits_of order 4 2) (group_words order 1 8 input.now) }

@@ -1,6 +1,6 @@
 use Rattle.std.proofs.Common.{◌≡◌, ℕ, ◌^◌, ◌<◌, List, sym, ◌∙◌, subst, arith}
 use Rattle.std.specs.List.{AllByRecursion}
-use Rattle.data_encoding_kernel.proofs.text.SixteenSymbolLemmas.{eight-front, width-front}
+use Rattle.data_encoding_kernel.proofs.text.SixteenSymbolLemmas.{width-front}
 use Rattle.data_encoding_kernel.proofs.simd.encode.digits_of_sixteen.Goals as goal
 
 below-found : (found : List ℕ) (w width : ℕ) → w ≡ width
@@ -39,7 +39,54 @@ returns-then-width-eq6-clause-below g c =
     below-found c.digits_of_four.result 6 g.G.GroupSize.WIDTH
     (sym c.if-width-eq6.true ∙ c.WIDTH-width.ensures) c.digits_of_four.ensures.below
 
+pub returns-then-width-eq1-clause-digits : goal.returns-then-width-eq1-clause-digits
+returns-then-width-eq1-clause-digits g c =
+    width-front c.args.order c.args.input.now c.one_bit_digits.result g.G.GroupSize.is_group 1 8
+    (sym c.if-width-eq1.true ∙ c.WIDTH-width.ensures) (omega arith) c.one_bit_digits.ensures.digits
+
+pub returns-then-width-eq1-clause-below : goal.returns-then-width-eq1-clause-below
+returns-then-width-eq1-clause-below g c =
+    below-found c.one_bit_digits.result 1 g.G.GroupSize.WIDTH
+    (sym c.if-width-eq1.true ∙ c.WIDTH-width.ensures) c.one_bit_digits.ensures.below
+
+pub returns-then-width-eq2-clause-digits : goal.returns-then-width-eq2-clause-digits
+returns-then-width-eq2-clause-digits g c =
+    width-front c.args.order c.args.input.now c.two_bit_digits.result g.G.GroupSize.is_group 2 8
+    (sym c.if-width-eq2.true ∙ c.WIDTH-width.ensures) (omega arith) c.two_bit_digits.ensures.digits
+
+pub returns-then-width-eq2-clause-below : goal.returns-then-width-eq2-clause-below
+returns-then-width-eq2-clause-below g c =
+    below-found c.two_bit_digits.result 2 g.G.GroupSize.WIDTH
+    (sym c.if-width-eq2.true ∙ c.WIDTH-width.ensures) c.two_bit_digits.ensures.below
+
 pub returns-clause-digits : goal.returns-clause-digits
 returns-clause-digits g c =
-    eight-front c.args.order c.args.input.now c.digits_of_eight.result g.G.GroupSize.is_group
-    c.digits_of_eight.ensures.digits
+    width-front c.args.order c.args.input.now c.four_bit_digits.result g.G.GroupSize.is_group 4 8
+    (omega (
+      arith,
+      g.G.GroupSize.is_group.is_width.some,
+      g.G.GroupSize.is_group.is_width.few,
+      c.WIDTH-width.ensures,
+      c.if-width-eq3.false,
+      c.if-width-eq5.false,
+      c.if-width-eq6.false,
+      c.if-width-eq1.false,
+      c.if-width-eq2.false,
+    ))
+    (omega arith) c.four_bit_digits.ensures.digits
+
+pub returns-clause-below : goal.returns-clause-below
+returns-clause-below g c =
+    below-found c.four_bit_digits.result 4 g.G.GroupSize.WIDTH
+    (omega (
+      arith,
+      g.G.GroupSize.is_group.is_width.some,
+      g.G.GroupSize.is_group.is_width.few,
+      c.WIDTH-width.ensures,
+      c.if-width-eq3.false,
+      c.if-width-eq5.false,
+      c.if-width-eq6.false,
+      c.if-width-eq1.false,
+      c.if-width-eq2.false,
+    ))
+    c.four_bit_digits.ensures.below

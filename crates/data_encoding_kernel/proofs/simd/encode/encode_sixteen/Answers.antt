@@ -1,6 +1,6 @@
-use Rattle.std.proofs.Common.{◌≡◌, ℕ, ◌+◌, ◌-◌, ◌*◌, ◌/◌, ◌++◌, length, map, take, replicate, slice_index, sym, ap, ◌∙◌, arith, length-append}
+use Rattle.std.proofs.Common.{◌≡◌, ℕ, ◌+◌, ◌-◌, ◌*◌, ◌/◌, ◌++◌, length, map, take, replicate, slice_index, sym, ap, ◌∙◌, arith, append-nil, length-append}
 use Rattle.std.proofs.lemmas.Bool.{eqb-true}
-use Rattle.std.proofs.lemmas.List.{length-replicate, nil_from_length, take-map}
+use Rattle.std.proofs.lemmas.List.{drop_all, length-replicate, nil_from_length, take-map}
 use Rattle.data_encoding_meaning.specs.text.Text.{plain_text}
 use Rattle.data_encoding_meaning.proofs.lists.RunLemmas.{run_count, run_count-few}
 use Rattle.data_encoding_meaning.proofs.text.PlainTextLemmas.{plain_text-nil}
@@ -19,8 +19,8 @@ returns-then-is_empty g c base writes =
     ∙ sym (ap (plain_text base) (nil_from_length input none)
     ∙ plain_text-nil base writes.holds.is_width.some)
 
-pub slice_bounds-text-end : goal.slice_bounds-text-end
-slice_bounds-text-end g c =
+pub store_front-requires-clause-few : goal.store_front-requires-clause-few
+store_front-requires-clause-few g c =
     omega (
       arith,
       c.requires.exact,
@@ -50,9 +50,11 @@ returns g c base writes =
     (omega (arith, group.is_width.few)) in
     let whole : 8 * (n + (2 * width - n)) ≡ 16 * base.width =
     omega (arith, c.requires.few, writes.width_is) in
-    c.copy_short.ensures
+    c.store_front.ensures
+    ∙ ap (λ l. take len c.first_sixteen.result ++ l) (drop_all len c.args.output.now (omega arith))
+    ∙ append-nil (take len c.first_sixteen.result)
     ∙ ap (take len) (c.first_sixteen.ensures
-    ∙ ap (take 16) c.look_up.ensures
+    ∙ ap (take 16) c.symbols_of.ensures
     ∙ take-map (slice_index symbols) 16 values
     ∙ ap (map (slice_index symbols)) c.digits_of_sixteen-values.ensures.digits
     ∙ plain_text-groups base c.args.order width bytes g.G.GroupSize.SYMBOLS symbols group writes

@@ -42,7 +42,7 @@ returns-then-SYMBOLS-eq4-clause-run g c = λ values held base reads.
     c.look_up_16-entries.result c.words_of_sixteen_by_four-words.result
     c.count_below-count.result long
     (λ j. (c.type_inv.input j).fits) c.count_below-count.ensures.lanes
-    c.count_below-count.ensures.few c.count_below-count.ensures.below
+    c.count_below-count.ensures.few c.count_below-count.ensures.below c.count_below-count.ensures.stop
     c.look_up_16-entries.ensures c.words_of_sixteen_by_four-words.ensures in
     found-run base values g.G.GroupSize.WIDTH bytes g.G.GroupSize.SYMBOLS c.args.order group
     reads 4 c.args.input.now c.args.output.now c.store_four.new.output
@@ -71,7 +71,7 @@ returns-else-SYMBOLS-eq4-clause-run g c = λ values held base reads.
     c.look_up_16-entries.result c.words_of_sixteen_by_eight-words.result
     c.count_below-count.result long
     (λ j. (c.type_inv.input j).fits) c.count_below-count.ensures.lanes
-    c.count_below-count.ensures.few c.count_below-count.ensures.below
+    c.count_below-count.ensures.few c.count_below-count.ensures.below c.count_below-count.ensures.stop
     c.look_up_16-entries.ensures c.words_of_sixteen_by_eight-words.ensures in
     found-run base values g.G.GroupSize.WIDTH bytes g.G.GroupSize.SYMBOLS c.args.order group
     reads 2 c.args.input.now c.args.output.now c.store_two.new.output
