@@ -23,6 +23,9 @@ enum { NUMBERS = DE_BASE64URL_NOPAD + 1, OWN_COUNT = 7 };
 /* No symbol, padding or ignored byte of any encoding here. */
 enum { INVALID = '!' };
 
+/* No index of a symbol in its group. */
+enum { ALL = 8 };
+
 volatile unsigned begun;
 volatile unsigned ended;
 static unsigned char secret[SECRET_LEN];
@@ -222,13 +225,15 @@ static void take(const char *name, size_t text_len, bool translates, size_t line
     }
 }
 
-/* Writes the byte over each symbol and padding of a group of the text. */
-static void overwrite_group(const char *name, size_t group, char byte) {
+/* Writes the byte over the symbol or padding of a group of the text with this index in it, or over
+ * all for the index ALL. */
+static void overwrite(const char *name, size_t group, size_t in_group, char byte) {
     size_t index = 0;
     kind = name;
     for (size_t at = 0; at < given_len; at++) {
         if (!is_ignored(given[at])) {
-            if (index / group_symbols == group) {
+            if (index / group_symbols == group &&
+                (in_group == ALL || index % group_symbols == in_group)) {
                 given[at] = byte;
             }
             index++;
@@ -236,8 +241,8 @@ static void overwrite_group(const char *name, size_t group, char byte) {
     }
 }
 
-/* Decodes texts with a fault in a group that has no symbol of the secret: those of a faulty group
- * may be looked up in tables. */
+/* Decodes texts with a fault: an invalid symbol among those of the secret, and then faults in a group that
+ * has none of these, since symbols of a faulty group may be looked up in tables. */
 static void decode_faults(size_t len, size_t text_len, size_t line_len) {
     size_t groups = len / group_bytes;
     size_t rest = len % group_bytes;
@@ -245,10 +250,12 @@ static void decode_faults(size_t len, size_t text_len, size_t line_len) {
     if (groups > 0) {
         size_t faulty = len % 3 == 0 ? 0 : len % 3 == 1 ? groups / 2 : groups - 1;
         take("", text_len, false, line_len);
-        overwrite_group("invalid-symbol", faulty, INVALID);
+        overwrite("invalid-symbol", faulty, len % group_symbols, INVALID);
+        decode_faulty(len, DE_INVALID_SYMBOL);
+        overwrite("invalid-symbols", faulty, ALL, INVALID);
         decode_faulty(len, DE_INVALID_SYMBOL);
         if (parts.padding >= 0) {
-            overwrite_group("invalid-padding", faulty, (char)parts.padding);
+            overwrite("invalid-padding", faulty, ALL, (char)parts.padding);
             decode_faulty(len, DE_INVALID_PADDING);
         }
     }
@@ -258,7 +265,7 @@ static void decode_faults(size_t len, size_t text_len, size_t line_len) {
         decode_faulty(len, DE_INVALID_LENGTH);
     } else if (parts.check_trailing_bits && has_trailing && parts.padding < 0) {
         take("", text_len, false, line_len);
-        overwrite_group("invalid-trailing-bits", groups, parts.symbols[parts.symbols_len - 1]);
+        overwrite("invalid-trailing-bits", groups, ALL, parts.symbols[parts.symbols_len - 1]);
         decode_faulty(len, DE_INVALID_TRAILING_BITS);
     }
 }
