@@ -579,6 +579,15 @@ class Encodings(unittest.TestCase):
         for name in ("base64", "BASE", "BASE64 ", "", "BASE64\u00e9", "\ud800"):
             self.assertRaises(ValueError, Encoding.named, name)
 
+    def test_with_padding_or_without(self) -> None:
+        """The recipe of docs/FORMATS.md, with the texts that it names."""
+        asked: Any = {**Encoding.named("BASE64URL_NOPAD").specification(), "ignore": "="}
+        either = Encoding(**asked)
+        for text in ("SGk", "SGk=", "S=Gk"):
+            self.assertEqual(either.decode(text), b"Hi")
+        self.assertEqual(either.encode(b"Hi"), "SGk")
+        self.assertRaises(DecodeError, either.decode, "AA==AAA=")
+
     def test_canonical(self) -> None:
         canonical = [name for name in NAMES if getattr(Encoding, name)().is_canonical()]
         self.assertEqual(canonical, [
