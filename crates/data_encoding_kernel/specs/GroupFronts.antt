@@ -13,12 +13,12 @@ HasOthers values group others =
     (k : ℕ) → k < length group
     → (bit_at others k ≡ 0) ↔ (slice_index values (slice_index group k) < 128)
 
--- `front` has the symbols at the start of the group, up to the first other byte.
-pub record IsGroupFront (values : List ℕ) (join : Join) (group : List ℕ) (front : Front)
+-- `found` has the symbols at the start of the group, up to the first other byte.
+pub record IsGroupFront (values : List ℕ) (join : Join) (group : List ℕ) (found : Front)
     : Type 0 where
-  pub few : front.symbols ≤ length group
-  pub stop : front.symbols < length group
-      → 128 ≤ slice_index values (slice_index group front.symbols)
-  pub others : HasOthers values group front.others
+  pub few : found.symbols ≤ length group
+  pub stop : found.symbols < length group
+      → 128 ≤ slice_index values (slice_index group found.symbols)
+  pub others : HasOthers values group found.others
   pub front : (base : Base) → Reads base values join.width join.order
-      → IsFront base group front.symbols front.bytes
+      → IsFront base group found.symbols found.bytes

@@ -97,7 +97,8 @@ fn decode_in_words<G: GroupSize>(
 /// the number of bytes read.
 ///
 /// The whole groups among them are decoded. Those of the first `at` bytes are decoded before.
-#[inline(always)]
+// Not inlined, so that it is compiled once for each look-up and width.
+#[inline(never)]
 fn decode_windows<L: LookUp, G: GroupSize>(
     look_up: &L,
     join: &Join,
@@ -125,13 +126,23 @@ fn decode_windows<L: LookUp, G: GroupSize>(
         let front = decode_front(look_up, join, len, load_at(input, at));
         let written = at / symbols * bytes;
         let count = front.symbols / symbols * bytes;
-        store_front(&front.bytes.to_array(), count, &mut output[written..]);
+        store_lanes(front.bytes, count, &mut output[written..written + count]);
         at += front.symbols;
         if front.symbols < 16 {
             return at;
         }
     }
     at
+}
+
+/// Stores the first `count` bytes of a vector.
+#[inline(always)]
+pub fn store_lanes(bytes: u8x16, count: usize, output: &mut [u8])
+    requires few { count ≤ 16 }
+    requires room { count ≤ length output.old }
+    ensures { take count output.new ≡ take count bytes }
+{
+    store_front(&bytes.to_array(), count, output);
 }
 
 /// Returns up to sixteen bytes of `text` from `at` on, followed by zeros.

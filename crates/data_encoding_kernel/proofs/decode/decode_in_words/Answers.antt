@@ -4,45 +4,37 @@ use Rattle.std.proofs.Math.Nat.{mul-le-mul_right}
 use Rattle.data_encoding_meaning.proofs.digits.SizeLemmas.{IsGroup-same}
 use Rattle.data_encoding_kernel.proofs.decoding.SymbolRunLemmas.{group-next, longest-all, run-kept, longest-at_group}
 use Rattle.data_encoding_meaning.proofs.lists.PartLemmas.{IsWhole-same, group-before, group-room, groups-within, length-part}
-use Rattle.data_encoding_kernel.proofs.decode.decode_run_within.Goals as goal
-
--- a group that is left is within the part
-group-within : (len : ℕ) (input : List ℕ) (symbols i : ℕ) → len ≤ length input → i < len / symbols
-    → i * symbols + symbols ≤ length (take len input)
-group-within len input symbols i few inside =
-    rw (length-take-le len input few) (group-before len symbols i inside)
+use Rattle.data_encoding_kernel.proofs.decode.decode_in_words.Goals as goal
 
 pub slice_bounds-decode_entries-end : goal.slice_bounds-decode_entries-end
 slice_bounds-decode_entries-end g c =
-    group-within c.args.len c.args.input.now c.SYMBOLS-symbols.result c.loop-index.index
-    c.requires.few c.loop-index-test.true
+    group-before (length c.args.input.now) c.SYMBOLS-symbols.result c.loop-index.index
+    c.loop-index-test.true
 
 pub overflow_mul-read : goal.overflow_mul-read
 overflow_mul-read g c =
     omega (
       arith,
-      group-before c.args.len c.SYMBOLS-symbols.result c.loop-index.index c.loop-index-test.true,
-      c.ranges.len,
+      group-before (length c.args.input.now) c.SYMBOLS-symbols.result c.loop-index.index c.loop-index-test.true,
     )
 
 pub overflow_add-read : goal.overflow_add-read
 overflow_add-read g c =
     omega (
       arith,
-      group-before c.args.len c.SYMBOLS-symbols.result c.loop-index.index c.loop-index-test.true,
-      c.ranges.len,
+      group-before (length c.args.input.now) c.SYMBOLS-symbols.result c.loop-index.index c.loop-index-test.true,
     )
 
 pub slice_bounds-decode_entries-end-in-loop-index :
     goal.slice_bounds-decode_entries-end-in-loop-index
 slice_bounds-decode_entries-end-in-loop-index g c =
-    let room = group-room c.args.len c.loop-index.index (length c.args.output.now)
+    let room = group-room (length c.args.input.now) c.loop-index.index (length c.args.output.now)
     c.BYTES-bytes.ensures c.SYMBOLS-symbols.ensures c.requires.room c.loop-index-test.true in
     omega arith
 
 pub overflow_mul-written : goal.overflow_mul-written
 overflow_mul-written g c =
-    let room = group-room c.args.len c.loop-index.index (length c.args.output.now)
+    let room = group-room (length c.args.input.now) c.loop-index.index (length c.args.output.now)
     c.BYTES-bytes.ensures c.SYMBOLS-symbols.ensures c.requires.room c.loop-index-test.true in
     omega arith
 
@@ -51,24 +43,24 @@ overflow_add-written g c = omega (arith, slice_bounds-decode_entries-end-in-loop
 
 pub decode_entries-entries-requires-clause-few : goal.decode_entries-entries-requires-clause-few
 decode_entries-entries-requires-clause-few g c =
-    let within = group-within c.args.len c.args.input.now c.SYMBOLS-symbols.result
-    c.loop-index.index c.requires.few c.loop-index-test.true in
+    let within = group-before (length c.args.input.now) c.SYMBOLS-symbols.result c.loop-index.index
+    c.loop-index-test.true in
     omega (
       arith,
       length-part (c.loop-index.index * c.SYMBOLS-symbols.result) c.SYMBOLS-symbols.result
-          (take c.args.len c.args.input.now) within,
+          c.args.input.now within,
     )
 
 pub decode_entries-entries-requires-clause-exact : goal.decode_entries-entries-requires-clause-exact
 decode_entries-entries-requires-clause-exact g c =
-    let within = group-within c.args.len c.args.input.now c.SYMBOLS-symbols.result
-    c.loop-index.index c.requires.few c.loop-index-test.true in
-    let room = group-room c.args.len c.loop-index.index (length c.args.output.now)
+    let within = group-before (length c.args.input.now) c.SYMBOLS-symbols.result c.loop-index.index
+    c.loop-index-test.true in
+    let room = group-room (length c.args.input.now) c.loop-index.index (length c.args.output.now)
     c.BYTES-bytes.ensures c.SYMBOLS-symbols.ensures c.requires.room c.loop-index-test.true in
     let bytes = c.BYTES-bytes.result in
     let symbols = c.SYMBOLS-symbols.result in
     let i = c.loop-index.index in
-    let read = length-part (i * symbols) symbols (take c.args.len c.args.input.now) within in
+    let read = length-part (i * symbols) symbols c.args.input.now within in
     let wrote = length-part (i * bytes) bytes c.loop-index.output (omega arith) in
     let same = (IsWhole-same c.BYTES-bytes.ensures c.SYMBOLS-symbols.ensures
     g.G.GroupSize.is_group).same_bits in
@@ -76,46 +68,34 @@ decode_entries-entries-requires-clause-exact g c =
 
 pub returns-then-entries-ge128-clause-run : goal.returns-then-entries-ge128-clause-run
 returns-then-entries-ge128-clause-run g c = λ base reads.
-    let room = group-room c.args.len c.loop-index.index (length c.args.output.now)
+    let room = group-room (length c.args.input.now) c.loop-index.index (length c.args.output.now)
     c.BYTES-bytes.ensures c.SYMBOLS-symbols.ensures c.requires.room c.loop-index-test.true in
     let group = IsGroup-same refl c.BYTES-bytes.ensures c.SYMBOLS-symbols.ensures
     g.G.GroupSize.is_group in
     run-kept base reads.holds.is_width g.G.GroupSize.WIDTH c.BYTES-bytes.result
-    c.SYMBOLS-symbols.result group reads.width_is (take c.args.len c.args.input.now) _
+    c.SYMBOLS-symbols.result group reads.width_is c.args.input.now _
     c.loop-index.output c.decode_entries-entries.new.output c.loop-index.index _ (omega arith)
     (c.loop-index.invariant.run base reads)
-
-pub returns-then-entries-ge128-clause-longest :
-    goal.returns-then-entries-ge128-clause-longest
-returns-then-entries-ge128-clause-longest g c = λ base reads.
-    let group = IsGroup-same refl c.BYTES-bytes.ensures c.SYMBOLS-symbols.ensures
-    g.G.GroupSize.is_group in
-    longest-at_group base reads.holds.is_width g.G.GroupSize.WIDTH c.BYTES-bytes.result
-    c.SYMBOLS-symbols.result group reads.width_is
-    c.args.values.now (take c.args.len c.args.input.now) c.loop-index.index _ refl reads.holds
-    (part_bytes c.args.input.now (λ j. (c.type_inv.input j).fits) c.args.len)
-    (λ all.
-    absurd (omega (arith, c.if-entries-ge128.true, c.decode_entries-entries.ensures.symbols.1 all)))
 
 pub returns-then-entries-ge128-clause-within :
     goal.returns-then-entries-ge128-clause-within
 returns-then-entries-ge128-clause-within g c =
     omega (
       arith,
-      group-before c.args.len c.SYMBOLS-symbols.result c.loop-index.index c.loop-index-test.true,
+      group-before (length c.args.input.now) c.SYMBOLS-symbols.result c.loop-index.index c.loop-index-test.true,
       ap (λ n. c.loop-index.index * n) c.SYMBOLS-symbols.ensures,
     )
 
 pub loop-index-init : goal.loop-index-init
 loop-index-init g c =
-    record { run = c.decode_most-first.ensures.run }
+    record { run = c.decode_whole_turns-first.ensures.run c.args.values.now refl }
 
 pub loop-index-preserved : goal.loop-index-preserved
 loop-index-preserved g c =
-    let part = take c.args.len c.args.input.now in
-    let within = group-within c.args.len c.args.input.now c.SYMBOLS-symbols.result
-    c.loop-index.index c.requires.few c.loop-index-test.true in
-    let room = group-room c.args.len c.loop-index.index (length c.args.output.now)
+    let part = c.args.input.now in
+    let within = group-before (length c.args.input.now) c.SYMBOLS-symbols.result c.loop-index.index
+    c.loop-index-test.true in
+    let room = group-room (length c.args.input.now) c.loop-index.index (length c.args.output.now)
     c.BYTES-bytes.ensures c.SYMBOLS-symbols.ensures c.requires.room c.loop-index-test.true in
     let group = IsGroup-same refl c.BYTES-bytes.ensures c.SYMBOLS-symbols.ensures
     g.G.GroupSize.is_group in
@@ -131,33 +111,17 @@ loop-index-preserved g c =
           reads.width_is c.args.values.now
           part _ output c.decode_entries-entries.new.output i _ _ refl within (omega arith)
           shown_len reads.holds (c.loop-index.invariant.run base reads)
-          (part_bytes c.args.input.now (λ j. (c.type_inv.input j).fits) c.args.len)
+          (λ j. (c.type_inv.input j).fits)
           (c.decode_entries-entries.ensures.symbols.0 c.if-entries-ge128.false)
-          (c.decode_entries-entries.ensures.bytes base (rw c.ORDER.ensures reads)
+          (c.decode_entries-entries.ensures.bytes base reads
           c.if-entries-ge128.false);
     }
 
-pub returns-then-is_longest-clause-within : goal.returns-then-is_longest-clause-within
-returns-then-is_longest-clause-within g c =
-    omega (
-      arith,
-      mul-le-mul_right g.G.GroupSize.SYMBOLS c.decode_most-first.ensures.within,
-      groups-within c.args.len g.G.GroupSize.SYMBOLS,
-    )
-
-pub returns-clause-longest : goal.returns-clause-longest
-returns-clause-longest g c = λ base reads.
-    let group = IsGroup-same refl c.BYTES-bytes.ensures c.SYMBOLS-symbols.ensures
-    g.G.GroupSize.is_group in
-    longest-all base reads.holds.is_width g.G.GroupSize.WIDTH c.BYTES-bytes.result
-    c.SYMBOLS-symbols.result group reads.width_is (take c.args.len c.args.input.now) c.args.len
-    (length-take-le c.args.len c.args.input.now c.requires.few)
-
 pub returns-clause-run : goal.returns-clause-run
 returns-clause-run g c = λ base reads.
-    let within = subst (λ n. c.decode_most-first.result.0 ≤ c.args.len / n)
-    (sym c.SYMBOLS-symbols.ensures) c.decode_most-first.ensures.within in
-    let all : c.loop-index.index ≡ c.args.len / c.SYMBOLS-symbols.result =
+    let within = subst (λ n. c.decode_whole_turns-first.result ≤ (length c.args.input.now) / n)
+    (sym c.SYMBOLS-symbols.ensures) c.decode_whole_turns-first.ensures.within in
+    let all : c.loop-index.index ≡ (length c.args.input.now) / c.SYMBOLS-symbols.result =
     omega (arith, within, c.loop-index-test.false, c.loop-index.auto.index-end) in
     rw all at (c.loop-index.invariant.run base reads)
 
@@ -165,6 +129,6 @@ pub returns-clause-within : goal.returns-clause-within
 returns-clause-within g c =
     omega (
       arith,
-      groups-within c.args.len c.SYMBOLS-symbols.result,
-      ap (λ s. c.args.len / c.SYMBOLS-symbols.result * s) c.SYMBOLS-symbols.ensures,
+      groups-within (length c.args.input.now) c.SYMBOLS-symbols.result,
+      ap (λ s. (length c.args.input.now) / c.SYMBOLS-symbols.result * s) c.SYMBOLS-symbols.ensures,
     )

@@ -1,144 +1,146 @@
-use Rattle.std.proofs.Common.{le-div_iff_mul-le, ◌≡◌, ℕ, ◌+◌, ◌-◌, ◌*◌, ◌/◌, ◌≤◌, List, length, refl, ◌∙◌, arith}
-use Rattle.std.proofs.Math.Nat.{add-mul, mul-le-mul_right, mul-mod_left}
+use Rattle.std.proofs.Common.{◌≡◌, ℕ, List, ◌+◌, ◌-◌, ◌*◌, ◌/◌, ◌%◌, ◌<◌, ◌≤◌, length, length-take-le, take, drop, replicate, refl, sym, ap, ◌∙◌, arith}
+use Rattle.std.proofs.lemmas.List.{length-drop, length-take, take-append-le, take-take}
+use Rattle.std.proofs.Math.Nat.{add-mul, mul-mod_left}
+use Rattle.std.proofs.lemmas.Nat.{div-add-mod'}
+use Rattle.data_encoding_meaning.specs.text.Base.{group_bytes, group_symbols}
 use borrow.Rule.Slice.PartMut.{put_mid}
+use Rattle.data_encoding_meaning.proofs.lists.PartLemmas.{IsWhole-group, length-part}
 use Rattle.data_encoding_kernel.specs.Runs.{IsRunBy}
-use Rattle.data_encoding_kernel.proofs.decoding.GroupRunLemmas.{IsBlock, block-at, block-end, block-room, sixteen-symbols}
-use Rattle.data_encoding_kernel.proofs.decoding.ShorterRunLemmas.{run-shorter}
-use Rattle.data_encoding_kernel.proofs.decoding.SymbolRunLemmas.{groups-monotone, groups-room, run-on}
-use Rattle.data_encoding_meaning.proofs.lists.PartLemmas.{IsWhole, IsWhole-group, groups-within, length-part}
-use Rattle.data_encoding_kernel.proofs.decode.decode_sixteens.Given.{Over}
-use Rattle.data_encoding_kernel.proofs.decode.decode_sixteens.Goals.{After-decode_sixteen-found, After-min-read}
-use Rattle.data_encoding_kernel.proofs.decode.decode_sixteens.Goals as goal
+use Rattle.data_encoding_kernel.proofs.decoding.FrontRunLemmas.{window-room, window-run}
+use Rattle.data_encoding_kernel.proofs.decoding.GroupRunLemmas.{sixteen-few, sixteen-symbols}
+use Rattle.data_encoding_kernel.proofs.decoding.SymbolRunLemmas.{groups-monotone, groups-room}
+use Rattle.data_encoding_kernel.proofs.decode.decode_windows.Given.{Over}
+use Rattle.data_encoding_kernel.proofs.decode.decode_windows.Goals.{After-decode_front-front, After-store_lanes}
+use Rattle.data_encoding_kernel.proofs.decode.decode_windows.Goals as goal
 
-whole : (g : Over) → IsWhole g.G.GroupSize.WIDTH g.G.GroupSize.BYTES g.G.GroupSize.SYMBOLS
-whole g =
-    IsWhole-group g.G.GroupSize.WIDTH g.G.GroupSize.BYTES g.G.GroupSize.SYMBOLS
-    g.G.GroupSize.is_group
+some : (g : Over) → 0 < g.G.GroupSize.SYMBOLS
+some g =
+    (IsWhole-group g.G.GroupSize.WIDTH g.G.GroupSize.BYTES g.G.GroupSize.SYMBOLS
+    g.G.GroupSize.is_group).some_symbols
 
-block : (g : Over) (c : After-min-read g)
-    → IsBlock g.G.GroupSize.SYMBOLS (length c.args.input.now) c.min-read.result
-block g c =
-    block-at g.G.GroupSize.is_group c.SYMBOLS-symbols.ensures (length c.args.input.now) c.loop-at.at
-    c.min-read.result c.requires.enough c.loop-at.invariant.whole c.loop-at-test.true
-    c.min-read.ensures
+few : (g : Over) (c : After-decode_front-front g) → c.decode_front-front.result.symbols ≤ 16
+few g c = omega (arith, c.decode_front-front.ensures.few, c.min-len.ensures)
 
-output-room : (g : Over) (c : After-min-read g)
-    → c.min-read.result / c.SYMBOLS-symbols.result * c.BYTES-bytes.result
-    + 16 / c.SYMBOLS-symbols.result * c.BYTES-bytes.result ≤ length c.loop-at.output
-output-room g c =
-    block-room (whole g).some_symbols c.SYMBOLS-symbols.ensures (block g c) c.BYTES-bytes.ensures
-    (length c.loop-at.output) (omega (arith, c.loop-at.auto.output, c.requires.room))
-
-pub overflow_sub-whole : goal.overflow_sub-whole
-overflow_sub-whole g c =
-    let many : 16 / g.G.GroupSize.SYMBOLS ≤ length c.args.input.now / g.G.GroupSize.SYMBOLS =
-    groups-monotone 16 (length c.args.input.now) refl (whole g).some_symbols c.requires.enough in
-    rw c.SYMBOLS-symbols.ensures (omega (
+within : (g : Over) (c : After-decode_front-front g)
+    → c.loop-at.at + c.decode_front-front.result.symbols ≤ length c.args.input.now
+within g c =
+    omega (
       arith,
-      mul-le-mul_right g.G.GroupSize.SYMBOLS many,
-      sixteen-symbols g.G.GroupSize.is_group,
-    ))
+      c.decode_front-front.ensures.few,
+      c.min-len.ensures,
+      c.loop-at.invariant.within,
+    )
+
+room : (g : Over) (c : After-decode_front-front g)
+    → c.loop-at.at / c.SYMBOLS-symbols.result * c.BYTES-bytes.result
+    + c.decode_front-front.result.symbols / c.SYMBOLS-symbols.result * c.BYTES-bytes.result
+    ≤ length c.loop-at.output
+room g c =
+    window-room c.SYMBOLS-symbols.ensures c.BYTES-bytes.ensures (some g) c.loop-at.at
+    c.decode_front-front.result.symbols (length c.args.input.now) (length c.loop-at.output)
+    c.loop-at.invariant.whole (within g c) (omega (arith, c.loop-at.auto.output, c.requires.room))
+
+pub overflow_mul-written : goal.overflow_mul-written
+overflow_mul-written g c = record {
+  fits = omega (arith, room g (goal.at.overflow_mul-written g c).After-decode_front-front);
+}
+
+pub overflow_mul-count : goal.overflow_mul-count
+overflow_mul-count g c = record {
+  fits = omega (arith, room g (goal.at.overflow_mul-count g c).After-decode_front-front);
+}
 
 pub overflow_add-written : goal.overflow_add-written
 overflow_add-written g c = record {
-  fits = omega (arith, output-room g (goal.at.overflow_add-written g c).After-min-read);
+  fits = omega (arith, room g (goal.at.overflow_add-written g c).After-decode_front-front);
 }
 
-pub slice_bounds-decode_sixteen-end-in-loop-at : goal.slice_bounds-decode_sixteen-end-in-loop-at
-slice_bounds-decode_sixteen-end-in-loop-at g c =
-    output-room g (goal.at.slice_bounds-decode_sixteen-end-in-loop-at g c).After-min-read
+pub slice_bounds-store_lanes-end : goal.slice_bounds-store_lanes-end
+slice_bounds-store_lanes-end g c =
+    room g (goal.at.slice_bounds-store_lanes-end g c).After-decode_front-front
 
-pub decode_sixteen-found-requires-clause-exact : goal.decode_sixteen-found-requires-clause-exact
-decode_sixteen-found-requires-clause-exact g c =
-    let before = (goal.at.decode_sixteen-found-requires-clause-exact g c).After-min-read in
-    length-part (c.min-read.result / c.SYMBOLS-symbols.result * c.BYTES-bytes.result)
-    (16 / c.SYMBOLS-symbols.result * c.BYTES-bytes.result) c.loop-at.output (output-room g before)
-    ∙ (λ i. 16 / (c.SYMBOLS-symbols.ensures ∙ g.G.GroupSize.is_group.has_symbols) i
-    * c.BYTES-bytes.ensures i)
+pub store_lanes-requires-clause-few : goal.store_lanes-requires-clause-few
+store_lanes-requires-clause-few g c =
+    groups-room (16 / g.G.GroupSize.SYMBOLS) _ 16 c.BYTES-bytes.ensures
+    (groups-monotone c.decode_front-front.result.symbols 16 c.SYMBOLS-symbols.ensures (some g)
+    (few g (goal.at.store_lanes-requires-clause-few g c).After-decode_front-front))
+    (sixteen-few g.G.GroupSize.is_group)
 
--- the groups so far and those of the sixteen symbols
-run : (g : Over) (c : After-decode_sixteen-found g)
-    → (values : List ℕ) → g.L.LookUp.holds values c.args.look_up.now
-    → IsRunBy values g.G.GroupSize.WIDTH g.O.ConstantOrder.ORDER c.args.input.now
-    ((c.min-read.result + c.decode_sixteen-found.result) / g.G.GroupSize.SYMBOLS)
-    c.args.output.now
-    (put_mid (c.min-read.result / c.SYMBOLS-symbols.result * c.BYTES-bytes.result)
-    (c.min-read.result / c.SYMBOLS-symbols.result * c.BYTES-bytes.result
-    + 16 / c.SYMBOLS-symbols.result * c.BYTES-bytes.result
-    - c.min-read.result / c.SYMBOLS-symbols.result * c.BYTES-bytes.result)
-    c.loop-at.output c.decode_sixteen-found.new.output)
-run g c = λ values held base reads.
-    let before = (goal.at-After-decode_sixteen-found g c).After-min-read in
-    let width = g.G.GroupSize.WIDTH in
-    let symbols = g.G.GroupSize.SYMBOLS in
-    let bytes = g.G.GroupSize.BYTES in
-    let group = g.G.GroupSize.is_group in
-    let input = c.args.input.now in
-    let output = c.loop-at.output in
-    let piece = c.decode_sixteen-found.new.output in
-    let read = c.min-read.result in
-    let found = c.decode_sixteen-found.result in
-    let here = block g before in
-    let some = (whole g).some_symbols in
-    let room : length input / symbols * bytes ≤ length output =
-    omega (arith, c.loop-at.auto.output, c.requires.room) in
-    let end = block-end some c.SYMBOLS-symbols.ensures here (sixteen-symbols group) in
-    let all : c.loop-at.at ≤ length input =
+pub store_lanes-requires-clause-room : goal.store_lanes-requires-clause-room
+store_lanes-requires-clause-room g c =
     omega (
       arith,
-      c.loop-at.invariant.within,
-      groups-within (length input) c.SYMBOLS-symbols.result,
-    ) in
-    let earlier : here.index ≤ c.loop-at.at / symbols =
-    (le-div_iff_mul-le some).1 (omega (arith, here.start, c.min-read.ensures)) in
-    let long : length piece ≡ 16 / symbols * bytes =
-    c.decode_sixteen-found.auto.output
-    ∙ length-part _ (16 / c.SYMBOLS-symbols.result * c.BYTES-bytes.result) output
-    (output-room g before)
-    ∙ (λ i. 16 / c.SYMBOLS-symbols.ensures i * c.BYTES-bytes.ensures i) in
-    run-on base reads.holds.is_width width bytes symbols group reads.width_is input
-    c.args.output.now output _ piece read found here.index _ (read + 16) c.BYTES-bytes.ensures
-    c.SYMBOLS-symbols.ensures here.start
-    (omega (arith, end, groups-within (length input) c.SYMBOLS-symbols.result))
-    (groups-room (length input / symbols) here.index (length output) refl
-    (omega (arith, here.before)) room)
-    (groups-room (16 / symbols) (found / symbols) (length piece) refl
-    (groups-monotone found 16 refl some c.decode_sixteen-found.ensures.few)
-    (omega (arith, long)))
-    (run-shorter base reads.holds.is_width width bytes symbols group reads.width_is input
-    c.args.output.now output (c.loop-at.at / symbols) here.index
-    (groups-room (length input / symbols) (c.loop-at.at / symbols) (length output) refl
-    (groups-monotone c.loop-at.at (length input) refl some all) room)
-    earlier (c.loop-at.invariant.run values held base reads))
-    (c.decode_sixteen-found.ensures.run values held base (rw c.ORDER.ensures reads))
+      length-part _ _ c.loop-at.output
+          (room g (goal.at.store_lanes-requires-clause-room g c).After-decode_front-front),
+    )
 
-pub returns-then-found-lt16-clause-run : goal.returns-then-found-lt16-clause-run
-returns-then-found-lt16-clause-run g c =
-    run g (goal.at.returns-then-found-lt16-clause-run g c).After-decode_sixteen-found
+-- the groups so far and those of the window
+run : (g : Over) (c : After-store_lanes g)
+    → (values : List ℕ) → g.L.LookUp.holds values c.args.look_up.now
+    → IsRunBy values g.G.GroupSize.WIDTH c.args.join.now.order c.args.input.now
+    ((c.loop-at.at + c.decode_front-front.result.symbols) / g.G.GroupSize.SYMBOLS)
+    c.args.output.now
+    (put_mid (c.loop-at.at / c.SYMBOLS-symbols.result * c.BYTES-bytes.result)
+    (c.loop-at.at / c.SYMBOLS-symbols.result * c.BYTES-bytes.result
+    + c.decode_front-front.result.symbols / c.SYMBOLS-symbols.result * c.BYTES-bytes.result
+    - c.loop-at.at / c.SYMBOLS-symbols.result * c.BYTES-bytes.result)
+    c.loop-at.output c.store_lanes.new.output)
+run g c = λ values held base reads.
+    let before = (goal.at-After-store_lanes g c).After-decode_front-front in
+    let input = c.args.input.now in
+    let at = c.loop-at.at in
+    let front = c.decode_front-front.result in
+    let n = front.symbols in
+    let part = take 16 (drop at input) in
+    let part_len : n ≤ length part =
+    omega (
+      arith,
+      few g before,
+      within g before,
+      length-drop at input,
+      length-take 16 (drop at input),
+    ) in
+    let same : take n c.load_at.result ≡ take n (drop at input) =
+    ap (take n) c.load_at.ensures
+    ∙ take-append-le n part (replicate (16 - (length input - at)) 0) part_len
+    ∙ take-take n 16 (drop at input) (few g before) in
+    let own = record {
+      width_is = reads.width_is ∙ sym c.requires.width;
+      order_is = reads.order_is;
+      holds = reads.holds;
+    } in
+    window-run base reads.holds.is_width c.SYMBOLS-symbols.ensures c.BYTES-bytes.ensures
+    (g.G.GroupSize.is_group.has_symbols ∙ ap group_symbols (sym reads.width_is))
+    (g.G.GroupSize.is_group.has_bytes ∙ ap group_bytes (sym reads.width_is)) input
+    c.load_at.result front.bytes c.args.output.now c.loop-at.output c.store_lanes.new.output at n _
+    c.loop-at.invariant.whole (within g before)
+    (omega (arith, c.loop-at.auto.output, c.requires.room)) same
+    (c.decode_front-front.ensures.front values held base own)
+    (omega (arith, c.store_lanes.auto.output, length-part _ _ c.loop-at.output (room g before)))
+    c.store_lanes.ensures (c.loop-at.invariant.run values held base reads)
+
+pub returns-then-front-lt16-clause-run : goal.returns-then-front-lt16-clause-run
+returns-then-front-lt16-clause-run g c =
+    run g (goal.at.returns-then-front-lt16-clause-run g c).After-store_lanes
 
 pub loop-at-preserved : goal.loop-at-preserved
 loop-at-preserved g c =
     let at = goal.at.loop-at-preserved g c in
-    let symbols = g.G.GroupSize.SYMBOLS in
-    let some = (whole g).some_symbols in
-    let here = block g at.After-min-read in
-    let all : c.decode_sixteen-found.result ≡ 16 =
-    omega (arith, c.decode_sixteen-found.ensures.few, c.if-found-lt16.false) in
-    let sum : c.min-read.result + c.decode_sixteen-found.result
-    ≡ (here.index + 16 / symbols) * symbols =
+    let s = g.G.GroupSize.SYMBOLS in
+    let all : c.decode_front-front.result.symbols ≡ 16 =
+    omega (arith, few g at.After-decode_front-front, c.if-front-lt16.false) in
+    let sum : c.loop-at.at + c.decode_front-front.result.symbols
+    ≡ (c.loop-at.at / s + 16 / s) * s =
     omega (
       arith,
       all,
-      here.start,
+      c.loop-at.invariant.whole,
+      div-add-mod' c.loop-at.at s,
       sixteen-symbols g.G.GroupSize.is_group,
-      add-mul here.index (16 / symbols) symbols,
+      add-mul (c.loop-at.at / s) (16 / s) s,
     ) in
     record {
-      whole = rw sum (mul-mod_left (here.index + 16 / symbols) symbols);
-      within = omega (
-        arith,
-        all,
-        block-end some c.SYMBOLS-symbols.ensures here (sixteen-symbols g.G.GroupSize.is_group),
-      );
-      run = run g at.After-decode_sixteen-found;
+      whole = rw sum (mul-mod_left (c.loop-at.at / s + 16 / s) s);
+      within = within g at.After-decode_front-front;
+      run = run g at.After-store_lanes;
     }
