@@ -1,9 +1,9 @@
 -- A table that is affine by rows. Each entry is its byte plus a constant of the row, or an entry of
 -- one row which several rows share.
-use Rattle.std.specs.Prelude.{◌≡◌, ℕ, ◌+◌, ◌/◌, ◌%◌, ◌^◌, ◌<◌, ◌==◌, ◌&&◌, ◌||◌, nat_le, Bool, true, eqb, if◌then◌else◌, List, [], ◌∷◌, take, slice_index, bit_and}
+use Rattle.std.specs.Prelude.{◌≡◌, ℕ, ◌+◌, ◌/◌, ◌%◌, ◌^◌, ◌<◌, ◌==◌, ◌&&◌, ◌||◌, not, nat_le, Bool, true, eqb, if◌then◌else◌, List, [], ◌∷◌, take, slice_index, bit_and}
 use Rattle.data_encoding_kernel.specs.declared.simd.decode.affine.Affine.{Affine}
 use Rattle.data_encoding_kernel.specs.declared.simd.decode.affine.PlainAffine.{PlainAffine}
-use Rattle.data_encoding_kernel.specs.Values.{in_row}
+use Rattle.data_encoding_kernel.specs.Values.{IsAsciiTable, IsExact, in_row}
 
 -- The bit of each row of sixteen bytes. It is 0 for the rows of bytes from 128 on.
 abbrev pub bits_of_rows : List ℕ
@@ -29,10 +29,15 @@ abbrev pub affine_entry : Affine → ℕ → ℕ
 affine_entry affine byte =
     if eqb (symbol_bit affine byte) 0 then 255 else affine_value affine byte
 
--- Each entry below 128 that the affine form finds is the entry of the table.
+-- The entry that the affine form finds for each byte below 128 is exact.
+abbrev pub AgreesWith : List ℕ → Affine → Type 0
+AgreesWith values affine =
+    (byte : ℕ) → byte < 128 → IsExact (affine_entry affine byte) (slice_index values byte)
+
+-- The affine form agrees with the table, whose upper half has no values.
 pub record HoldsAffine (values : List ℕ) (affine : Affine) : Type 0 where
-  pub agrees : (byte : ℕ) → byte < 128 → affine_entry affine byte < 128
-      → affine_entry affine byte ≡ slice_index values byte
+  pub agrees : AgreesWith values affine
+  pub ascii : IsAsciiTable values
 
 -- The affine form that the plain data describes.
 abbrev pub form_of : PlainAffine → Affine
@@ -42,14 +47,18 @@ form_of plain = record {
   shared = plain.shared;
 }
 
--- `true` if the entries that the form finds for the bytes from `byte` on are the given entries, or
--- 128 or more.
+-- `true` if the entry that was found is exact.
+abbrev pub is_exact : ℕ → ℕ → Bool
+is_exact found entry = (found == entry) || nat_le 128 found && nat_le 128 entry
+
+-- `true` if the entries that the form finds for the bytes from `byte` on are exact.
 abbrev pub agrees_from : Affine → ℕ → List ℕ → Bool
 agrees_from affine byte [] = true
 agrees_from affine byte (entry ∷ entries) =
-    (nat_le 128 (affine_entry affine byte) || (affine_entry affine byte == entry))
+    is_exact (affine_entry affine byte) entry
     && agrees_from affine (byte + 1) entries
 
--- `true` if each entry below 128 that the form finds is the entry of the table.
+-- `true` if there is no form, or if it agrees with the table.
 abbrev pub agrees : List ℕ → PlainAffine → Bool
-agrees values plain = agrees_from (form_of plain) 0 (take 128 values)
+agrees values plain =
+    not plain.is_affine || agrees_from (form_of plain) 0 (take 128 values)

@@ -1,5 +1,5 @@
 -- Values of symbols in lanes.
-use Rattle.std.specs.Prelude.{◌≡◌, ℕ, ◌+◌, ◌*◌, ◌/◌, ◌%◌, ◌^◌, ◌<◌, nat_le, if◌then◌else◌, List, length, slice_index}
+use Rattle.std.specs.Prelude.{◌≡◌, ℕ, ◌+◌, ◌*◌, ◌/◌, ◌%◌, ◌^◌, ◌<◌, nat_le, if◌then◌else◌, List, length, drop, replicate, slice_index}
 use Rattle.data_encoding_meaning.specs.declared.encoding.BitOrder.{BitOrder}
 use Rattle.data_encoding_kernel.specs.declared.simd.decode.table_rows.Rows.{Rows}
 use Rattle.data_encoding_kernel.specs.Words.{weight}
@@ -15,7 +15,11 @@ abbrev pub IsRow : List ℕ → ℕ → List ℕ → Type 0
 IsRow values start row =
     (k : ℕ) → k < 16 → slice_index row k ≡ slice_index values (start + k)
 
--- The rows are the lower half of the table.
+-- No byte from 128 on is a symbol.
+abbrev pub IsAsciiTable : List ℕ → Type 0
+IsAsciiTable values = drop 128 values ≡ replicate 128 128
+
+-- The rows are the lower half of the table, and the upper half has no values.
 pub record HoldsRows (values : List ℕ) (rows : Rows) : Type 0 where
   pub first : IsRow values 0 rows.first
   pub second : IsRow values 16 rows.second
@@ -25,6 +29,18 @@ pub record HoldsRows (values : List ℕ) (rows : Rows) : Type 0 where
   pub sixth : IsRow values 80 rows.sixth
   pub seventh : IsRow values 96 rows.seventh
   pub eighth : IsRow values 112 rows.eighth
+  pub ascii : IsAsciiTable values
+
+-- The entry that was found is exact: it is the entry of the table, or both are 128 or more.
+pub record IsExact (found entry : ℕ) : Type 0 where
+  pub found_is : found < 128 → found ≡ entry
+  pub entry_is : entry < 128 → found ≡ entry
+
+-- The entry that was found for each byte is exact.
+abbrev pub AreExact : List ℕ → List ℕ → List ℕ → Type 0
+AreExact values bytes found =
+    (k : ℕ) → k < length bytes
+    → IsExact (slice_index found k) (slice_index values (slice_index bytes k))
 
 -- Each entry below 128 that was found is the entry of the table for its byte.
 abbrev pub AreEntries : List ℕ → List ℕ → List ℕ → Type 0

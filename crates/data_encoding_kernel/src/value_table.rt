@@ -1,7 +1,8 @@
 //! The table of values, and its affine form.
 
-ghost use Rattle.std.specs.Prelude.{◌≡◌, slice_index, IsTrue};
+ghost use Rattle.std.specs.Prelude.{◌≡◌, true, slice_index, IsTrue};
 ghost use Rattle.data_encoding_kernel.specs.Affine.{HoldsAffine, agrees};
+ghost use Rattle.data_encoding_kernel.specs.Values.{IsAsciiTable};
 
 use crate::simd::decode::affine::{Affine, PlainAffine, plain_affine_of};
 use crate::simd::decode::look_up::look_up_byte;
@@ -43,18 +44,22 @@ impl ValueTable {
         self.form.is_affine
     }
 
-    /// Returns the affine form. It finds no symbol if the table has none.
+    /// Returns the affine form.
     #[inline(always)]
     pub fn affine(&self) -> Affine
-        requires { IsTrue (agrees self.now.entries self.now.form) }
+        requires form { self.now.form.is_affine ≡ true }
+        requires agrees { IsTrue (agrees self.now.entries self.now.form) }
+        requires ascii { IsAsciiTable self.now.entries }
         ensures { HoldsAffine self.now.entries result }
     {
         self.form.form()
     }
+
     /// Returns the entry of `byte`. No address depends on a symbol.
     #[inline]
     pub fn entry(&self, byte: u8) -> u8
-        requires { IsTrue (agrees self.now.entries self.now.form) }
+        requires agrees { IsTrue (agrees self.now.entries self.now.form) }
+        requires ascii { IsAsciiTable self.now.entries }
         ensures { result ≡ slice_index self.now.entries byte }
     {
         if self.is_affine() {

@@ -1,5 +1,5 @@
 -- Groups of symbols that are decoded together.
-use Rattle.std.proofs.Common.{le-div_iff_mul-le, min, ⊎_elim, ◌≡◌, ℕ, zero, suc, ◌+◌, ◌-◌, ◌*◌, ◌/◌, ◌%◌, ◌^◌, ◌<◌, ◌≤◌, List, [], ◌∷◌, ◌++◌, length, length-take-le, map, take, drop, slice_index, refl, sym, ap, ◌∙◌, arith, flat_map}
+use Rattle.std.proofs.Common.{le-div_iff_mul-le, min, ⊎_elim, ◌≡◌, ℕ, zero, suc, ◌+◌, ◌-◌, ◌*◌, ◌/◌, ◌%◌, ◌^◌, ◌<◌, ◌≤◌, List, [], ◌∷◌, ◌++◌, length, length-take-le, map, take, drop, slice_index, refl, sym, ap, ◌∙◌, subst, arith, flat_map}
 use Rattle.std.proofs.lemmas.List.{drop-map, ext_get_or, get_or-drop, get_or-map, get_or-take, length-drop, length-map, nil_from_length, take-map, take_all}
 use Rattle.std.proofs.lemmas.List.Elements.{All-from_get_or, recursion_from_All}
 use Rattle.std.proofs.lemmas.List.FromFn.{length-map-range_with_len}
@@ -14,10 +14,11 @@ use Rattle.data_encoding_meaning.specs.declared.encoding.BitOrder.{BitOrder}
 use Rattle.data_encoding_meaning.specs.text.Base.{Base, group_bytes, group_symbols, is_symbol, meaning, IsGroup}
 use Rattle.data_encoding_meaning.specs.text.Bits.{runs}
 use Rattle.data_encoding_kernel.specs.Runs.{IsRun}
-use Rattle.data_encoding_kernel.specs.Values.{AreEntries, AreValues}
+use Rattle.data_encoding_kernel.specs.Values.{AreExact, AreValues, IsExact}
 use Rattle.data_encoding_meaning.specs.decoding.Fault.{symbol_bytes}
 use Rattle.data_encoding_kernel.specs.Tables.{Reads}
 use Rattle.data_encoding_kernel.specs.Words.{digit, word_of}
+use Rattle.data_encoding_kernel.proofs.digits.GatherRowLemmas.{none-exact}
 use Rattle.data_encoding_kernel.proofs.digits.GatherStoreLemmas.{bytes_of_words}
 use Rattle.data_encoding_kernel.proofs.digits.FrontWordLemmas.{groups-front}
 use Rattle.data_encoding_kernel.proofs.digits.KernelLemmas.{symbol_bytes-word}
@@ -151,7 +152,7 @@ record AreFound (total number : ℕ) (values input entries : List ℕ) (found : 
   lanes : length entries ≡ total * number
   few : found ≤ total * number
   below : (j : ℕ) → j < found → slice_index entries j < 128
-  are : AreEntries values (take (total * number) input) entries
+  are : AreExact values (take (total * number) input) entries
 
 -- the words of the groups before the first byte that is not a symbol
 module _ {total number found : ℕ} {values input entries : List ℕ} (some : 0 < number)
@@ -162,19 +163,21 @@ module _ {total number found : ℕ} {values input entries : List ℕ} (some : 0 
   groups-within_found : groups * number ≤ found
   groups-within_found = groups-within found number
 
-  entry-found : (j : ℕ) → j < found
-      → slice_index entries j ≡ slice_index values (slice_index input j)
-  entry-found j h =
-      so_far.are j (omega (
+  exact-at : (j : ℕ) → j < total * number
+      → IsExact (slice_index entries j) (slice_index values (slice_index input j))
+  exact-at j h =
+      subst (λ byte. IsExact (slice_index entries j) (slice_index values byte))
+      (get_or-take (total * number) input j 0 h)
+      (so_far.are j (omega (
         arith,
         h,
-        so_far.few,
         so_far.long,
         length-take-le (total * number) input (omega (arith, so_far.long)),
-      ))
-      (so_far.below j h)
-      ∙ ap (slice_index values)
-      (get_or-take (total * number) input j 0 (omega (arith, h, so_far.few)))
+      )))
+
+  entry-found : (j : ℕ) → j < found
+      → slice_index entries j ≡ slice_index values (slice_index input j)
+  entry-found j h = (exact-at j (omega (arith, h, so_far.few))).found_is (so_far.below j h)
 
   found-symbols : (j : ℕ) → j < found → slice_index values (slice_index input j) < 128
   found-symbols j h =
@@ -242,7 +245,8 @@ pub words-found : (total : ℕ) {width number read count : ℕ} → 0 < number �
     (input entries made : List ℕ) (found : ℕ) → length input ≡ total * number
     → ((j : ℕ) → slice_index input j < 256) → length entries ≡ total * count → found ≤ total * count
     → ((j : ℕ) → j < found → slice_index entries j < 128)
-    → ((values : List ℕ) → holds values → AreEntries values (take (total * count) input) entries)
+    → (found < total * count → 128 ≤ slice_index entries found)
+    → ((values : List ℕ) → holds values → AreExact values (take (total * count) input) entries)
     → ((n : ℕ) → n ≤ total → AllByRecursion (λ entry. entry < 2 ^ read) (take (n * count) entries)
     → take n made ≡ map (word_of order read count) (first_chunks count n entries))
     → record {
@@ -252,9 +256,11 @@ pub words-found : (total : ℕ) {width number read count : ℕ} → 0 < number �
           (first_chunks number (found / number) (map (slice_index values) input));
       symbols : (values : List ℕ) → holds values → (j : ℕ) → j < found
           → slice_index values (slice_index input j) < 128;
+      stop : (values : List ℕ) → holds values → found < total * number
+          → 128 ≤ slice_index values (slice_index input found);
     }
 words-found total {width} {number} some same many holds order input entries made found long fits =
-    rw (same, ← many) (λ lanes few below look are.
+    rw (same, ← many) (λ lanes few below stop look are.
     let so_far : (values : List ℕ) → holds values
     → AreFound total number values input entries found =
     λ values held. record {
@@ -269,6 +275,8 @@ words-found total {width} {number} some same many holds order input entries made
       words = λ values held own. found-words some (so_far values held) width own fits order made
           are;
       symbols = λ values held. found-symbols some (so_far values held);
+      stop = λ values held less.
+          none-exact (exact-at some (so_far values held) found less) (stop less);
     })
 
 -- whole groups of sixteen symbols, and the room of their bytes

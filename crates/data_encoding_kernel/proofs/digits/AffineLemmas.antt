@@ -1,8 +1,8 @@
 -- Entries of a table that is affine by rows of sixteen, at bytes in lanes.
-use Rattle.std.proofs.Common.{◌≡◌, ℕ, ◌+◌, ◌-◌, ◌*◌, ◌/◌, ◌%◌, ◌^◌, ◌<◌, ◌≤◌, cond, eqb, List, length, map, take, drop, get_or, slice_index, replicate, bit_and, w8, refl, sym, ap, ◌∙◌, subst, arith, ⊎_elim}
+use Rattle.std.proofs.Common.{◌≡◌, ℕ, ◌+◌, ◌-◌, ◌*◌, ◌/◌, ◌%◌, ◌^◌, ◌<◌, ◌≤◌, Bool, true, false, cond, eqb, eqb-true, List, length, map, take, drop, get_or, slice_index, replicate, bit_and, w8, refl, sym, ap, ◌∙◌, subst, arith, ⊎_elim}
 use Rattle.std.proofs.lemmas.Bool.{cases_lt}
 use Rattle.std.proofs.lemmas.Bool.Decides.{nat_tests}
-use Rattle.std.proofs.lemmas.Nat.{and_le_r}
+use Rattle.std.proofs.lemmas.Nat.{and_le_l, and_le_r}
 use Rattle.std.proofs.lemmas.List.{get_or-drop, get_or-replicate, map-id, ext_get_or}
 use Rattle.std.proofs.lemmas.List.FromFn.{get_or-map-range_with_len, length-map-range_with_len}
 use Rattle.std.proofs.lemmas.Simd.{length-chunk, zip2_of_maps, zip2_splat, splat_is_map, tops_compared, map-map}
@@ -10,8 +10,8 @@ use Rattle.std.specs.List.{AllByRecursion, range_with_len}
 use Rattle.std.specs.Simd.Lanes.{chunk, zip2, sel_l, top}
 use Rattle.data_encoding_kernel.specs.declared.simd.decode.affine.Affine.{Affine}
 use Rattle.data_encoding_kernel.specs.Affine.{HoldsAffine, affine_entry, affine_value, bits_of_rows, moved_byte, symbol_bit}
-use Rattle.data_encoding_kernel.specs.Values.{IsRow, in_row}
-use Rattle.data_encoding_kernel.proofs.digits.GatherRowLemmas.{at_most, chosen-high, row-loaded}
+use Rattle.data_encoding_kernel.specs.Values.{IsExact, IsRow, in_row}
+use Rattle.data_encoding_kernel.proofs.digits.GatherRowLemmas.{at_most, chosen-high, exact-none, exact-same, row-loaded, upper-entry}
 use Rattle.data_encoding_kernel.proofs.digits.LaneLemmas.{select-mapped}
 use Rattle.data_encoding_kernel.proofs.digits.WordLemmas.{map-range-same}
 use Rattle.data_encoding_meaning.proofs.lists.EachLemmas.{all-at}
@@ -116,13 +116,14 @@ high-entry affine byte high fits =
     ∙ omega (arith, and_le_r (in_row affine.symbols 0 byte) 0) in
     ap (λ n. cond (eqb n 0) 255 (affine_value affine byte)) none
 
-pub entry-is : (values : List ℕ) (affine : Affine) → HoldsAffine values affine → (byte : ℕ)
-    → byte < 256 → affine_entry affine byte < 128
-    → affine_entry affine byte ≡ slice_index values byte
-entry-is values affine held byte fits small =
-    held.agrees byte (⊎_elim (λ (low : byte < 128). low)
-    (λ (high : 128 ≤ byte). absurd (omega (arith, small, high-entry affine byte high fits)))
-    (cases_lt byte 128)) small
+pub entry-exact : (values : List ℕ) (affine : Affine) → HoldsAffine values affine → (byte : ℕ)
+    → byte < 256 → IsExact (affine_entry affine byte) (slice_index values byte)
+entry-exact values affine held byte fits =
+    ⊎_elim (held.agrees byte)
+    (λ (high : 128 ≤ byte).
+    exact-none (omega (arith, high-entry affine byte high fits))
+    (omega (arith, upper-entry values byte held.ascii high fits)))
+    (cases_lt byte 128)
 
 -- the bytes of a row, as they are computed
 pub row-bytes : (row : ℕ) → row < 8
@@ -146,9 +147,17 @@ lanes-from_function f count lanes long each =
     each k inside ∙ sym (function-at f count k inside))
 
 -- a lane that passes
-same-entry : (entry own : ℕ) → entry < 128 → cond (eqb entry own) 0 (plus entry 128) < 128
-    → entry ≡ own
-same-entry entry own small passes = grind (arith, nat_tests)
+exact-lane : (entry own : ℕ) → cond (eqb entry own) 0 (plus (bit_and entry own) 128) < 128
+    → IsExact entry own
+exact-lane entry own = go (eqb entry own) refl
+  where
+    go : (b : Bool) → eqb entry own ≡ b → cond b 0 (plus (bit_and entry own) 128) < 128
+        → IsExact entry own
+    go true same passes = exact-same (eqb-true entry own same)
+    go false other passes =
+        let both : 128 ≤ bit_and entry own = omega (arith, passes) in
+        exact-none (omega (arith, both, and_le_l entry own))
+        (omega (arith, both, and_le_r entry own))
 
 -- the entries of a row, as they are loaded
 abbrev entries_of : ℕ → List ℕ → List ℕ
@@ -165,44 +174,47 @@ row-entries row values long few =
     (omega (arith, length-chunk (16 * row) 16 values (omega (arith, long, few)))))
     (row-loaded (16 * row) values)
 
--- a row with no entry below 128 that differs from the entry of the table
+-- a row of exact entries
 pub row-agrees : (affine : Affine) (values bytes found : List ℕ) (row : ℕ) → length values ≡ 256
     → row < 8 → bytes ≡ map (λ k. 16 * row + k) (range_with_len 0 16)
     → found ≡ map (affine_entry affine) bytes
     → AllByRecursion (λ lane. lane < 128)
     (sel_l (map (top 7) (zip2 equal found (entries_of row values))) (replicate 16 0)
-    (zip2 plus found (replicate 16 128)))
-    → (k : ℕ) → k < 16 → affine_entry affine (16 * row + k) < 128
-    → affine_entry affine (16 * row + k) ≡ slice_index values (16 * row + k)
-row-agrees affine values bytes found row long few are_bytes are_found passes k h small =
+    (zip2 plus (zip2 bit_and found (entries_of row values)) (replicate 16 128)))
+    → (k : ℕ) → k < 16
+    → IsExact (affine_entry affine (16 * row + k)) (slice_index values (16 * row + k))
+row-agrees affine values bytes found row long few are_bytes are_found passes k h =
     let places = range_with_len 0 16 in
     let entry = λ (j : ℕ). affine_entry affine (16 * row + j) in
     let own = λ (j : ℕ). slice_index values (16 * row + j) in
-    let lane = λ (j : ℕ). cond (eqb (entry j) (own j)) 0 (plus (entry j) 128) in
+    let both = λ (j : ℕ). bit_and (entry j) (own j) in
+    let lane = λ (j : ℕ). cond (eqb (entry j) (own j)) 0 (plus (both j) 128) in
     let found_are : found ≡ map entry places =
     are_found ∙ ap (map (affine_entry affine)) are_bytes
     ∙ map-map (affine_entry affine) (λ j. 16 * row + j) places in
     let own_are : entries_of row values ≡ map own places = row-entries row values long few in
     let lanes_are =
-    chosen-equal entry own (λ _. 0) (λ j. plus (entry j) 128) places (replicate 16 0)
-    (zip2 plus found (replicate 16 128)) found_are own_are
+    chosen-equal entry own (λ _. 0) (λ j. plus (both j) 128) places (replicate 16 0)
+    (zip2 plus (zip2 bit_and found (entries_of row values)) (replicate 16 128)) found_are own_are
     (splat_is_map places 16 0 refl)
-    (zip2_of_maps plus entry (λ _. 128) places found_are (splat_is_map places 16 128 refl)) in
+    (zip2_of_maps plus both (λ _. 128) places
+    (zip2_of_maps bit_and entry own places found_are own_are)
+    (splat_is_map places 16 128 refl)) in
     let inside : k < length (map lane places) =
     omega (arith, h, length-map-range_with_len lane 0 16) in
-    same-entry (entry k) (own k) small
+    exact-lane (entry k) (own k)
     (subst (λ n. n < 128) (function-at lane 16 k h)
     (all-at (λ n. n < 128) (map lane places)
     (subst (AllByRecursion (λ n. n < 128)) lanes_are passes) k inside))
 
 -- and one row more
 pub rows-extended : (affine : Affine) (values : List ℕ) (row : ℕ)
-    → ((byte : ℕ) → byte < 16 * row → affine_entry affine byte < 128
-    → affine_entry affine byte ≡ slice_index values byte)
-    → ((k : ℕ) → k < 16 → affine_entry affine (16 * row + k) < 128
-    → affine_entry affine (16 * row + k) ≡ slice_index values (16 * row + k))
-    → (byte : ℕ) → byte < 16 * (row + 1) → affine_entry affine byte < 128
-    → affine_entry affine byte ≡ slice_index values byte
+    → ((byte : ℕ) → byte < 16 * row
+    → IsExact (affine_entry affine byte) (slice_index values byte))
+    → ((k : ℕ) → k < 16
+    → IsExact (affine_entry affine (16 * row + k)) (slice_index values (16 * row + k)))
+    → (byte : ℕ) → byte < 16 * (row + 1)
+    → IsExact (affine_entry affine byte) (slice_index values byte)
 rows-extended affine values row below here byte h =
     ⊎_elim (λ (low : byte < 16 * row). below byte low)
     (λ (from : 16 * row ≤ byte).

@@ -1,19 +1,19 @@
 -- Entries of a table at bytes in lanes, from rows of sixteen, and the test of them all.
-use Rattle.std.proofs.Common.{◌≡◌, ℕ, zero, suc, ◌+◌, ◌*◌, ◌/◌, ◌%◌, ◌^◌, ◌<◌, ◌≤◌, Bool, true, false, not, cond, eqb, leb, List, [], ◌∷◌, ◌++◌, length, map, take, drop, get_or, slice_index, replicate, bit_and, bit_or, w8, refl, sym, ap, ◌∙◌, subst, arith, eqb-true, leb-false, length-append}
-use Rattle.std.proofs.lemmas.Bool.{leb-true}
+use Rattle.std.proofs.Common.{◌≡◌, ℕ, zero, suc, ◌+◌, ◌-◌, ◌*◌, ◌/◌, ◌%◌, ◌^◌, ◌<◌, ◌≤◌, Bool, true, false, not, cond, eqb, leb, List, [], ◌∷◌, ◌++◌, length, map, take, drop, get_or, slice_index, replicate, bit_and, bit_or, w8, refl, sym, ap, ◌∙◌, subst, arith, eqb-true, leb-false, length-append, ⊎_elim}
+use Rattle.std.proofs.lemmas.Bool.{cases_lt, leb-true}
 use Rattle.std.proofs.lemmas.Bool.Decides.{nat_tests}
 use Rattle.std.proofs.lemmas.Nat.{and_mask, and_le_r, le_or_r}
 use Rattle.std.proofs.lemmas.Nat.Bits.{and_high}
-use Rattle.std.proofs.lemmas.List.{length-map, get_or-map, get_or-take, get_or-drop, ext_get_or, map-append, take_at}
+use Rattle.std.proofs.lemmas.List.{get_or-replicate, length-map, get_or-map, get_or-take, get_or-drop, ext_get_or, map-append, take_at}
 use Rattle.std.proofs.lemmas.Simd.{swz_l, SwzOk, SwzOk-from_below, length-swz_l, get_or-swz_l_below, zip2_splat, zip2_splat_left, tops_compared, Each1-all, Each1-get_or, Each1-zip2, Each2-splat, map-map, mask_l-mod, pick_l-range_with_len, trailing_mask_l}
-use Rattle.std.proofs.lemmas.List.Sums.{prefix_len-le-length, prefix_len_passes}
+use Rattle.std.proofs.lemmas.List.Sums.{prefix_len-le-length, prefix_len_passes, prefix_len_stops}
 use Rattle.std.specs.Bool.{IsTrue}
 use Rattle.std.specs.Int.Bits.{or_zero_r}
 use Rattle.std.specs.List.{AllByRecursion, concat, range_with_len}
 use Rattle.std.specs.Simd.Lanes.{Each1, zip2, sel_l, mask_l, pick_l, top}
 use Rattle.std.specs.List.{prefix_len}
 use lib.Count.{count_trailing_zeros}
-use Rattle.data_encoding_kernel.specs.Values.{AreEntries, IsRow, chosen_by, in_row}
+use Rattle.data_encoding_kernel.specs.Values.{AreExact, IsAsciiTable, IsExact, IsRow, chosen_by, in_row}
 use Rattle.data_encoding_kernel.proofs.digits.LaneLemmas.{select-mapped}
 use Rattle.data_encoding_meaning.proofs.lists.RepeatLemmas.{get_or-repeats}
 
@@ -24,6 +24,19 @@ repeats times xs = concat (replicate times xs)
 below-first : (limit lane rest : ℕ) → cond (leb limit lane) 1 0 + 2 * rest ≡ 0
     → (lane < limit) × (rest ≡ 0)
 below-first limit lane rest e = grind (arith, nat_tests)
+
+-- a mask that is 0 if no lane is at least the limit
+clear-first : (limit lane rest : ℕ) → lane < limit → rest ≡ 0
+    → cond (leb limit lane) 1 0 + 2 * rest ≡ 0
+clear-first limit lane rest low none = grind (arith, nat_tests)
+
+clear-mask : (limit : ℕ) (lanes : List ℕ)
+    → ((k : ℕ) → k < length lanes → slice_index lanes k < limit)
+    → mask_l (map (leb limit) lanes) ≡ 0
+clear-mask limit [] each = refl
+clear-mask limit (lane ∷ lanes) each =
+    clear-first limit lane (mask_l (map (leb limit) lanes)) (each 0 (omega arith))
+    (clear-mask limit lanes (λ k h. each (suc k) (omega (arith, h))))
 
 below-by_mask : (limit : ℕ) (lanes : List ℕ) → mask_l (map (leb limit) lanes) ≡ 0
     → AllByRecursion (λ lane. lane < limit) lanes
@@ -82,6 +95,24 @@ module _ (limit count : ℕ) (lanes : List ℕ) (long : length lanes ≡ count) 
       (omega (arith, h, first-above some)) in
       let lane = slice_index lanes k in
       grind (arith, nat_tests, passes)
+
+  -- the lane after these
+  pub stops-before : (mask_of limit count lanes ≡ 0 → ⊥)
+      → count_trailing_zeros 64 (mask_of limit count lanes) < count
+      → limit ≤ slice_index lanes (count_trailing_zeros 64 (mask_of limit count lanes))
+  stops-before some less =
+      let first = first-above some in
+      let stops = prefix_len_stops (λ lane. not (leb limit lane)) lanes 0
+      (omega (arith, less, first, long)) in
+      let lane = get_or lanes (prefix_len (λ lane. not (leb limit lane)) lanes) 0 in
+      let high : limit ≤ lane = grind (arith, nat_tests, stops) in
+      subst (λ k. limit ≤ slice_index lanes k) (sym first) high
+
+  pub none-if_below : ((k : ℕ) → k < count → slice_index lanes k < limit)
+      → IsTrue (not (not (eqb (mask_of limit count lanes) 0)))
+  none-if_below each =
+      subst (λ n. IsTrue (not (not (eqb n 0))))
+      (sym (mask-is ∙ clear-mask limit lanes (λ k h. each k (omega (arith, h, long))))) refl
 
 pub all-below : (limit count : ℕ) (lanes : List ℕ) → length lanes ≡ count → count ≤ 64
     → IsTrue (not (not (eqb (mask_of limit count lanes) 0)))
@@ -229,20 +260,50 @@ of_rows-is values byte h =
 abbrev pub of_byte : List ℕ → ℕ → ℕ
 of_byte values byte = bit_or (of_rows values byte) (bit_and byte 128)
 
-pub of_byte-is : (values : List ℕ) (byte : ℕ) → byte < 256 → of_byte values byte < 128
-    → of_byte values byte ≡ slice_index values byte
-of_byte-is values byte fits h =
-    let high : bit_and byte 128 ≡ byte / 128 % 2 * 128 = and_high byte 1 7 in
-    let low : byte < 128 =
-    omega (arith, fits, h, high, le_or_r (of_rows values byte) (bit_and byte 128)) in
-    ap (bit_or (of_rows values byte)) (omega (arith, high, low)) ∙ or_zero_r (of_rows values byte)
-    ∙ of_rows-is values byte low
+-- entries that are exact
+pub exact-same : {found entry : ℕ} → found ≡ entry → IsExact found entry
+exact-same same = record { found_is = λ _. same; entry_is = λ _. same }
 
--- the entries that a function finds for bytes, each if it is below 128
+pub exact-none : {found entry : ℕ} → 128 ≤ found → 128 ≤ entry → IsExact found entry
+exact-none high none = record {
+  found_is = λ low. absurd (omega (arith, high, low));
+  entry_is = λ low. absurd (omega (arith, none, low));
+}
+
+-- no entry was found, so there is none
+pub none-exact : {found entry : ℕ} → IsExact found entry → 128 ≤ found → 128 ≤ entry
+none-exact {found} {entry} exact high =
+    ⊎_elim (λ (low : entry < 128). absurd (omega (arith, high, exact.entry_is low, low)))
+    (λ (none : 128 ≤ entry). none) (cases_lt entry 128)
+
+-- a byte from 128 on has no entry
+pub upper-entry : (values : List ℕ) (byte : ℕ) → IsAsciiTable values → 128 ≤ byte → byte < 256
+    → slice_index values byte ≡ 128
+upper-entry values byte ascii high fits =
+    let at : byte ≡ 128 + (byte - 128) = omega (arith, high) in
+    ap (slice_index values) at ∙ sym (get_or-drop 128 values (byte - 128) 0)
+    ∙ ap (λ l. get_or l (byte - 128) 0) ascii
+    ∙ get_or-replicate 128 (byte - 128) 128 0 (omega (arith, high, fits))
+
+pub of_byte-is : (values : List ℕ) → IsAsciiTable values → (byte : ℕ) → byte < 256
+    → IsExact (of_byte values byte) (slice_index values byte)
+of_byte-is values ascii byte fits =
+    let bit : bit_and byte 128 ≡ byte / 128 % 2 * 128 = and_high byte 1 7 in
+    ⊎_elim (λ (low : byte < 128).
+    exact-same
+    (ap (bit_or (of_rows values byte)) (omega (arith, bit, low)) ∙ or_zero_r (of_rows values byte)
+    ∙ of_rows-is values byte low))
+    (λ (high : 128 ≤ byte).
+    exact-none
+    (omega (arith, fits, high, bit, le_or_r (of_rows values byte) (bit_and byte 128)))
+    (omega (arith, upper-entry values byte ascii high fits)))
+    (cases_lt byte 128)
+
+-- the entries that a function finds for bytes
 pub entries-are : (find : ℕ → ℕ) (values bytes found : List ℕ) → found ≡ map find bytes
     → Each1 (λ byte. byte < 256) bytes
-    → ((byte : ℕ) → byte < 256 → find byte < 128 → find byte ≡ slice_index values byte)
-    → AreEntries values bytes found
+    → ((byte : ℕ) → byte < 256 → IsExact (find byte) (slice_index values byte))
+    → AreExact values bytes found
 entries-are find values bytes found is fits each k h =
     rw (is, get_or-map find bytes k 0 0 h)
     (each (get_or bytes k 0) (Each1-get_or (λ byte. byte < 256) bytes k 0 h fits))

@@ -1,49 +1,49 @@
 -- An affine form as plain data: the test of its entries.
-use Rattle.std.proofs.Common.{◌≡◌, ℕ, zero, suc, ◌+◌, ◌/◌, ◌%◌, ◌<◌, ◌≤◌, nat_le, ◌||◌, ◌==◌, Bool, true, cond, eqb, List, [], ◌∷◌, length, length-take-le, take, slice_index, replicate, bit_and, refl, ap, ◌∙◌, arith}
+use Rattle.std.proofs.Common.{◌≡◌, ℕ, zero, suc, ◌+◌, ◌/◌, ◌%◌, ◌<◌, ◌≤◌, nat_le, ◌||◌, ◌==◌, Bool, true, cond, eqb, List, [], ◌∷◌, length, length-take-le, take, slice_index, replicate, bit_and, refl, ap, ◌∙◌, subst, arith}
 use Rattle.std.proofs.lemmas.Bool.Decides.{nat_tests}
 use Rattle.std.proofs.lemmas.List.{get_or-replicate, get_or-take}
 use Rattle.std.specs.Cmp.{first_so, second_so}
 use Rattle.std.specs.Int.Bits.{and_zero_l}
 use Rattle.data_encoding_kernel.specs.declared.simd.decode.affine.Affine.{Affine}
-use Rattle.data_encoding_kernel.specs.Affine.{HoldsAffine, affine_entry, affine_value, agrees_from, bits_of_rows, symbol_bit}
-use Rattle.data_encoding_kernel.specs.Values.{in_row}
+use Rattle.data_encoding_kernel.specs.Affine.{AgreesWith, affine_entry, agrees_from, is_exact}
+use Rattle.data_encoding_kernel.specs.Values.{IsExact}
 
 -- the test of one entry
-abbrev passes : ℕ → ℕ → Bool
-passes found entry = nat_le 128 found || (found == entry)
+exact-passed : (found entry : ℕ) → is_exact found entry ≡ true → IsExact found entry
+exact-passed found entry h = record {
+  found_is = λ low. grind (arith, nat_tests, h, low);
+  entry_is = λ low. grind (arith, nat_tests, h, low);
+}
 
-same-entry : (found entry : ℕ) → passes found entry ≡ true → found < 128 → found ≡ entry
-same-entry found entry h small = grind (arith, nat_tests)
-
-is-passed : (found entry : ℕ) → (found < 128 → found ≡ entry) → passes found entry ≡ true
-is-passed found entry same = grind (arith, nat_tests)
+passes-exact : (found entry : ℕ) → IsExact found entry → is_exact found entry ≡ true
+passes-exact found entry exact = grind (arith, nat_tests, exact.found_is, exact.entry_is)
 
 module _ (affine : Affine) where
   entries-agree : (byte : ℕ) (entries : List ℕ) → agrees_from affine byte entries ≡ true
-      → (k : ℕ) → k < length entries → affine_entry affine (byte + k) < 128
-      → affine_entry affine (byte + k) ≡ slice_index entries k
-  entries-agree byte [] h k few small = absurd (omega (arith, few))
-  entries-agree byte (entry ∷ entries) h zero few small =
+      → (k : ℕ) → k < length entries
+      → IsExact (affine_entry affine (byte + k)) (slice_index entries k)
+  entries-agree byte [] h k few = absurd (omega (arith, few))
+  entries-agree byte (entry ∷ entries) h zero few =
       let here : byte + 0 ≡ byte = omega arith in
-      rw here (same-entry (affine_entry affine byte) entry
-      (first_so (passes (affine_entry affine byte) entry) (agrees_from affine (byte + 1) entries) h)
-      (rw here at small))
-  entries-agree byte (entry ∷ entries) h (suc k) few small =
+      rw here (exact-passed (affine_entry affine byte) entry
+      (first_so (is_exact (affine_entry affine byte) entry) (agrees_from affine (byte + 1) entries)
+      h))
+  entries-agree byte (entry ∷ entries) h (suc k) few =
       let next : byte + suc k ≡ byte + 1 + k = omega arith in
       rw next (entries-agree (byte + 1) entries
-      (second_so (passes (affine_entry affine byte) entry)
+      (second_so (is_exact (affine_entry affine byte) entry)
       (agrees_from affine (byte + 1) entries) h)
-      k (omega (arith, few)) (rw next at small))
+      k (omega (arith, few)))
 
   agreed-from : (byte : ℕ) (entries : List ℕ)
-      → ((k : ℕ) → k < length entries → affine_entry affine (byte + k) < 128
-      → affine_entry affine (byte + k) ≡ slice_index entries k)
+      → ((k : ℕ) → k < length entries
+      → IsExact (affine_entry affine (byte + k)) (slice_index entries k))
       → agrees_from affine byte entries ≡ true
   agreed-from byte [] each = refl
   agreed-from byte (entry ∷ entries) each =
       let here : byte + 0 ≡ byte = omega arith in
-      let first : passes (affine_entry affine byte) entry ≡ true =
-      is-passed (affine_entry affine byte) entry (rw here at (each 0 (omega arith))) in
+      let first : is_exact (affine_entry affine byte) entry ≡ true =
+      passes-exact (affine_entry affine byte) entry (rw here at (each 0 (omega arith))) in
       let others : agrees_from affine (byte + 1) entries ≡ true =
       agreed-from (byte + 1) entries
       (λ k few.
@@ -53,37 +53,19 @@ module _ (affine : Affine) where
 
   -- the test passes exactly if the form is right for the table
   pub agrees-holds : (values : List ℕ) → 128 ≤ length values
-      → agrees_from affine 0 (take 128 values) ≡ true → HoldsAffine values affine
-  agrees-holds values long h = record {
-    agrees = λ byte few small.
-        let here : 0 + byte ≡ byte = omega arith in
-        let found = entries-agree 0 (take 128 values) h byte
-        (omega (arith, few, length-take-le 128 values long)) in
-        (rw here at found) small ∙ get_or-take 128 values byte 0 few;
-  }
+      → agrees_from affine 0 (take 128 values) ≡ true → AgreesWith values affine
+  agrees-holds values long h byte few =
+      let here : 0 + byte ≡ byte = omega arith in
+      let found = entries-agree 0 (take 128 values) h byte
+      (omega (arith, few, length-take-le 128 values long)) in
+      subst (IsExact (affine_entry affine byte)) (get_or-take 128 values byte 0 few)
+      (rw here at found)
 
-  pub holds-agrees : (values : List ℕ) → 128 ≤ length values → HoldsAffine values affine
+  pub holds-agrees : (values : List ℕ) → 128 ≤ length values → AgreesWith values affine
       → agrees_from affine 0 (take 128 values) ≡ true
   holds-agrees values long held =
       agreed-from 0 (take 128 values)
       (λ byte inside.
       let here : 0 + byte ≡ byte = omega arith in
       let few : byte < 128 = omega (arith, inside, length-take-le 128 values long) in
-      rw (here, get_or-take 128 values byte 0 few) (held.agrees byte few))
-
--- a form without symbols finds nothing
-pub nothing-found : (values deltas shared : List ℕ)
-    → (let none : Affine = record { symbols = replicate 16 0; deltas = deltas; shared = shared } in
-    HoldsAffine values none)
-nothing-found values deltas shared = record {
-  agrees = λ byte few small.
-      let none : Affine =
-      record { symbols = replicate 16 0; deltas = deltas; shared = shared } in
-      let no_bit : symbol_bit none byte ≡ 0 =
-      ap (λ n. bit_and n (in_row bits_of_rows 0 (byte / 16)))
-      (get_or-replicate 16 (0 + byte % 16) 0 0 (omega arith))
-      ∙ and_zero_l (in_row bits_of_rows 0 (byte / 16)) in
-      let found : affine_entry none byte ≡ 255 =
-      ap (λ n. cond (eqb n 0) 255 (affine_value none byte)) no_bit in
-      absurd (omega (arith, small, found));
-}
+      rw (here, get_or-take 128 values byte 0 few) (held byte few))

@@ -3,7 +3,7 @@ use Rattle.std.proofs.Common.{◌≡◌, ℕ, ◌≤◌, true, false, List, [], 
 use Rattle.std.specs.List.{range_with_len}
 use Rattle.data_encoding_kernel.specs.declared.simd.decode.affine.Affine.{Affine}
 use Rattle.data_encoding_kernel.specs.declared.simd.decode.affine.PlainAffine.{PlainAffine}
-use Rattle.data_encoding_kernel.specs.Affine.{HoldsAffine, affine_entry, affine_value, agrees, agrees_from, bits_of_rows, form_of, moved_byte, symbol_bit}
+use Rattle.data_encoding_kernel.specs.Affine.{AgreesWith, affine_entry, affine_value, agrees, agrees_from, bits_of_rows, form_of, is_exact, moved_byte, symbol_bit}
 use Rattle.data_encoding_kernel.specs.Values.{in_row}
 use Rattle.data_encoding_kernel.proofs.digits.PlainAffineLemmas.{agrees-holds}
 
@@ -54,11 +54,20 @@ abbrev values_with_plus : ℕ → List ℕ
 values_with_plus plus =
     replicate 43 128 ++ plus ∷ replicate 4 128 ++ range_with_len 0 10 ++ replicate 70 128
 
--- from `9` on: 9, and at `:` anything, since no entry is found there. Without a form, any table
+-- an entry that was found, another one, and none on one side or both
+entries_are_exact :
+    (is_exact 9 9 ≡ true)
+    × (is_exact 9 8 ≡ false)
+    × (is_exact 9 130 ≡ false)
+    × (is_exact 255 9 ≡ false)
+    × (is_exact 255 130 ≡ true)
+entries_are_exact = (refl, refl, refl, refl, refl)
+
+-- from `9` on: 9, and none at `:`. Without a form, any table
 forms_agree :
     (form_of plain_digits_and_plus ≡ digits_and_plus)
-    × (agrees_from digits_and_plus 57 (9 ∷ 7 ∷ []) ≡ true)
-    × (agrees_from digits_and_plus 57 (8 ∷ 7 ∷ []) ≡ false)
+    × (agrees_from digits_and_plus 57 (9 ∷ 130 ∷ []) ≡ true)
+    × (agrees_from digits_and_plus 57 (9 ∷ 7 ∷ []) ≡ false)
     × (agrees (values_with_plus 62) plain_digits_and_plus ≡ true)
     × (agrees (values_with_plus 61) plain_digits_and_plus ≡ false)
     × (agrees (values_with_plus 61) no_form ≡ true)
@@ -67,5 +76,5 @@ forms_agree = (refl, refl, refl, refl, refl, refl)
 
 -- a table that agrees with a form has this form
 agreeing_table_has_form : (values : List ℕ) → 128 ≤ length values
-    → agrees values plain_digits_and_plus ≡ true → HoldsAffine values digits_and_plus
+    → agrees values plain_digits_and_plus ≡ true → AgreesWith values digits_and_plus
 agreeing_table_has_form values = agrees-holds digits_and_plus values

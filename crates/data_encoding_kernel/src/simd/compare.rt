@@ -11,6 +11,7 @@ pub fn are_below<const N: usize>(limit: u8, lanes: Simd<u8, N>) -> bool
     requires { N ≤ 64 }
     ensures lanes { length lanes.entry ≡ N }
     ensures below { IsTrue result → AllByRecursion (λ lane. lane < limit) lanes.entry }
+    ensures all { ((k : ℕ) → k < N → slice_index lanes.entry k < limit) → IsTrue result }
 {
     !lanes.simd_ge(Simd::<u8, N>::splat(limit)).any()
 }
@@ -22,6 +23,7 @@ pub fn count_below<const N: usize>(limit: u8, lanes: Simd<u8, N>) -> usize
     ensures lanes { length lanes.entry ≡ N }
     ensures few { result ≤ N }
     ensures below { (k : ℕ) → k < result → slice_index lanes.entry k < limit }
+    ensures stop { result < N → limit ≤ slice_index lanes.entry result }
 {
     let others = lanes.simd_ge(Simd::<u8, N>::splat(limit));
     if !others.any() {

@@ -115,6 +115,8 @@ fn words_of_groups<L: LookUp, G: GroupSize>(
         (first_chunks G.SYMBOLS (result.1 / G.SYMBOLS) (map (slice_index values) input.now)) }
     ensures symbols { (values : List ℕ) → L.holds values look_up.now
         → (k : ℕ) → k < result.1 → slice_index values (slice_index input.now k) < 128 }
+    ensures stop { (values : List ℕ) → L.holds values look_up.now → result.1 < 8 * G.SYMBOLS
+        → 128 ≤ slice_index values (slice_index input.now result.1) }
 {
     let width = G::WIDTH;
     match G::SYMBOLS {
@@ -242,6 +244,8 @@ pub fn decode_eight<L: LookUp, G: GroupSize>(
     ensures few { result ≤ 8 * G.SYMBOLS }
     ensures run { (values : List ℕ) → L.holds values look_up.now
         → IsRunBy values G.WIDTH order input.now (result / G.SYMBOLS) output.old output.new }
+    ensures stop { (values : List ℕ) → L.holds values look_up.now → result < 8 * G.SYMBOLS
+        → 128 ≤ slice_index values (slice_index input.now result) }
 {
     let (words, count) = words_of_groups::<L, G>(look_up, order, input);
     store::<G>(order, words, output);

@@ -2,8 +2,8 @@
 
 ghost use Rattle.std.specs.Prelude.{◌≡◌, ℕ, ◌+◌, ◌*◌, ◌%◌, ◌/◌, ◌<◌, List, length, map, slice_index, IsTrue, IfSome};
 ghost use Rattle.std.specs.List.{range_with_len};
-ghost use Rattle.data_encoding_kernel.specs.Affine.{HoldsAffine, affine_entry, agrees, bits_of_rows, form_of};
-ghost use Rattle.data_encoding_kernel.specs.Values.{AreEntries, in_row};
+ghost use Rattle.data_encoding_kernel.specs.Affine.{AgreesWith, HoldsAffine, affine_entry, agrees, bits_of_rows, form_of};
+ghost use Rattle.data_encoding_kernel.specs.Values.{AreExact, IsExact, in_row};
 
 use crate::simd::compare::are_below;
 use crate::simd::decode::table_rows::{in_row_16, in_row_32, in_row_64};
@@ -80,7 +80,7 @@ pub fn plain_affine_of(values: &[u8; 256], limit: u8) -> PlainAffine
 
 /// Returns the affine form of `values`, if the search finds one.
 fn affine_of(values: &[u8; 256], limit: u8) -> Option<Affine>
-    ensures { IfSome result (HoldsAffine values.now) }
+    ensures { IfSome result (AgreesWith values.now) }
 {
     let affine = candidate(values, limit);
     for row in 0..8 {
@@ -141,18 +141,19 @@ fn bytes_of_row(row: usize) -> u8x16
     indexes + u8x16::splat((16 * row) as u8)
 }
 
-/// Returns `true` if each entry below 128 that the form finds for `row` is the entry of the table.
+/// Returns `true` if each entry that the form finds for `row` is exact.
 #[inline(always)]
 fn agrees_in_row(affine: &Affine, values: &[u8; 256], row: usize) -> bool
     requires { row < 8 }
-    ensures { IsTrue result → (k : ℕ) → k < 16 → affine_entry affine.now (16 * row + k) < 128
-        → affine_entry affine.now (16 * row + k) ≡ slice_index values.now (16 * row + k) }
+    ensures { IsTrue result → (k : ℕ) → k < 16
+        → IsExact (affine_entry affine.now (16 * row + k)) (slice_index values.now (16 * row + k)) }
 {
     let start = 16 * row;
     let entries = u8x16::from_slice(&values[start..start + 16]);
     let found = found_16(affine, bytes_of_row(row));
-    let moved = found + u8x16::splat(128);
-    are_below(128, found.simd_eq(entries).select(u8x16::splat(0), moved))
+    // The highest bit is clear where both are 128 or more.
+    let both = (found & entries) + u8x16::splat(128);
+    are_below(128, found.simd_eq(entries).select(u8x16::splat(0), both))
 }
 
 // Finds the entries of bytes. `$in_row` looks bytes up in sixteen entries.
@@ -229,7 +230,7 @@ fn found<const N: usize>(
 #[inline(always)]
 pub fn affine_entries_16(affine: &Affine, bytes: u8x16) -> u8x16
     ensures { (values : List ℕ) → HoldsAffine values affine.now
-        → AreEntries values bytes result }
+        → AreExact values bytes result }
 {
     found_16(affine, bytes)
 }
@@ -238,7 +239,7 @@ pub fn affine_entries_16(affine: &Affine, bytes: u8x16) -> u8x16
 #[inline(always)]
 pub fn affine_entries_32(affine: &Affine, bytes: u8x32) -> u8x32
     ensures { (values : List ℕ) → HoldsAffine values affine.now
-        → AreEntries values bytes result }
+        → AreExact values bytes result }
 {
     found_32(affine, bytes)
 }
@@ -247,7 +248,7 @@ pub fn affine_entries_32(affine: &Affine, bytes: u8x32) -> u8x32
 #[inline(always)]
 pub fn affine_entries_64(affine: &Affine, bytes: u8x64) -> u8x64
     ensures { (values : List ℕ) → HoldsAffine values affine.now
-        → AreEntries values bytes result }
+        → AreExact values bytes result }
 {
     found_64(affine, bytes)
 }

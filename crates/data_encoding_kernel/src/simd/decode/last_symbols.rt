@@ -1,6 +1,6 @@
 //! Decoding of up to sixteen symbols in one vector, in every width and bit order.
 
-ghost use Rattle.std.specs.Prelude.{◌≡◌, ◌+◌, ◌*◌, ◌/◌, ◌^◌, ◌<◌, ◌≤◌, ◌-◌, ◌++◌, List, ℕ, Some, drop, slice_index, length, map, replicate, take};
+ghost use Rattle.std.specs.Prelude.{◌≡◌, ◌+◌, ◌*◌, ◌/◌, ◌^◌, ◌<◌, ◌≤◌, ◌-◌, ◌++◌, List, ℕ, IsSome, Some, drop, slice_index, length, map, replicate, take};
 ghost use Rattle.std.specs.Int.{bit_at};
 ghost use Rattle.std.specs.List.{AllByRecursion};
 ghost use Rattle.std.specs.Simd.{first_chunks};
@@ -315,10 +315,12 @@ fn first_lanes(count: usize, lanes: u8x16) -> u8x16
 #[inline(always)]
 pub fn decode_whole<L: LookUp>(look_up: &L, join: &Join, bytes: u8x16) -> Option<[u8; 16]>
     requires { IsJoin join.now }
-    ensures { (decoded : List ℕ) → result ≡ Some decoded
+    ensures front { (decoded : List ℕ) → result ≡ Some decoded
         → (values : List ℕ) → L.holds values look_up.now
         → (base : Base) → Reads base values join.now.width join.now.order
         → IsFront base bytes 16 decoded }
+    ensures some { (values : List ℕ) → L.holds values look_up.now
+        → ((k : ℕ) → k < 16 → slice_index values (slice_index bytes k) < 128) → IsSome result }
 {
     let entries = look_up.look_up_16(bytes);
     if !are_below(128, entries) {
@@ -349,9 +351,17 @@ impl Front {
         ensures alike { (k : ℕ) → k < result
             → slice_index self.now.text (self.now.symbols + k) ≡ byte }
     {
-        let alike = self.text.simd_eq(u8x16::splat(byte)).to_bitmask();
-        (alike >> self.symbols).trailing_ones() as usize
+        (alike_bits(self.text, byte) >> self.symbols).trailing_ones() as usize
     }
+}
+
+/// Returns the bits of the bytes that are `byte`.
+#[inline(always)]
+fn alike_bits(text: u8x16, byte: u8) -> u64
+    ensures few { result < 2 ^ 16 }
+    ensures alike { (k : ℕ) → k < 16 → bit_at result k ≡ 1 → slice_index text k ≡ byte }
+{
+    text.simd_eq(u8x16::splat(byte)).to_bitmask()
 }
 
 /// Decodes the symbols at the start of the first `len` bytes of a vector.
@@ -361,9 +371,14 @@ pub fn decode_front<L: LookUp>(look_up: &L, join: &Join, len: usize, bytes: u8x1
     requires few { len ≤ 16 }
     ensures few { result.symbols ≤ len }
     ensures text { result.text ≡ bytes }
+    ensures stop { (values : List ℕ) → L.holds values look_up.now → result.symbols < len
+        → 128 ≤ slice_index values (slice_index bytes result.symbols) }
     ensures others { (values : List ℕ) → L.holds values look_up.now
         → (k : ℕ) → k < len → bit_at result.others k ≡ 0
         → slice_index values (slice_index bytes k) < 128 }
+    ensures marked { (values : List ℕ) → L.holds values look_up.now
+        → (k : ℕ) → k < len → bit_at result.others k ≡ 1
+        → 128 ≤ slice_index values (slice_index bytes k) }
     ensures front { (values : List ℕ) → L.holds values look_up.now
         → (base : Base) → Reads base values join.now.width join.now.order
         → IsFront base bytes result.symbols result.bytes }
@@ -386,6 +401,7 @@ fn others_of(entries: u8x16, len: usize) -> u64
     ensures lanes { length entries ≡ 16 }
     ensures end { bit_at result len ≡ 1 }
     ensures below { (k : ℕ) → k < len → bit_at result k ≡ 0 → slice_index entries k < 128 }
+    ensures above { (k : ℕ) → k < len → bit_at result k ≡ 1 → 128 ≤ slice_index entries k }
 {
     entries.simd_ge(u8x16::splat(128)).to_bitmask() | 1 << len
 }
@@ -397,6 +413,7 @@ fn symbols_of(others: u64, len: usize) -> usize
     requires end { bit_at others len ≡ 1 }
     ensures few { result ≤ len }
     ensures below { (k : ℕ) → k < result → bit_at others k ≡ 0 }
+    ensures stop { result < len → bit_at others result ≡ 1 }
 {
     others.trailing_zeros() as usize
 }

@@ -1,8 +1,9 @@
 //! The ways to look up the entries of bytes, with a lane for each byte.
 
-ghost use Rattle.std.specs.Prelude.{◌≡◌, ℕ, List, slice_index, IsTrue};
+ghost use Rattle.std.specs.Prelude.{◌≡◌, ℕ, List, true, slice_index, IsTrue, ⊤};
 ghost use Rattle.data_encoding_kernel.specs.Affine.{HoldsAffine, agrees};
-ghost use Rattle.data_encoding_kernel.specs.Values.{AreEntries, HoldsRows};
+ghost use Rattle.data_encoding_kernel.specs.declared.simd.decode.affine.PlainAffine.{PlainAffine};
+ghost use Rattle.data_encoding_kernel.specs.Values.{AreExact, HoldsRows, IsAsciiTable};
 
 use crate::platform::has_simd;
 use crate::simd::decode::affine::{
@@ -12,34 +13,41 @@ use crate::simd::decode::table_rows::{Rows, entries_16, entries_32, entries_64, 
 use crate::value_table::ValueTable;
 use std::simd::prelude::*;
 
-/// A way to look up the entries of a table. Each entry below 128 that it finds is the entry of the
-/// table.
+/// A way to look up the entries of a table. It finds the entry of each symbol, and 128 or more for
+/// any other byte.
 pub trait LookUp: Copy {
+    // States that a table with this form has such a look-up.
+    ghost serves: { PlainAffine → Type 0 };
+
     // States that the look-up is for a table of values.
     ghost holds: { List ℕ → Self → Type 0 };
 
     /// Returns the look-up for `table`.
     fn of(table: &ValueTable) -> Self
-        requires { IsTrue (agrees table.now.entries table.now.form) }
+        requires form { serves table.now.form }
+        requires agrees { IsTrue (agrees table.now.entries table.now.form) }
+        requires ascii { IsAsciiTable table.now.entries }
         ensures { holds table.now.entries result };
 
     /// Returns the entries of 16 bytes.
     fn look_up_16(&self, bytes: u8x16) -> u8x16
         ensures { (values : List ℕ) → holds values self.now
-            → AreEntries values bytes result };
+            → AreExact values bytes result };
 
     /// Returns the entries of 32 bytes.
     fn look_up_32(&self, bytes: u8x32) -> u8x32
         ensures { (values : List ℕ) → holds values self.now
-            → AreEntries values bytes result };
+            → AreExact values bytes result };
 
     /// Returns the entries of 64 bytes.
     fn look_up_64(&self, bytes: u8x64) -> u8x64
         ensures { (values : List ℕ) → holds values self.now
-            → AreEntries values bytes result };
+            → AreExact values bytes result };
 }
 
 impl LookUp for Rows {
+    ghost serves = { λ form. ⊤ };
+
     ghost holds = { λ values rows. HoldsRows values rows };
 
     #[inline(always)]
@@ -64,6 +72,8 @@ impl LookUp for Rows {
 }
 
 impl LookUp for Affine {
+    ghost serves = { λ form. form.is_affine ≡ true };
+
     ghost holds = { λ values affine. HoldsAffine values affine };
 
     #[inline(always)]

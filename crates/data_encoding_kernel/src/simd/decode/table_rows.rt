@@ -1,7 +1,7 @@
 //! The entries of bytes, from a look-up table in rows of sixteen entries.
 
 ghost use Rattle.std.specs.Prelude.{◌≡◌, ℕ, ◌+◌, ◌%◌, ◌<◌, List, map, slice_index};
-ghost use Rattle.data_encoding_kernel.specs.Values.{AreEntries, HoldsRows, IsRow, chosen_by};
+ghost use Rattle.data_encoding_kernel.specs.Values.{AreExact, HoldsRows, IsAsciiTable, IsRow, chosen_by};
 
 use std::simd::prelude::*;
 
@@ -21,6 +21,7 @@ pub struct Rows {
 /// Returns the rows of the lower half of `values`.
 #[inline(always)]
 pub fn rows_of(values: &[u8; 256]) -> Rows
+    requires ascii { IsAsciiTable values.now }
     ensures { HoldsRows values.now result }
 {
     Rows {
@@ -127,7 +128,7 @@ macro_rules! entries_by_rows {
 #[inline(always)]
 pub fn entries_16(rows: &Rows, bytes: u8x16) -> u8x16
     ensures { (values : List ℕ) → HoldsRows values rows.now
-        → AreEntries values bytes result }
+        → AreExact values bytes result }
 {
     entries_by_rows!(rows, bytes, in_row_16, u8x16)
 }
@@ -136,7 +137,7 @@ pub fn entries_16(rows: &Rows, bytes: u8x16) -> u8x16
 #[inline(always)]
 pub fn entries_32(rows: &Rows, bytes: u8x32) -> u8x32
     ensures { (values : List ℕ) → HoldsRows values rows.now
-        → AreEntries values bytes result }
+        → AreExact values bytes result }
 {
     entries_by_rows!(rows, bytes, in_row_32, u8x32)
 }
@@ -145,7 +146,7 @@ pub fn entries_32(rows: &Rows, bytes: u8x32) -> u8x32
 #[inline(always)]
 pub fn entries_64(rows: &Rows, bytes: u8x64) -> u8x64
     ensures { (values : List ℕ) → HoldsRows values rows.now
-        → AreEntries values bytes result }
+        → AreExact values bytes result }
 {
     entries_by_rows!(rows, bytes, in_row_64, u8x64)
 }

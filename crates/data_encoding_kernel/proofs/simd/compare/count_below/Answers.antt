@@ -1,5 +1,5 @@
 use Rattle.std.proofs.Common.{◌<◌, arith}
-use Rattle.data_encoding_kernel.proofs.digits.GatherRowLemmas.{below-before, few-before, none-above}
+use Rattle.data_encoding_kernel.proofs.digits.GatherRowLemmas.{below-before, few-before, none-above, stops-before}
 use Rattle.data_encoding_meaning.proofs.lists.EachLemmas.{all-at}
 use Rattle.data_encoding_kernel.proofs.simd.compare.count_below.Goals as goal
 
@@ -16,3 +16,7 @@ returns-clause-few g c =
 pub returns-clause-below : goal.returns-clause-below
 returns-clause-below g c =
     below-before c.args.limit g.row.N c.args.lanes c.fits-lanes.0 c.requires c.if-not-others.false
+
+pub returns-clause-stop : goal.returns-clause-stop
+returns-clause-stop g c =
+    stops-before c.args.limit g.row.N c.args.lanes c.fits-lanes.0 c.requires c.if-not-others.false

@@ -6,4 +6,8 @@ use Rattle.data_encoding_kernel.proofs.value_table.ValueTable.affine.Goals as go
 pub returns : goal.returns
 returns c =
     subst (HoldsAffine c.args.self.now.entries) (sym c.form.ensures)
-    (agrees-holds (form_of c.args.self.now.form) c.args.self.now.entries (omega arith) c.requires)
+    (record {
+      agrees = agrees-holds (form_of c.args.self.now.form) c.args.self.now.entries (omega arith)
+          (rw c.requires.form at c.requires.agrees);
+      ascii = c.requires.ascii;
+    })

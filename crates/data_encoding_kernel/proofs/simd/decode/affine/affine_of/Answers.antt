@@ -11,7 +11,5 @@ loop-row-preserved c =
     (c.agrees_in_row.ensures c.if-not-agrees_in_row.false)
 
 pub returns : goal.returns
-returns c = record {
-  agrees = λ byte h.
-      c.loop-row.invariant byte (omega (arith, h, c.loop-row-test.false));
-}
+returns c = λ byte h.
+    c.loop-row.invariant byte (omega (arith, h, c.loop-row-test.false))

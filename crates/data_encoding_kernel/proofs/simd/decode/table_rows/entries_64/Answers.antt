@@ -19,4 +19,4 @@ returns c = λ values rows.
     let all = zip2_of_maps bit_or (of_rows values) (λ byte. bit_and byte 128) bytes whole
     (zip2_splat bit_and bytes 64 128 c.fits-bytes.0) in
     entries-are (of_byte values) values bytes _ all
-    (below_from_Fits w8 bytes c.fits-bytes.1) (of_byte-is values)
+    (below_from_Fits w8 bytes c.fits-bytes.1) (of_byte-is values rows.ascii)

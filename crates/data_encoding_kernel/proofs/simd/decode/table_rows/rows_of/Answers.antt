@@ -11,4 +11,5 @@ returns c = record {
   sixth = row-loaded 80 c.args.values.now;
   seventh = row-loaded 96 c.args.values.now;
   eighth = row-loaded 112 c.args.values.now;
+  ascii = c.requires.ascii;
 }
