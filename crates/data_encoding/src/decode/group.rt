@@ -10,7 +10,7 @@ ghost use Rattle.data_encoding.specs.Progress.{ReadsBy};
 
 use crate::decode::groups::Entries;
 use crate::encoding::{EncodingRef, PADDING};
-use data_encoding_kernel::copy::store_front;
+use data_encoding_kernel::decode::store_lanes;
 use data_encoding_kernel::group_size::GroupSize;
 use data_encoding_kernel::simd::decode::look_up::LookUp;
 use data_encoding_kernel::words::front_of_group;
@@ -44,11 +44,10 @@ impl EncodingRef<'_> {
         if front.symbols < count {
             return Err(faulty(front.symbols, DecodeKind::Symbol));
         }
-        let bytes = front.bytes.to_array();
         let written = G::WIDTH * count / 8;
-        store_front(&bytes, written, output);
+        store_lanes(front.bytes, written, output);
         // The byte after the data has the trailing bits.
-        if self.fields.checks_trailing_bits && bytes[written] != 0 {
+        if self.fields.checks_trailing_bits && front.bytes.to_array()[written] != 0 {
             return Err(faulty(count - 1, DecodeKind::Trailing));
         }
         Ok(count)

@@ -26,7 +26,7 @@ use Rattle.data_encoding_kernel.proofs.digits.GroupFrontLemmas.{front-same}
 use Rattle.data_encoding_kernel.proofs.decoding.SymbolRunLemmas.{groups-after, groups-monotone, groups-room, run-on}
 
 false-not-true : false ≡ true → ⊥
-false-not-true h = ?
+false-not-true h = absurd (cc h)
 
 -- a symbol has one value
 one-value : (m : Character) (ms : List Character) → is_symbol m ≡ true

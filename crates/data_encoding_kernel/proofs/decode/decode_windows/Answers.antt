@@ -6,6 +6,7 @@ use Rattle.data_encoding_meaning.specs.text.Base.{group_bytes, group_symbols}
 use borrow.Rule.Slice.PartMut.{put_mid}
 use Rattle.data_encoding_meaning.proofs.lists.PartLemmas.{IsWhole-group, length-part}
 use Rattle.data_encoding_kernel.specs.Runs.{IsRunBy}
+use Rattle.data_encoding_kernel.specs.Tables.{Reads}
 use Rattle.data_encoding_kernel.proofs.decoding.FrontRunLemmas.{window-room, window-run}
 use Rattle.data_encoding_kernel.proofs.decoding.GroupRunLemmas.{sixteen-few, sixteen-symbols}
 use Rattle.data_encoding_kernel.proofs.decoding.SymbolRunLemmas.{groups-monotone, groups-room}
@@ -104,7 +105,7 @@ run g c = λ values held base reads.
     ap (take n) c.load_at.ensures
     ∙ take-append-le n part (replicate (16 - (length input - at)) 0) part_len
     ∙ take-take n 16 (drop at input) (few g before) in
-    let own = record {
+    let own : Reads base values c.args.join.now.width c.args.join.now.order = record {
       width_is = reads.width_is ∙ sym c.requires.width;
       order_is = reads.order_is;
       holds = reads.holds;

@@ -1,8 +1,6 @@
-use Rattle.std.proofs.Common.{◌≡◌, ℕ, zero, suc, ◌-◌, ◌*◌, ◌^◌, ◌<◌, ◌≤◌, ◌++◌, ◌∙◌, List, length, length-take-le, map, take, drop, replicate, slice_index, w64, refl, sym, ap, subst, arith, ⊎_elim}
-use Rattle.std.proofs.lemmas.Bool.{cases_lt}
+use Rattle.std.proofs.Common.{◌≡◌, ℕ, ◌-◌, ◌*◌, ◌^◌, ◌<◌, ◌≤◌, ◌++◌, ◌∙◌, length, length-take-le, map, take, drop, replicate, slice_index, w64, refl, sym, ap, subst, arith}
 use Rattle.std.proofs.lemmas.List.{drop-replicate, get_or-take, length-map}
-use Rattle.std.proofs.lemmas.Nat.Bits.{bit_at-trailing_zeros, bit_at-zero}
-use Rattle.std.specs.Int.{bit_at, trailing_zeros}
+use Rattle.std.specs.Int.{trailing_zeros}
 use Rattle.std.specs.List.{range_with_len}
 use Rattle.data_encoding_meaning.proofs.decoding.GroupJudgementLemmas.{part_bytes}
 use Rattle.data_encoding_kernel.specs.Words.{digit, word_of}
@@ -17,10 +15,6 @@ slice_bounds-word_of_symbols-end c =
     (before-end c.others_by_table-others.result (length c.args.group.now)
     c.others_by_table-others.type_inv c.others_by_table-others.ensures.end).0)
 
-some : (n i : ℕ) → bit_at n i ≡ 1 → 0 < n
-some zero i e = absurd (omega (arith, e, bit_at-zero i))
-some (suc n) i e = omega arith
-
 pub returns : goal.returns
 returns c =
     let values = c.args.values.now in
@@ -30,20 +24,15 @@ returns c =
     let others = c.others_by_table-others.result in
     let marks = c.others_by_table-others.ensures in
     let within = before-end others (length group) c.others_by_table-others.type_inv marks.end in
-    let first = bit_at-trailing_zeros w64 others (some others (length group) marks.end)
-    c.others_by_table-others.type_inv in
     record {
       few = within.0;
-      stop = λ inside.
-          ⊎_elim
-          (λ low. absurd (omega (arith, first.1, (marks.others _ inside).1 low)))
-          (λ high. high) (cases_lt _ 128);
+      stop = λ inside. (marks.others _ inside).1 within.1;
       others = marks.others;
       front = λ base reads.
           let fits : (k : ℕ) → slice_index group k < 256 = λ k. (c.type_inv.group k).fits in
           let low : (k : ℕ) → k < trailing_zeros w64 others
           → slice_index values (slice_index group k) < 128 =
-          λ k h. (marks.others k (omega (arith, h, within.0))).0 (within.1 k h) in
+          λ k h. (marks.others k (omega (arith, h, within.0))).0 (within.2 k h) in
           joined-group base values width order reads group _ fits within.0
           (omega (arith, within.0, c.requires.few)) low _
           (let part = take _ group in

@@ -1,6 +1,5 @@
-use Rattle.std.proofs.Common.{◌≡◌, ℕ, ◌-◌, ◌<◌, ◌≤◌, ◌↔◌, length, replicate, slice_index, take, ap, ◌∙◌, subst, arith}
+use Rattle.std.proofs.Common.{◌≡◌, ℕ, ◌-◌, ◌<◌, ◌≤◌, length, replicate, slice_index, take, ap, ◌∙◌, subst, arith}
 use Rattle.std.proofs.lemmas.List.{get_or_append_left, take-append-le}
-use Rattle.std.specs.Int.{bit_at}
 use Rattle.data_encoding_kernel.proofs.digits.GroupFrontLemmas.{front-same}
 use Rattle.data_encoding_kernel.proofs.words.front_of_group.Goals as goal
 
@@ -18,9 +17,12 @@ returns g c =
       stop = λ inside.
           subst (λ byte. 128 ≤ slice_index values byte) (same found.symbols inside)
           (front.stop values c.requires.held inside);
-      others = λ k h.
-          subst (λ byte. (bit_at found.others k ≡ 0) ↔ (slice_index values byte < 128)) (same k h)
-          (front.others values c.requires.held k h);
+      others = λ k h. (
+        λ clear. subst (λ byte. slice_index values byte < 128) (same k h)
+            (front.others values c.requires.held k h clear),
+        λ set. subst (λ byte. 128 ≤ slice_index values byte) (same k h)
+            (front.marked values c.requires.held k h set),
+      );
       front = λ base reads.
           front-same base c.load_padded.result group found.symbols found.bytes
           (ap (take found.symbols) c.load_padded.ensures

@@ -1,4 +1,4 @@
-use Rattle.std.proofs.Common.{◌≡◌, ℕ, ◌+◌, ◌*◌, ◌%◌, ◌^◌, ◌<◌, ◌↔◌, length, slice_index, w64, sym, ap, ◌∙◌, arith}
+use Rattle.std.proofs.Common.{◌≡◌, ℕ, ◌+◌, ◌*◌, ◌%◌, ◌^◌, ◌<◌, ◌≤◌, length, slice_index, w64, sym, ap, ◌∙◌, arith}
 use Rattle.std.proofs.lemmas.Nat.{one_shl}
 use Rattle.std.proofs.lemmas.Nat.Bits.{bit_at-pow_other, bit_at-pow_same, bit_at_set_other, bit_at_set_same}
 use Rattle.std.specs.Int.{bit_at}
@@ -28,9 +28,11 @@ loop-index-preserved c =
     let small : index < 64 = omega (arith, inside, c.requires.few) in
     let entry : ℕ → ℕ = λ k. slice_index c.args.values.now (slice_index group k) in
     let kept : (k : ℕ) → bit_at new k ≡ bit_at old k → k < index
-    → (bit_at new k ≡ 0) ↔ (entry k < 128) =
-    λ k same h. (λ z. (before.so_far k h).0 (sym same ∙ z), λ low. same ∙ (before.so_far k h).1 low)
-    in
+    → (bit_at new k ≡ 0 → entry k < 128) × (bit_at new k ≡ 1 → 128 ≤ entry k) =
+    λ k same h. (
+      λ z. (before.so_far k h).0 (sym same ∙ z),
+      λ one. (before.so_far k h).1 (sym same ∙ one),
+    ) in
     elim c.if-entry_of-ge128.branch [
       | then-entry_of-ge128 w ↦
           let other : (k : ℕ) → (k ≡ index → ⊥) → bit_at new k ≡ bit_at old k =
@@ -41,11 +43,11 @@ loop-index-preserved c =
             end = other (length group) (λ same. omega (arith, inside, same)) ∙ before.end;
             clear = λ k from h. other k (λ same. omega (arith, from, same))
                 ∙ before.clear k (omega (arith, from)) h;
-            so_far = below_more (λ k. (bit_at new k ≡ 0) ↔ (entry k < 128)) index
+            so_far = below_more (λ k. (bit_at new k ≡ 0 → entry k < 128) × (bit_at new k ≡ 1 → 128 ≤ entry k)) index
                 (λ k h. kept k (other k (λ same. omega (arith, h, same))) h)
                 (
                   λ z. absurd (omega (arith, z, here)),
-                  λ low. absurd (omega (arith, low, w.if-entry_of-ge128.true, c.entry_of.ensures)),
+                  λ _. omega (arith, w.if-entry_of-ge128.true, c.entry_of.ensures),
                 );
           }
       | else-entry_of-ge128 w ↦
@@ -54,11 +56,12 @@ loop-index-preserved c =
           record {
             end = same (length group) ∙ before.end;
             clear = λ k from h. same k ∙ before.clear k (omega (arith, from)) h;
-            so_far = below_more (λ k. (bit_at new k ≡ 0) ↔ (entry k < 128)) index
+            so_far = below_more (λ k. (bit_at new k ≡ 0 → entry k < 128) × (bit_at new k ≡ 1 → 128 ≤ entry k)) index
                 (λ k h. kept k (same k) h)
                 (
                   λ _. omega (arith, w.if-entry_of-ge128.false, c.entry_of.ensures),
-                  λ _. same index ∙ before.clear index (omega arith) inside,
+                  λ one. absurd
+                      (omega (arith, one, same index ∙ before.clear index (omega arith) inside)),
                 );
           }
     ]
