@@ -23,6 +23,7 @@ use crate::memory::zeros;
 use data_encoding_kernel::call_by_width;
 use data_encoding_kernel::group_size::GroupSize;
 use data_encoding_kernel::ignore::IgnoredBytes;
+use data_encoding_kernel::simd::decode::last_symbols::Join;
 use data_encoding_kernel::simd::decode::look_up::LookUp;
 use data_encoding_kernel::simd::decode::table_rows::Rows;
 use data_encoding_meaning::limits;
@@ -163,9 +164,10 @@ impl EncodingRef<'_> {
         let entries = Entries {
             values: &values.entries,
             look_up: &Rows::of(values),
+            join: Join::of(self.fields.order(), G::WIDTH),
             ignored: &IgnoredBytes::of(&values.entries),
         };
-        match self.decode_group::<Rows, G>(entries, self.fields.order(), &rest[..len], output) {
+        match self.decode_group::<Rows, G>(entries, &rest[..len], output) {
             Ok(count) => Some(G::WIDTH * count / 8),
             Err(_) => None,
         }

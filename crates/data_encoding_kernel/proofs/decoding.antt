@@ -1,4 +1,5 @@
 -- Runs of whole groups.
 pub mod GroupRunLemmas
 pub mod ShorterRunLemmas
+pub mod FrontRunLemmas
 pub mod SymbolRunLemmas

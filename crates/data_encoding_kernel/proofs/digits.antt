@@ -22,5 +22,6 @@ pub mod OtherMaskLemmas
 pub mod FrontTextLemmas
 pub mod KeptLaneLemmas
 pub mod JoinedFrontLemmas
+pub mod GroupFrontLemmas
 pub mod AffineLemmas
 pub mod OffsetAlphabetLemmas

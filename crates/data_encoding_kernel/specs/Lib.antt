@@ -1,6 +1,7 @@
 pub mod Words
 pub mod Joins
 pub mod Fronts
+pub mod GroupFronts
 pub mod Tables
 pub mod Lanes
 pub mod DigitPairs

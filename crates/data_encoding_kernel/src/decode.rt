@@ -1,80 +1,89 @@
 //! Decoding of whole groups of symbols, up to the first group with another byte.
 
-ghost use Rattle.std.specs.Prelude.{◌≡◌, ℕ, ◌*◌, ◌/◌, ◌%◌, ◌<◌, ◌≤◌, List, length, take, IsTrue};
-ghost use Rattle.data_encoding_kernel.specs.Runs.{IsLongestBy, IsRunBy};
+ghost use Rattle.std.specs.Prelude.{◌≡◌, ℕ, ◌-◌, ◌*◌, ◌/◌, ◌%◌, ◌<◌, ◌≤◌, ◌++◌, List, length, take, drop, replicate};
+ghost use Rattle.data_encoding_kernel.specs.Joins.{IsJoin};
+ghost use Rattle.data_encoding_kernel.specs.Runs.{IsRunBy};
 
 mod iterations;
 
 use crate::bit_order::ConstantOrder;
-use crate::copy::copy_short;
+use crate::copy::store_front;
 use crate::decode::iterations::{DecodeEight, DecodeTurn};
 use crate::group_size::GroupSize;
 use crate::platform::has_simd;
+use crate::simd::decode::last_symbols::{Join, decode_front, load_last};
 use crate::simd::decode::look_up::LookUp;
-use crate::simd::decode::sixteen_symbols::decode_sixteen;
 use crate::simd::padded_load::load_padded;
-use crate::words::{decode_entries, entry_of};
+use crate::words::decode_entries;
 use data_encoding_meaning::encoding::BitOrder;
+use std::simd::prelude::*;
 
-/// Decodes whole groups from the start of `input` to the start of `output`, and returns their
-/// number.
+/// Decodes whole groups of the first `len` bytes of `input` to the start of `output`, and returns
+/// their number.
 ///
 /// Stops at the first group with a byte that is not a symbol. The output after the decoded bytes is
-/// unspecified.
+/// unspecified. May load the bytes after the first `len`, so that iterations cover more groups.
+// Inlined, since a call costs more than decoding a short text.
 #[inline(always)]
 pub fn decode_run<L: LookUp, O: ConstantOrder, G: GroupSize>(
     values: &[u8; 256],
     look_up: &L,
-    input: &[u8],
-    output: &mut [u8],
-) -> usize
-    requires held { L.holds values.now look_up.now }
-    requires room { length input.now / G.SYMBOLS * G.BYTES ≤ length output.old }
-    ensures run { IsRunBy values.now G.WIDTH O.ORDER input.now result output.old output.new }
-    ensures longest { IsLongestBy values.now G.WIDTH O.ORDER input.now result }
-    ensures within { result * G.SYMBOLS ≤ length input.now }
-{
-    decode_run_within::<L, O, G>(values, look_up, input, input.len(), output)
-}
-
-/// Decodes whole groups of the first `len` bytes of `input`, like [`decode_run`].
-///
-/// May load the bytes after them, so that SIMD iterations cover more groups.
-// Inlined, since a call costs more than decoding a short text.
-#[inline(always)]
-pub fn decode_run_within<L: LookUp, O: ConstantOrder, G: GroupSize>(
-    values: &[u8; 256],
-    look_up: &L,
+    join: &Join,
     input: &[u8],
     len: usize,
     output: &mut [u8],
 ) -> usize
     requires held { L.holds values.now look_up.now }
+    requires join { IsJoin join.now }
+    requires same { (join.now.width ≡ G.WIDTH) × (join.now.order ≡ O.ORDER) }
     requires few { len ≤ length input.now }
     requires room { len / G.SYMBOLS * G.BYTES ≤ length output.old }
     ensures run { IsRunBy values.now G.WIDTH O.ORDER (take len input.now) result output.old
         output.new }
-    ensures longest { IsLongestBy values.now G.WIDTH O.ORDER (take len input.now) result }
     ensures within { result * G.SYMBOLS ≤ len }
 {
     let symbols = G::SYMBOLS;
-    let bytes = G::BYTES;
-    let part = &input[..len];
-    let count = len / symbols;
-    if count == 0 {
+    if len < symbols {
         return 0;
     }
-    let (first, is_longest) = decode_most::<L, O, G>(values, look_up, input, len, output);
-    if is_longest {
-        return first;
+    if !has_simd() {
+        return decode_in_words::<G>(values, O::ORDER, &input[..len], output);
     }
+    let mut at = 0;
+    if input.len() >= 8 * symbols {
+        at = decode_iterations::<L, O, G>(look_up, input, len, output);
+    }
+    // An iteration stopped at a byte that is not a symbol, or passed the end.
+    if at % (8 * symbols) != 0 || len - at >= 8 * symbols {
+        return at / symbols;
+    }
+    decode_windows::<L, G>(look_up, join, at, &input[..len], output) / symbols
+}
+
+/// Decodes the groups of `input` by the table itself, up to the first group with a byte that is not
+/// a symbol, and returns their number. A platform without SIMD takes it.
+#[inline(always)]
+fn decode_in_words<G: GroupSize>(
+    values: &[u8; 256],
+    order: BitOrder,
+    input: &[u8],
+    output: &mut [u8],
+) -> usize
+    requires room { length input.now / G.SYMBOLS * G.BYTES ≤ length output.old }
+    ensures run { IsRunBy values.now G.WIDTH order input.now result output.old output.new }
+    ensures within { result * G.SYMBOLS ≤ length input.now }
+{
+    let symbols = G::SYMBOLS;
+    let bytes = G::BYTES;
+    let count = input.len() / symbols;
+    let first = decode_whole_turns::<[u8; 256], G>(values, order, input, output);
     for index in first..count {
         let read = index * symbols;
         let written = index * bytes;
         let entries = decode_entries::<G>(
             values,
-            O::ORDER,
-            &part[read..read + symbols],
+            order,
+            &input[read..read + symbols],
             &mut output[written..written + bytes],
         );
         if entries >= 128 {
@@ -84,139 +93,72 @@ pub fn decode_run_within<L: LookUp, O: ConstantOrder, G: GroupSize>(
     count
 }
 
-/// Decodes the groups of a run as far as iterations reach, and returns their number.
-///
-/// Also returns `true` if the run is known to end there.
-#[inline(always)]
-fn decode_most<L: LookUp, O: ConstantOrder, G: GroupSize>(
-    values: &[u8; 256],
-    look_up: &L,
-    input: &[u8],
-    len: usize,
-    output: &mut [u8],
-) -> (usize, bool)
-    requires held { L.holds values.now look_up.now }
-    requires few { len ≤ length input.now }
-    requires room { len / G.SYMBOLS * G.BYTES ≤ length output.old }
-    ensures run { IsRunBy values.now G.WIDTH O.ORDER (take len input.now) result.0 output.old
-        output.new }
-    ensures longest { IsTrue result.1
-        → IsLongestBy values.now G.WIDTH O.ORDER (take len input.now) result.0 }
-    ensures within { result.0 ≤ len / G.SYMBOLS }
-{
-    if !has_simd() {
-        let first = decode_whole_turns::<[u8; 256], G>(values, O::ORDER, &input[..len], output);
-        return (first, false);
-    }
-    let at = decode_simd::<L, O, G>(look_up, input, len, output);
-    let first = at / G::SYMBOLS;
-    if first == len / G::SYMBOLS {
-        return (first, true);
-    }
-    // The look-up found no symbol here, so the table may be read.
-    (first, entry_of(values, input[at]) >= 128)
-}
-
-/// Decodes with SIMD up to the first byte that is not a symbol, and returns the number of bytes
-/// read.
-///
-/// The whole groups among them are decoded. May stop before a last group that is not whole.
-#[inline(always)]
-fn decode_simd<L: LookUp, O: ConstantOrder, G: GroupSize>(
-    look_up: &L,
-    input: &[u8],
-    len: usize,
-    output: &mut [u8],
-) -> usize
-    requires few { len ≤ length input.now }
-    requires room { len / G.SYMBOLS * G.BYTES ≤ length output.old }
-    ensures run { (values : List ℕ) → L.holds values look_up.now
-        → IsRunBy values G.WIDTH O.ORDER (take len input.now) (result / G.SYMBOLS) output.old
-        output.new }
-    ensures within { result ≤ len }
-{
-    let part = &input[..len];
-    if len < 16 {
-        return decode_few::<L, O, G>(look_up, part, output);
-    }
-    let eight = 8 * G::SYMBOLS;
-    let mut at = 0;
-    if input.len() >= eight {
-        at = decode_iterations::<L, O, G>(look_up, input, len, output);
-    }
-    // An iteration stopped at a byte that is not a symbol, or passed the end.
-    if at % eight != 0 || len - at >= eight {
-        return at;
-    }
-    decode_sixteens::<L, O, G>(look_up, at, part, output)
-}
-
-/// Decodes sixteen symbols per iteration, up to the first byte that is not a symbol, and returns
+/// Decodes windows of up to sixteen symbols, up to the first byte that is not a symbol, and returns
 /// the number of bytes read.
 ///
 /// The whole groups among them are decoded. Those of the first `at` bytes are decoded before.
-#[inline(always)]
-fn decode_sixteens<L: LookUp, O: ConstantOrder, G: GroupSize>(
+// Not inlined, so that it is compiled once for each look-up and width.
+#[inline(never)]
+fn decode_windows<L: LookUp, G: GroupSize>(
     look_up: &L,
+    join: &Join,
     at: usize,
     input: &[u8],
     output: &mut [u8],
 ) -> usize
-    requires enough { 16 ≤ length input.now }
+    requires join { IsJoin join.now }
+    requires width { join.now.width ≡ G.WIDTH }
     requires whole { at % G.SYMBOLS ≡ 0 }
     requires within { at ≤ length input.now }
     requires room { length input.now / G.SYMBOLS * G.BYTES ≤ length output.old }
     requires begun { (values : List ℕ) → L.holds values look_up.now
-        → IsRunBy values G.WIDTH O.ORDER input.now (at / G.SYMBOLS) output.old output.old }
+        → IsRunBy values G.WIDTH join.now.order input.now (at / G.SYMBOLS) output.old output.old }
     ensures run { (values : List ℕ) → L.holds values look_up.now
-        → IsRunBy values G.WIDTH O.ORDER input.now (result / G.SYMBOLS) output.old output.new }
+        → IsRunBy values G.WIDTH join.now.order input.now (result / G.SYMBOLS) output.old
+        output.new }
     ensures within { result ≤ length input.now }
 {
     let symbols = G::SYMBOLS;
     let bytes = G::BYTES;
-    let whole = input.len() / symbols * symbols;
     let mut at = at;
-    while at < whole {
-        // The last sixteen symbols may overlap those before.
-        let read = at.min(whole - 16);
-        let written = read / symbols * bytes;
-        let found = decode_sixteen::<L, G>(
-            look_up,
-            O::ORDER,
-            &input[read..read + 16],
-            &mut output[written..written + 16 / symbols * bytes],
-        );
-        at = read + found;
-        if found < 16 {
+    while input.len() - at >= symbols {
+        let len = (input.len() - at).min(16);
+        let front = decode_front(look_up, join, len, load_at(input, at));
+        let written = at / symbols * bytes;
+        let count = front.symbols / symbols * bytes;
+        store_lanes(front.bytes, count, &mut output[written..written + count]);
+        at += front.symbols;
+        if front.symbols < 16 {
             return at;
         }
     }
     at
 }
 
-/// Decodes the groups of fewer than sixteen bytes, like [`decode_simd`].
-///
-/// The bytes are loaded with zeros after them, and take one iteration of sixteen symbols.
+/// Stores the first `count` bytes of a vector.
 #[inline(always)]
-fn decode_few<L: LookUp, O: ConstantOrder, G: GroupSize>(
-    look_up: &L,
-    input: &[u8],
-    output: &mut [u8],
-) -> usize
-    requires few { length input.now < 16 }
-    requires room { length input.now / G.SYMBOLS * G.BYTES ≤ length output.old }
-    ensures run { (values : List ℕ) → L.holds values look_up.now
-        → IsRunBy values G.WIDTH O.ORDER input.now (result / G.SYMBOLS) output.old output.new }
-    ensures within { result ≤ length input.now }
+pub fn store_lanes(bytes: u8x16, count: usize, output: &mut [u8])
+    requires few { count ≤ 16 }
+    requires room { count ≤ length output.old }
+    ensures { take count output.new ≡ take count bytes }
 {
-    let block = load_padded(input).to_array();
-    let mut bytes = [0; 16];
-    let size = 16 / G::SYMBOLS * G::BYTES;
-    let found = decode_sixteen::<L, G>(look_up, O::ORDER, &block, &mut bytes[..size]);
-    let read = found.min(input.len());
-    let written = read / G::SYMBOLS * G::BYTES;
-    copy_short(&bytes[..written], &mut output[..written]);
-    read
+    store_front(&bytes.to_array(), count, output);
+}
+
+/// Returns up to sixteen bytes of `text` from `at` on, followed by zeros.
+#[inline(always)]
+fn load_at(text: &[u8], at: usize) -> u8x16
+    requires within { at ≤ length text.now }
+    ensures { result ≡ take 16 (drop at text.now) ++ replicate (16 - (length text.now - at)) 0 }
+{
+    let left = text.len() - at;
+    if left >= 16 {
+        u8x16::from_slice(&text[at..])
+    } else if text.len() >= 16 {
+        load_last(text, left)
+    } else {
+        load_padded(&text[at..])
+    }
 }
 
 /// Returns the number of iterations of eight groups that start before `len`, and that the input and

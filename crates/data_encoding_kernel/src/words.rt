@@ -1,19 +1,22 @@
 //! A group of bytes or of symbols as bits, in one word.
 
 ghost use Rattle.std.specs.Prelude.{◌≡◌, ℕ, ◌+◌, ◌-◌, ◌*◌, ◌/◌, ◌%◌, ◌^◌, ◌<◌, ◌≤◌, ◌↔◌, List, length, map, slice_index};
+ghost use Rattle.std.specs.Int.{bit_at};
 ghost use Rattle.std.specs.List.{range_with_len};
 ghost use Rattle.data_encoding_meaning.specs.text.Base.{Base, meaning};
 ghost use Rattle.data_encoding_meaning.specs.decoding.Fault.{symbol_bytes};
-ghost use Rattle.data_encoding_kernel.specs.Tables.{AreValuesOf, IsTextBy, Reads};
-ghost use Rattle.data_encoding_kernel.specs.Values.{AreEntries};
+ghost use Rattle.data_encoding_kernel.specs.GroupFronts.{HasOthers, IsGroupFront};
+ghost use Rattle.data_encoding_kernel.specs.Joins.{IsJoin};
+ghost use Rattle.data_encoding_kernel.specs.Tables.{IsTextBy, Reads};
 ghost use Rattle.data_encoding_kernel.specs.Words.{weight, digit, low_byte, word_of};
 
 use crate::group_size::GroupSize;
 use crate::platform::has_simd;
-use crate::simd::compare::count_below;
+use crate::simd::decode::last_symbols::{Front, Join, decode_front};
 use crate::simd::decode::look_up::LookUp;
 use crate::simd::padded_load::load_padded;
 use data_encoding_meaning::encoding::BitOrder;
+use std::simd::prelude::*;
 
 /// Returns the number of bits of a word below the digit at `index`, of `count` digits of `size`
 /// bits each.
@@ -98,18 +101,25 @@ pub fn entry_of(values: &[u8; 256], byte: u8) -> u8
 
 /// Returns the values of the symbols of a group as a word, and all entries combined by OR.
 ///
-/// Missing symbols are zeros. If an entry is not a value, the second result is 128 or more, and the
-/// word is unspecified.
-fn word_of_symbols<G: GroupSize>(values: &[u8; 256], order: BitOrder, input: &[u8]) -> (u64, u8)
-    requires few { length input.now ≤ G.SYMBOLS }
+/// The word has `count` digits of `width` bits. Missing symbols are zeros. If an entry is not a value,
+/// the second result is 128 or more, and the word is unspecified.
+#[inline(always)]
+fn word_of_symbols(
+    values: &[u8; 256],
+    order: BitOrder,
+    width: usize,
+    count: usize,
+    input: &[u8],
+) -> (u64, u8)
+    requires some { 0 < width }
+    requires fits { width * count ≤ 48 }
+    requires few { length input.now ≤ count }
     ensures word { ((k : ℕ) → k < length input.now
-        → slice_index values.now (slice_index input.now k) < 2 ^ G.WIDTH)
-        → result.0 ≡ word_of order G.WIDTH G.SYMBOLS (map (slice_index values.now) input.now) }
+        → slice_index values.now (slice_index input.now k) < 2 ^ width)
+        → result.0 ≡ word_of order width count (map (slice_index values.now) input.now) }
     ensures entries { (result.1 < 128) ↔ ((k : ℕ) → k < length input.now
         → slice_index values.now (slice_index input.now k) < 128) }
 {
-    let width = G::WIDTH;
-    let count = G::SYMBOLS;
     let mut word = 0;
     let mut entries = 0;
     for index in 0..count {
@@ -123,12 +133,13 @@ fn word_of_symbols<G: GroupSize>(values: &[u8; 256], order: BitOrder, input: &[u
     (word, entries)
 }
 
-/// Writes the first bytes of a word.
-fn bytes_of_word<G: GroupSize>(order: BitOrder, word: u64, output: &mut [u8])
-    requires few { length output.old ≤ G.BYTES }
-    ensures { output.new ≡ map (digit order 8 G.BYTES word) (range_with_len 0 (length output.old)) }
+/// Writes the first bytes of a word of `count` bytes.
+#[inline(always)]
+fn bytes_of_word(order: BitOrder, count: usize, word: u64, output: &mut [u8])
+    requires fits { count ≤ 8 }
+    requires few { length output.old ≤ count }
+    ensures { output.new ≡ map (digit order 8 count word) (range_with_len 0 (length output.old)) }
 {
-    let count = G::BYTES;
     for index in 0..count {
         if index == output.len() {
             break;
@@ -156,81 +167,64 @@ pub fn decode_entries<G: GroupSize>(
     ensures bytes { (base : Base) → Reads base values.now G.WIDTH order → result < 128
         → output.new ≡ symbol_bytes base (map (meaning base) input.now) }
 {
-    let (word, entries) = word_of_symbols::<G>(values, order, input);
-    bytes_of_word::<G>(order, word, output);
+    let (word, entries) = word_of_symbols(values, order, G::WIDTH, G::SYMBOLS, input);
+    bytes_of_word(order, G::BYTES, word, output);
     entries
 }
 
-/// Returns the entries of a group, and the number of symbols at its start.
-///
-/// No address depends on a symbol: the table is read at the byte after these symbols only.
+/// Decodes the symbols at the start of a group.
 #[inline(always)]
-pub fn look_up_group<L: LookUp>(values: &[u8; 256], look_up: &L, group: &[u8]) -> ([u8; 16], usize)
+pub fn front_of_group<L: LookUp>(
+    values: &[u8; 256],
+    look_up: &L,
+    join: &Join,
+    group: &[u8],
+) -> Front
     requires held { L.holds values.now look_up.now }
-    requires few { length group.now ≤ 16 }
-    ensures within { result.1 ≤ length group.now }
-    ensures entries { AreEntries values.now group.now result.0 }
-    ensures symbols { (k : ℕ) → k < result.1 → slice_index result.0 k < 128 }
-    ensures there { result.1 < length group.now
-        → 128 ≤ slice_index values.now (slice_index group.now result.1) }
+    requires join { IsJoin join.now }
+    requires few { length group.now ≤ 8 }
+    ensures { IsGroupFront values.now join.now group.now result }
 {
-    let (mut entries, first) = if has_simd() {
-        look_up_front(look_up, group)
-    } else {
-        ([255; 16], 0)
-    };
-    for index in first..group.len() {
-        let entry = entry_of(values, group[index]);
-        if entry >= 128 {
-            return (entries, index);
-        }
-        entries[index] = entry;
+    if !has_simd() {
+        return front_by_table(values, join, group);
     }
-    (entries, group.len())
+    decode_front(look_up, join, group.len(), load_padded(group))
 }
 
-/// Returns the entries that a look-up finds for a group, and the number of values at its start.
+/// Decodes the symbols at the start of a group by the table itself. A platform without SIMD takes
+/// it.
 #[inline(always)]
-fn look_up_front<L: LookUp>(look_up: &L, group: &[u8]) -> ([u8; 16], usize)
-    requires few { length group.now ≤ 16 }
-    ensures within { result.1 ≤ length group.now }
-    ensures entries { (values : List ℕ) → L.holds values look_up.now
-        → AreEntries values group.now result.0 }
-    ensures symbols { (k : ℕ) → k < result.1 → slice_index result.0 k < 128 }
+fn front_by_table(values: &[u8; 256], join: &Join, group: &[u8]) -> Front
+    requires join { IsJoin join.now }
+    requires few { length group.now ≤ 8 }
+    ensures { IsGroupFront values.now join.now group.now result }
 {
-    let entries = look_up.look_up_16(load_padded(group));
-    let count = count_below(128, entries);
-    (entries.to_array(), count.min(group.len()))
-}
-
-/// Returns the values of a group, which may be shorter, as a word. Missing values are zeros.
-fn word_of_values<G: GroupSize>(order: BitOrder, values: &[u8]) -> u64
-    requires few { length values.now ≤ G.SYMBOLS }
-    ensures word { ((k : ℕ) → k < length values.now → slice_index values.now k < 2 ^ G.WIDTH)
-        → result ≡ word_of order G.WIDTH G.SYMBOLS values.now }
-{
-    let width = G::WIDTH;
-    let count = G::SYMBOLS;
-    let mut word = 0;
-    for index in 0..count {
-        if index == values.len() {
-            break;
-        }
-        word += (values[index] as u64) << weight_at(order, width, count, index);
+    let others = others_by_table(values, group);
+    let symbols = others.trailing_zeros() as usize;
+    let (word, _) = word_of_symbols(values, join.order, join.width, 8, &group[..symbols]);
+    let mut bytes = [0; 16];
+    // Eight symbols are as many bytes as a symbol has bits.
+    bytes_of_word(join.order, join.width, word, &mut bytes[..join.width]);
+    Front {
+        symbols,
+        others,
+        bytes: u8x16::from_array(bytes),
+        text: load_padded(group),
     }
-    word
 }
 
-/// Writes the bytes of the symbols with these values. The bits after the last whole byte are
-/// dropped.
+/// Returns the bits of the bytes that are not symbols, and the bit after the last byte.
 #[inline(always)]
-pub fn decode_values<G: GroupSize>(order: BitOrder, values: &[u8], output: &mut [u8])
-    requires few { length values.now ≤ G.SYMBOLS }
-    requires exact { length output.old ≡ G.WIDTH * length values.now / 8 }
-    ensures { (base : Base) → (table : List ℕ) → (symbols : List ℕ)
-        → Reads base table G.WIDTH order → AreValuesOf table symbols values.now
-        → output.new ≡ symbol_bytes base (map (meaning base) symbols) }
+fn others_by_table(values: &[u8; 256], group: &[u8]) -> u64
+    requires few { length group.now ≤ 8 }
+    ensures end { bit_at result (length group.now) ≡ 1 }
+    ensures others { HasOthers values.now group.now result }
 {
-    let word = word_of_values::<G>(order, values);
-    bytes_of_word::<G>(order, word, output);
+    let mut others = 1 << group.len();
+    for index in 0..group.len() {
+        if entry_of(values, group[index]) >= 128 {
+            others |= 1 << index;
+        }
+    }
+    others
 }

@@ -10,8 +10,7 @@ use Rattle.data_encoding_meaning.specs.declared.error.DecodeKind.TheVariants.{Sy
 use Rattle.data_encoding_meaning.specs.text.Base.{Base, meaning, is_padded, is_padding, is_symbol, value_of}
 use Rattle.data_encoding_meaning.specs.decoding.Decoding.{HasFault, HasSymbols, IsDecodedGroup}
 use Rattle.data_encoding_meaning.specs.decoding.Fault.{count_before_padding, group_fault, symbol_bytes, trailing_bits, trailing_fault}
-use Rattle.data_encoding_kernel.specs.Tables.{AreValuesOf, HoldsValues}
-use Rattle.data_encoding_kernel.specs.Values.{AreEntries}
+use Rattle.data_encoding_kernel.specs.Tables.{HoldsValues}
 use Rattle.data_encoding_meaning.proofs.lists.EndLemmas.{AllSo, count_before_end-at, count_before_end-map, end-passes}
 use Rattle.data_encoding_meaning.proofs.lists.ListLemmas.{list_any-none}
 use Rattle.data_encoding_meaning.proofs.grammar.GroupLemmas.{all_padding, any_padding, bytes_before_padding, symbols_alone}
@@ -48,6 +47,25 @@ module _ (base : Base) (values : List ℕ) (holds : HoldsValues base values) (gr
 
   few : length symbols ≡ count
   few = length-take-le count group has.within
+
+  abbrev all : List Character
+  all = map (meaning base) group
+
+  rest_pads : AllSo is_padding (drop count all)
+  rest_pads = by (is_padded base) refl where
+    by : (b : Bool) → is_padded base ≡ b → AllSo is_padding (drop count all)
+    by true is = rw (has.count_is, is) (end-passes is_padding all)
+    by false is =
+        let few : length all ≤ length group = omega (arith, length-map group (meaning base)) in
+        rw (has.count_is, is, drop_all (length group) all few) tt
+
+  -- no more bytes at the start are symbols
+  pub front-few : (n : ℕ) → n ≤ length group
+      → ((k : ℕ) → k < n → is_symbol (meaning base (slice_index group k)) ≡ true) → n ≤ count
+  front-few n within are =
+      ⊎_elim (λ (more : count < n).
+      absurd (first (drop count all) rest_pads ? (are count more)))
+      (λ (enough : n ≤ count). enough) (cases_lt count n)
 
   -- the first that is no symbol is the fault
   pub symbol-fault : (index : ℕ) → index < length symbols
@@ -86,17 +104,6 @@ module _ (base : Base) (values : List ℕ) (holds : HoldsValues base values) (gr
         HasFault-own (omega (arith, begun, few, has.within))
         (fault-symbols ∙ rw (checks, some, length-map symbols (meaning base), few))
 
-    abbrev all : List Character
-    all = map (meaning base) group
-
-    rest_pads : AllSo is_padding (drop count all)
-    rest_pads = by (is_padded base) refl where
-      by : (b : Bool) → is_padded base ≡ b → AllSo is_padding (drop count all)
-      by true is = rw (has.count_is, is) (end-passes is_padding all)
-      by false is =
-          let few : length all ≤ length group = omega (arith, length-map group (meaning base)) in
-          rw (has.count_is, is, drop_all (length group) all few) tt
-
     later : all ≡ judged ++ replicate (length (drop count all)) PaddingCharacter
     later =
         sym (take-append-drop count all)
@@ -115,36 +122,11 @@ module _ (base : Base) (values : List ℕ) (holds : HoldsValues base values) (gr
     -- and if there are none, the group is sound
     pub group-sound : (base.checks_trailing_bits
         && list_any (λ bit. not (bit == 0)) (trailing_bits base judged)) ≡ false
-        → (new rest : List ℕ) → length new ≡ base.width * count / 8
-        → new ≡ symbol_bytes base judged
-        → IsDecodedGroup base group count (new ++ rest)
-    group-sound quiet new rest len bytes = record {
+        → (new : List ℕ) → take (base.width * count / 8) new ≡ symbol_bytes base judged
+        → IsDecodedGroup base group count new
+    group-sound quiet new bytes = record {
       within = has.within;
       sound = fault-symbols ∙ rw quiet;
       final = has_padding;
-      bytes = rw (take_at new rest (base.width * count / 8) len, bytes, later)
-          (sym (bytes_before_padding base judged (length (drop count all))));
-    }
-
--- The values of the symbols at the front of a group.
-pub values-front : (table group found : List ℕ) (front count : ℕ) → front ≤ length group
-    → front ≤ length found → AreEntries table group found
-    → ((k : ℕ) → k < front → slice_index found k < 128) → count ≤ front
-    → ((k : ℕ) → slice_index group k < 256)
-    → AreValuesOf table (take count group) (take count found)
-values-front table group found front count within few are below fewer are_bytes =
-    let symbols_len : length (take count group) ≡ count =
-    length-take-le count group (omega (arith, fewer, within)) in
-    record {
-      len = length-take-le count found (omega (arith, fewer, few)) ∙ sym symbols_len;
-      bytes = part_bytes group are_bytes count;
-      same = λ k inside.
-          let less : k < count = omega (arith, inside, symbols_len) in
-          get_or-take count found k 0 less
-          ∙ are k (omega (arith, less, fewer, within)) (below k (omega (arith, less, fewer)))
-          ∙ ap (slice_index table) (sym (get_or-take count group k 0 less));
-      below = λ k inside.
-          let less : k < count = omega (arith, inside, symbols_len) in
-          subst (λ v. v < 128) (sym (get_or-take count found k 0 less))
-          (below k (omega (arith, less, fewer)));
+      bytes = bytes ∙ rw later (sym (bytes_before_padding base judged (length (drop count all))));
     }

@@ -226,7 +226,7 @@ impl EncodingRef<'_> {
             return Step::Ended;
         }
         let rest = &mut output[at.written..];
-        let count = match self.decode_group::<L, G>(entries, O::ORDER, group.bytes, rest) {
+        let count = match self.decode_group::<L, G>(entries, group.bytes, rest) {
             Ok(count) => count,
             Err(fault) => {
                 *stop = Stop::new(at.read, at.written, fault.index, fault.kind);

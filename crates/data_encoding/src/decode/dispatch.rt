@@ -15,6 +15,7 @@ use data_encoding_kernel::decode::decode_run;
 use data_encoding_kernel::group_size::GroupSize;
 use data_encoding_kernel::ignore::IgnoredBytes;
 use data_encoding_kernel::simd::decode::affine::Affine;
+use data_encoding_kernel::simd::decode::last_symbols::Join;
 use data_encoding_kernel::simd::decode::look_up::LookUp;
 use data_encoding_kernel::simd::decode::table_rows::Rows;
 
@@ -95,6 +96,7 @@ impl EncodingRef<'_> {
         let entries = Entries {
             values: &values.entries,
             look_up: &L::of(values),
+            join: Join::of(O::ORDER, G::WIDTH),
             ignored: &IgnoredBytes::of(&values.entries),
         };
         match self.decode_next::<L, O, G>(entries, false, at, input, output, stop) {
@@ -140,7 +142,15 @@ impl EncodingRef<'_> {
         ensures { HasReached self.now input.now result output.new }
     {
         let values = &self.fields.values;
-        let count = decode_run::<L, O, G>(&values.entries, &L::of(values), input, output);
+        let join = Join::of(O::ORDER, G::WIDTH);
+        let count = decode_run::<L, O, G>(
+            &values.entries,
+            &L::of(values),
+            join,
+            input,
+            input.len(),
+            output,
+        );
         Progress {
             read: count * G::SYMBOLS,
             written: count * G::BYTES,
@@ -169,6 +179,7 @@ impl EncodingRef<'_> {
         let entries = Entries {
             values: &values.entries,
             look_up: &L::of(values),
+            join: Join::of(O::ORDER, G::WIDTH),
             ignored: &IgnoredBytes::of(&values.entries),
         };
         let at = progress_at(entries.ignored, stop.read, stop.written, input);

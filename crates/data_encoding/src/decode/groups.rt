@@ -7,18 +7,21 @@ ghost use Rattle.data_encoding_meaning.specs.text.Base.{Base};
 
 use crate::encoding::EncodingRef;
 use data_encoding_kernel::bit_order::ConstantOrder;
-use data_encoding_kernel::decode::{decode_iterations, decode_run_within};
+use data_encoding_kernel::decode::{decode_iterations, decode_run};
 use data_encoding_kernel::group_size::GroupSize;
 use data_encoding_kernel::ignore::IgnoredBytes;
+use data_encoding_kernel::simd::decode::last_symbols::Join;
 use data_encoding_kernel::simd::decode::look_up::LookUp;
 
-/// The entries of all bytes, the look-up that has them in SIMD vectors, and the ignored bytes.
+/// The entries of all bytes, the look-up that has them in SIMD vectors, the join of their values,
+/// and the ignored bytes.
 // Passed by value, and held by references: an address of the struct would leave the function, so
 // that short texts would compute the ignored bytes too.
 #[derive(Clone, Copy, Drop)]
 pub(crate) struct Entries<'a, L> {
     pub(crate) values: &'a [u8; 256],
     pub(crate) look_up: &'a L,
+    pub(crate) join: &'a Join,
     pub(crate) ignored: &'a IgnoredBytes,
 }
 
@@ -104,9 +107,10 @@ impl EncodingRef<'_> {
         if self.is_padded_at::<G>(part, len, at.read) {
             return at;
         }
-        let count = decode_run_within::<L, O, G>(
+        let count = decode_run::<L, O, G>(
             entries.values,
             entries.look_up,
+            entries.join,
             &part[at.read..],
             len - at.read,
             &mut output[at.written..],
@@ -138,7 +142,7 @@ impl EncodingRef<'_> {
         }
         let group = &part[at.read..at.read + G::SYMBOLS];
         let room = &mut output[at.written..];
-        match self.decode_group::<L, G>(entries, O::ORDER, group, room) {
+        match self.decode_group::<L, G>(entries, group, room) {
             Ok(count) => Groups {
                 read: at.read + G::SYMBOLS,
                 written: at.written + G::WIDTH * count / 8,

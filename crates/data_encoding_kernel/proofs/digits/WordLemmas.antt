@@ -280,15 +280,15 @@ digits-runs order size count n bits h e k =
     ∙ ap (map (number_of order)) (first_chunks-places size n all)
 
 -- a shifted byte
-pub shifted-whole : (byte shift : ℕ) → byte < 256 → shift ≤ 40
+pub shifted-whole : (byte shift : ℕ) → byte < 256 → shift ≤ 48
     → byte * 2 ^ shift % 18446744073709551616 ≡ byte * 2 ^ shift
 shifted-whole byte shift h k = shl_whole byte 8 shift 64 h (omega (arith, k))
 
-pub shifted-small : (byte shift : ℕ) → byte < 256 → shift ≤ 40
-    → byte * 2 ^ shift % 18446744073709551616 ≤ 281474976710656
+pub shifted-small : (byte shift : ℕ) → byte < 256 → shift ≤ 48
+    → byte * 2 ^ shift % 18446744073709551616 ≤ 72057594037927936
 shifted-small byte shift h k =
-    let most : byte * 2 ^ shift ≤ 255 * 1099511627776 =
-    mul-le byte (2 ^ shift) 255 1099511627776 (omega (arith, h)) (pow_mono k) in
+    let most : byte * 2 ^ shift ≤ 255 * 281474976710656 =
+    mul-le byte (2 ^ shift) 255 281474976710656 (omega (arith, h)) (pow_mono k) in
     omega (arith, shifted-whole byte shift h k, most)
 
 -- no more digits than bits

@@ -10,7 +10,6 @@ ghost use Rattle.data_encoding_kernel.specs.Words.{digit, word_of};
 pub mod affine;
 pub mod last_symbols;
 pub mod look_up;
-pub mod sixteen_symbols;
 pub mod table_rows;
 
 use crate::group_size::GroupSize;

@@ -6,17 +6,16 @@ use Rattle.data_encoding_kernel.specs.Words.{weight, digit}
 use Rattle.data_encoding_kernel.proofs.words.bytes_of_word.Goals as goal
 
 pub loop-index-preserved : goal.loop-index-preserved
-loop-index-preserved g c =
+loop-index-preserved c =
     let index = c.loop-index.index in
     let inside : index < length c.loop-index.output =
     omega (arith, c.loop-index.invariant.within, c.if-index-output.false) in
     let here = c.byte_at.ensures
-    ∙ ap (λ w. c.args.word / 2 ^ w % 256) c.weight_at.ensures.weight
-    ∙ ap (λ n. c.args.word / 2 ^ weight c.args.order 8 n index % 256) c.BYTES-count.ensures in
+    ∙ ap (λ w. c.args.word / 2 ^ w % 256) c.weight_at.ensures.weight in
     record {
       so_far = take_more_set c.loop-index.output index _ inside
           ∙ (λ i. c.loop-index.invariant.so_far i ++ here i ∷ [])
-          ∙ sym (map-range_with_len_more (digit c.args.order 8 g.G.GroupSize.BYTES c.args.word) 0
+          ∙ sym (map-range_with_len_more (digit c.args.order 8 c.args.count c.args.word) 0
           index
           index
           (omega arith));
@@ -25,10 +24,10 @@ loop-index-preserved g c =
     }
 
 pub bounds-output-index : goal.bounds-output-index
-bounds-output-index g c = omega (arith, c.loop-index.invariant.within, c.if-index-output.false)
+bounds-output-index c = omega (arith, c.loop-index.invariant.within, c.if-index-output.false)
 
 pub returns-after-loop-index : goal.returns-after-loop-index
-returns-after-loop-index g c =
+returns-after-loop-index c =
     let index = c.loop-index.index in
     let output = c.loop-index.output in
     let all : index ≡ length c.args.output.now =
@@ -41,4 +40,4 @@ returns-after-loop-index g c =
     ) in
     sym (take_all index output (omega (arith, all, c.loop-index.invariant.len)))
     ∙ c.loop-index.invariant.so_far
-    ∙ ap (λ n. map (digit c.args.order 8 g.G.GroupSize.BYTES c.args.word) (range_with_len 0 n)) all
+    ∙ ap (λ n. map (digit c.args.order 8 c.args.count c.args.word) (range_with_len 0 n)) all

@@ -29,7 +29,7 @@ loop-index-preserved g c =
     let inside : index < length input =
     omega (arith, c.loop-index.invariant.within, c.if-index-input.false) in
     let few = IsSmall-group g.G.GroupSize.is_group in
-    let fits : c.weight_at.result ≤ 40 = omega (arith, few.few_bytes) in
+    let fits : c.weight_at.result ≤ 48 = omega (arith, few.few_bytes) in
     let weight_is = c.weight_at.ensures.weight
     ∙ ap (λ n. weight c.args.order 8 n index) c.BYTES-count.ensures in
     record {

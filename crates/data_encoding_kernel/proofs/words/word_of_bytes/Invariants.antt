@@ -6,5 +6,5 @@ abbrev pub invariant-loop-index : goal.invariant-loop-index
 invariant-loop-index g l = record {
   so_far : l.word ≡ word_of l.order 8 g.G.GroupSize.BYTES (take l.index l.input);
   within : l.index ≤ length l.input;
-  small : l.word ≤ l.index * 281474976710656;
+  small : l.word ≤ l.index * 72057594037927936;
 }

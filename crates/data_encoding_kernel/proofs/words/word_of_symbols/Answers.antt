@@ -3,13 +3,12 @@ use Rattle.std.proofs.lemmas.List.{take_all, take_more, length-take-le, length-m
 use Rattle.std.proofs.lemmas.Nat.{le_or_l, le_or_r, or_lt}
 use borrow.Author.Count.{below_more}
 use Rattle.data_encoding_kernel.specs.Words.{weight, word_of}
-use Rattle.data_encoding_meaning.proofs.digits.SizeLemmas.{IsSmall-group, IsGroup-same}
 use Rattle.data_encoding_kernel.proofs.digits.WordLemmas.{word_of-nil, word_of-more, shifted-small, shifted-whole, few_digits}
 use Rattle.data_encoding_kernel.proofs.words.word_of_symbols.Goals as goal
 
 pub loop-index-init : goal.loop-index-init
-loop-index-init g c = record {
-  so_far = λ h. sym (word_of-nil c.args.order g.G.GroupSize.WIDTH g.G.GroupSize.SYMBOLS);
+loop-index-init c = record {
+  so_far = λ h. sym (word_of-nil c.args.order c.args.width c.args.count);
   only = λ h k below. absurd (omega (arith, below));
   all = λ h. omega arith;
   within = omega arith;
@@ -17,19 +16,14 @@ loop-index-init g c = record {
 }
 
 pub overflow_add-word : goal.overflow_add-word
-overflow_add-word g c =
-    let width = c.WIDTH-width.result in
-    let count = c.SYMBOLS-count.result in
-    let group = IsGroup-same c.WIDTH-width.ensures refl c.SYMBOLS-count.ensures
-    g.G.GroupSize.is_group in
-    let bits = (IsSmall-group group).few_bits in
+overflow_add-word c =
     let small = shifted-small c.entry_of-entry.result c.weight_at.result c.entry_of-entry.type_inv
-    (omega (arith, bits)) in
-    let few = few_digits width count 40 group.is_width.some bits in
+    (omega (arith, c.weight_at.ensures.inside, c.requires.fits)) in
+    let few = few_digits c.args.width c.args.count 48 c.requires.some c.requires.fits in
     record { fits = omega (arith, small) }
 
 pub loop-index-preserved : goal.loop-index-preserved
-loop-index-preserved g c =
+loop-index-preserved c =
     let index = c.loop-index.index in
     let input = c.args.input.now in
     let values = c.args.values.now in
@@ -37,12 +31,8 @@ loop-index-preserved g c =
     let inside : index < length input =
     omega (arith, c.loop-index.invariant.within, c.if-index-input.false) in
     let same : entry ≡ slice_index values (slice_index input index) = c.entry_of-entry.ensures in
-    let group = IsGroup-same c.WIDTH-width.ensures refl c.SYMBOLS-count.ensures
-    g.G.GroupSize.is_group in
-    let bits = (IsSmall-group group).few_bits in
-    let fits : c.weight_at.result ≤ 40 = omega (arith, bits) in
-    let weight_is = c.weight_at.ensures.weight
-    ∙ (λ i. weight c.args.order (c.WIDTH-width.ensures i) (c.SYMBOLS-count.ensures i) index) in
+    let fits : c.weight_at.result ≤ 48 =
+    omega (arith, c.weight_at.ensures.inside, c.requires.fits) in
     let before = map (slice_index values) (take index input) in
     let digits : map (slice_index values) (take (index + 1) input) ≡ before ++ entry ∷ [] =
     ap (map (slice_index values)) (take_more input index 0 inside)
@@ -54,14 +44,14 @@ loop-index-preserved g c =
       so_far = λ h.
           (λ i. c.loop-index.invariant.so_far (λ k less. h k (omega arith)) i
           + shifted-whole entry c.weight_at.result c.entry_of-entry.type_inv fits i)
-          ∙ ap (λ w. word_of c.args.order g.G.GroupSize.WIDTH g.G.GroupSize.SYMBOLS before + entry *
+          ∙ ap (λ w. word_of c.args.order c.args.width c.args.count before + entry *
           2 ^ w)
-          weight_is
-          ∙ sym (word_of-more c.args.order g.G.GroupSize.WIDTH g.G.GroupSize.SYMBOLS index before
+          c.weight_at.ensures.weight
+          ∙ sym (word_of-more c.args.order c.args.width c.args.count index before
           entry len
-          (omega arith) (subst (λ d. d < 2 ^ g.G.GroupSize.WIDTH) (sym same)
+          (omega arith) (subst (λ d. d < 2 ^ c.args.width) (sym same)
           (h index (omega arith))))
-          ∙ ap (word_of c.args.order g.G.GroupSize.WIDTH g.G.GroupSize.SYMBOLS) (sym digits);
+          ∙ ap (word_of c.args.order c.args.width c.args.count) (sym digits);
       only = λ h. below_more (λ k. slice_index values (slice_index input k) < 128) index
           (c.loop-index.invariant.only (omega (arith, le_or_l c.loop-index.entries entry, h)))
           (omega (arith, le_or_r c.loop-index.entries entry, h, same));
@@ -76,22 +66,16 @@ loop-index-preserved g c =
     }
 
 pub bounds-input-index : goal.bounds-input-index
-bounds-input-index g c = omega (arith, c.loop-index.invariant.within, c.if-index-input.false)
+bounds-input-index c = omega (arith, c.loop-index.invariant.within, c.if-index-input.false)
 
 pub weight_at-requires-clause-fits : goal.weight_at-requires-clause-fits
-weight_at-requires-clause-fits g c =
-    let group = IsGroup-same c.WIDTH-width.ensures refl c.SYMBOLS-count.ensures
-    g.G.GroupSize.is_group in
-    omega (arith, (IsSmall-group group).few_bits)
+weight_at-requires-clause-fits c = omega (arith, c.requires.fits)
 
 pub overflow_shl-word : goal.overflow_shl-word
-overflow_shl-word g c =
-    let group = IsGroup-same c.WIDTH-width.ensures refl c.SYMBOLS-count.ensures
-    g.G.GroupSize.is_group in
-    omega (arith, (IsSmall-group group).few_bits, c.weight_at.ensures.inside)
+overflow_shl-word c = omega (arith, c.requires.fits, c.weight_at.ensures.inside)
 
 pub returns-then-index-input : goal.returns-then-index-input
-returns-then-index-input g c =
+returns-then-index-input c =
     let all = take_all c.loop-index.index c.args.input.now (omega (arith, c.if-index-input.true)) in
     record {
       word = λ h. rw all at (c.loop-index.invariant.so_far (λ k less. h k (omega arith)));
@@ -102,13 +86,12 @@ returns-then-index-input g c =
     }
 
 pub returns-after-loop-index : goal.returns-after-loop-index
-returns-after-loop-index g c =
+returns-after-loop-index c =
     let end : c.loop-index.index ≡ length c.args.input.now =
     omega (
       arith,
       c.loop-index-test.false,
       c.loop-index.invariant.within,
-      c.SYMBOLS-count.ensures,
       c.requires.few,
     ) in
     let all = take_all c.loop-index.index c.args.input.now (omega (arith, end)) in

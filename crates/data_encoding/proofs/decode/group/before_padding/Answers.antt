@@ -1,21 +1,21 @@
-use Rattle.std.proofs.Common.{◌-◌, length, arith}
+use Rattle.std.proofs.Common.{◌-◌, length, sym, ◌∙◌, arith}
 use Rattle.data_encoding.proofs.decoding.GroupTableLemmas.{count-before}
 use Rattle.data_encoding.proofs.decode.group.before_padding.Goals as goal
-use Rattle.data_encoding.proofs.decode.group.before_padding.Goals.{then-found-count-lt128-via-then-found-count-lt128, then-found-count-lt128-via-else-found-count-lt128+then-values-group}
+use Rattle.data_encoding.proofs.decode.group.before_padding.Goals.{then-not-is_other-via-then-not-is_other, then-not-is_other-via-else-not-is_other+then-values-group}
 
-pub returns-then-found-count-lt128-clause-count : goal.returns-then-found-count-lt128-clause-count
-returns-then-found-count-lt128-clause-count c base holds =
+pub returns-then-not-is_other-clause-count : goal.returns-then-not-is_other-clause-count
+returns-then-not-is_other-clause-count c base holds =
     let group = c.args.group.now in
     let last = length group - c.loop-padding.padding - 1 in
     count-before base c.args.values.now holds group (λ k. (c.type_inv.group k).fits)
     (length group - c.loop-padding.padding) (omega arith)
     (λ k from inside. c.loop-padding.invariant k (omega (arith, from)) inside)
     (λ some is_padding.
-    elim c.then-found-count-lt128.branch [
-      | then-found-count-lt128-via-then-found-count-lt128 w ↦
-          let same = c.requires.found last (omega (arith, some)) w.if-found-count-lt128.true in
-          absurd (omega (arith, same, is_padding, w.if-found-count-lt128.true))
-      | then-found-count-lt128-via-else-found-count-lt128+then-values-group w ↦
+    elim c.then-not-is_other.branch [
+      | then-not-is_other-via-then-not-is_other w ↦
+          let low = (c.requires.others last (omega (arith, some))).0 ? in
+          absurd (omega (arith, is_padding, low))
+      | then-not-is_other-via-else-not-is_other+then-values-group w ↦
           w.if-values-group.true is_padding
     ])
 

@@ -11,20 +11,20 @@ use Rattle.data_encoding.proofs.encoding.EncodingRef.decode_run_at.Goals.{After-
 read : (g : Over) (c : After-BYTES g)
     → HasReadGroups c.args.self.now (take c.args.len c.args.part.now)
     (record {
-      read = c.args.at.read + c.decode_run_within-count.result * c.SYMBOLS.result;
-      written = c.args.at.written + c.decode_run_within-count.result * c.BYTES.result;
+      read = c.args.at.read + c.decode_run-count.result * c.SYMBOLS.result;
+      written = c.args.at.written + c.decode_run-count.result * c.BYTES.result;
     })
-    (rewritten c.args.at.written c.args.output.now c.decode_run_within-count.new.output)
+    (rewritten c.args.at.written c.args.output.now c.decode_run-count.new.output)
 read g c =
     reads-run (IsGroup-same refl c.BYTES.ensures c.SYMBOLS.ensures g.G.GroupSize.is_group)
     c.args.self.now c.requires.entries.reads.width_is c.args.part.now c.args.len c.requires.few
-    c.args.output.now c.decode_run_within-count.new.output c.requires.at
-    c.decode_run_within-count.auto.output c.decode_run_within-count.result
-    (c.decode_run_within-count.ensures.run c.args.self.now c.requires.entries.reads)
+    c.args.output.now c.decode_run-count.new.output c.requires.at
+    c.decode_run-count.auto.output c.decode_run-count.result
+    (c.decode_run-count.ensures.run c.args.self.now c.requires.entries.reads)
 
 -- no more is written than there is
 few-written : (g : Over) (c : After-BYTES g)
-    → c.args.at.written + c.decode_run_within-count.result * c.BYTES.result ≤ c.args.len
+    → c.args.at.written + c.decode_run-count.result * c.BYTES.result ≤ c.args.len
 few-written g c =
     reads-few (IsGroup-same refl c.BYTES.ensures c.SYMBOLS.ensures g.G.GroupSize.is_group)
     c.args.self.now c.requires.entries.reads.width_is c.args.part.now c.args.len c.requires.few
