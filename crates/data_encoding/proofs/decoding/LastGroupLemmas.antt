@@ -9,6 +9,7 @@ use Rattle.std.proofs.lemmas.Nat.{div-add-mod', mul-le}
 use Rattle.std.specs.List.{filter_map, list_any, position}
 use Rattle.data_encoding_meaning.specs.declared.encoding.Character.{Character}
 use Rattle.data_encoding_meaning.specs.declared.encoding.Character.TheVariants.{Symbol, Padding as PaddingCharacter, Ignored, Invalid}
+use Rattle.data_encoding_meaning.specs.declared.error.DecodeKind.{DecodeKind}
 use Rattle.data_encoding_meaning.specs.text.Base.{Base, IsWidth, group_bytes, group_symbols, ignores_some, is_ignored, is_padded, is_padding, is_symbol, meaning}
 use Rattle.data_encoding_meaning.specs.text.Grammar.{Positioned, bytes_in, is_final, kept, kept_from, kept_in, positioned_from}
 use Rattle.data_encoding_meaning.specs.text.Lengths.{is_valid_count, is_valid_length}
@@ -29,12 +30,12 @@ use Rattle.data_encoding_meaning.proofs.lists.EndLemmas.{AllSo, count_before_end
 use Rattle.data_encoding_meaning.proofs.lists.ListLemmas.{position-none}
 use Rattle.data_encoding_kernel.specs.Fronts.{IsFront}
 use Rattle.data_encoding_kernel.specs.declared.simd.decode.last_symbols.Front.{Front}
-use Rattle.data_encoding.specs.Endings.{EndsAfter, HasReachedTo, IsFrontOf, IsPaddedBy}
+use Rattle.data_encoding.specs.Endings.{EndsAfter, HasBegun, HasReachedTo, IsFrontOf, IsPaddedBy}
 use Rattle.data_encoding.specs.Groups.{NoneIgnored}
 use Rattle.data_encoding.proofs.decoding.FrontLemmas.{AreSymbols, all_symbols, first-count, first-few, front-bytes, front-run, front-trailing}
 use Rattle.data_encoding.proofs.decoding.ReadGroupLemmas.{plain-at, plain-bytes, plain-sound}
 use Rattle.data_encoding.proofs.decoding.ShortLemmas.{run-reached}
-use Rattle.data_encoding.proofs.decoding.StepLemmas.{IsUnderWay, decoded, room-group_of, under_way}
+use Rattle.data_encoding.proofs.decoding.StepLemmas.{IsUnderWay, decoded, decoded-all, room-group_of, under_way}
 
 -- a symbol is no padding
 symbol-plain : (m : Character) → is_symbol m ≡ true → is_padding m ≡ false
@@ -195,6 +196,18 @@ rest-valid {base} width {text} {output} {read} at none =
           let empty : length (drop read text) ≡ 0 =
           omega (arith, kept_len, ap length nothing.0) in
           rw empty (is_valid_length-by base 0 false nothing.1 ∙ zero-valid base.width width)
+
+-- the text is decoded if nothing is left of it
+pub begun-reached : {base : Base} → IsWidth base.width → {text output : List ℕ} {read written : ℕ}
+    → HasReachedTo base text read written output → (index : ℕ) (kind : DecodeKind) (b : Bool)
+    → (length text - read == 0) ≡ b
+    → HasBegun base text output
+    (record { read = read; written = written; index = index; kind = kind }) b
+begun-reached {base} width {text} {read = read} at index kind true all =
+    decoded-all (under_way (record { is_width = width; has_bytes = refl; has_symbols = refl }) refl
+    at.exact at.so_far)
+    (omega (arith, eqb-true (length text - read) 0 all))
+begun-reached width at index kind false more = at
 
 -- A group with this many symbols, each of which is one.
 module _ (base : Base) (group : List ℕ) (count : ℕ) (has : HasSymbols base group count)

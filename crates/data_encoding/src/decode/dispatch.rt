@@ -30,12 +30,13 @@ impl EncodingRef<'_> {
         ensures begun { HasBegun self.now input.now output.new stop.new result }
         ensures width { IsWidth self.now.width }
     {
+        let is_affine = self.fields.values.is_affine();
         if !has_simd() {
             stop.read = 0;
             stop.written = 0;
             return false;
         }
-        if self.fields.values.is_affine() {
+        if is_affine {
             return self.decode_valid_by::<Affine>(input, output, stop);
         }
         self.decode_valid_by::<Rows>(input, output, stop)

@@ -1,4 +1,4 @@
-use Rattle.std.proofs.Common.{◌≡◌, ◌×◌, ℕ, ◌+◌, ◌-◌, ◌*◌, ◌/◌, ◌≤◌, ◌==◌, ◌&&◌, not, false, List, ◌++◌, length, take, drop, slice_index, refl, sym, ap, ◌∙◌, arith, length-append, length-drop}
+use Rattle.std.proofs.Common.{◌≡◌, ℕ, ◌+◌, ◌-◌, ◌*◌, ◌/◌, ◌≤◌, ◌==◌, ◌&&◌, not, false, List, ◌++◌, length, take, drop, slice_index, refl, sym, ap, ◌∙◌, arith, length-append, length-drop}
 use Rattle.std.proofs.lemmas.Bool.Decides.{nat_tests}
 use Rattle.std.proofs.lemmas.List.{take_at, take_rest}
 use Rattle.data_encoding_meaning.proofs.lists.WriteLemmas.{length-rewritten_same, rewritten, take-rewritten}
@@ -31,7 +31,7 @@ store_front-requires-clause-room c =
     let input = c.args.input.now in
     let output = c.args.output.now in
     let count = c.args.front.now.symbols in
-    let ends = rw (take_rest input c.args.at.read) at (c.if-not-ends_at.ensures tt) in
+    let ends = rw (take_rest input c.args.at.read) at (c.if-not-ends_at.ensures refl) in
     let bytes : c.bytes_len-count.result ≡ c.args.self.now.width * count / 8 =
     c.bytes_len-count.ensures ∙ ap (λ w. w * count / 8) c.requires.join.width_is in
     omega (
@@ -51,7 +51,7 @@ returns c =
     let front = c.args.front.now in
     let store = c.store_front.new.output in
     let width = joins-width c.requires.join in
-    let ends = rw (take_rest input c.args.at.read) at (c.if-not-ends_at.ensures tt) in
+    let ends = rw (take_rest input c.args.at.read) at (c.if-not-ends_at.ensures refl) in
     let bytes : c.bytes_len-count.result ≡ base.width * front.symbols / 8 =
     c.bytes_len-count.ensures ∙ ap (λ w. w * front.symbols / 8) c.requires.join.width_is in
     let m = base.width * front.symbols / 8 in

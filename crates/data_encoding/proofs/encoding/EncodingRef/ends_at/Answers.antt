@@ -50,7 +50,7 @@ returns-then-is_padded_by c =
     elim c.if-is_valid_length.branch [
       | then-is_valid_length+then-padding-eq0 w ↦ inl w.if-padding-eq0.true
       | then-is_valid_length+else-padding-eq0 w ↦ inr (w.is_padded_by-else-padding-eq0.ensures
-      (subst IsTrue (sym (sym w.value-is ∙ c.if-is_padded_by.true)) tt))
+      (subst IsTrue (sym (sym w.value-is ∙ c.if-is_padded_by.true)) refl))
       | else-is_valid_length w ↦ cc (w.value-is, c.if-is_padded_by.true)
     ] in (
       padding,
