@@ -5,3 +5,6 @@ pub mod StepLemmas
 pub mod ReadGroupLemmas
 pub mod PlacingLemmas
 pub mod GroupTableLemmas
+pub mod FrontLemmas
+pub mod ShortLemmas
+pub mod LastGroupLemmas

@@ -11,6 +11,7 @@ pub mod Plain
 pub mod Lent
 pub mod Steps
 pub mod Progress
+pub mod Endings
 pub mod Groups
 pub mod Texts
 pub use Rattle.data_encoding_meaning.specs.text.Base

@@ -7,10 +7,13 @@ pub(crate) mod groups;
 pub(crate) mod length;
 pub(crate) mod next_group;
 pub(crate) mod packed;
+pub(crate) mod short;
 
 ghost use Rattle.std.specs.Prelude.{◌≡◌, true, ◌-◌, ◌<◌, ◌≤◌, length, take, drop, Ok};
 ghost use Rattle.data_encoding_meaning.specs.decoding.Decoding.{HasRoom, IsStop};
 ghost use Rattle.data_encoding.specs.Calls.{DecodesText, DecodesWhole};
+ghost use Rattle.data_encoding.specs.Endings.{HasReachedTo};
+ghost use Rattle.data_encoding_meaning.specs.text.Base.{IsWidth};
 ghost use Rattle.data_encoding.specs.Steps.{DecodesLastRun, fault_of_stop};
 ghost use Rattle.data_encoding_meaning.specs.text.Grammar.{kept};
 ghost use Rattle.data_encoding_meaning.specs.text.Lengths.{decoded_len};
@@ -70,6 +73,27 @@ impl EncodingRef<'_> {
         ensures { DecodesText self.now input.now output.old output.new result }
     {
         let mut stop = Stop::new(0, 0, 0, DecodeKind::Length);
+        if self.decode_valid(input, output, &mut stop) {
+            return Ok(stop.written);
+        }
+        self.decode_after(input, output, stop)
+    }
+
+    /// Decodes the bytes of a text after those that `stop` has, like `decode_mut`.
+    // Not inlined, so that `decode_mut` is small enough to be inlined.
+    #[cold]
+    #[inline(never)]
+    fn decode_after(
+        &self,
+        input: &[u8],
+        output: &mut [u8],
+        stop: Stop,
+    ) -> Result<usize, DecodePartial>
+        requires width { IsWidth self.now.width }
+        requires at { HasReachedTo self.now input.now stop.read stop.written output.old }
+        ensures { DecodesText self.now input.now output.old output.new result }
+    {
+        let mut stop = stop;
         if self.decode_by_order(input, output, &mut stop) {
             return Ok(stop.written);
         }

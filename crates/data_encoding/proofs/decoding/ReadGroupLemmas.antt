@@ -71,7 +71,7 @@ module _ (base : Base) where
   plain-padding (suc count) = plain-padding count
 
   -- a group without a fault has symbols and padding only
-  plain-sound : IsWidth base.width → (group : List ℕ) → 0 < length group
+  pub plain-sound : IsWidth base.width → (group : List ℕ) → 0 < length group
       → length group ≤ group_symbols base.width → group_fault base group ≡ None
       → NoneIgnored base group
   plain-sound width group some few sound =

@@ -130,7 +130,7 @@ module _ {base : Base} {text : List ℕ} {sizes : Sizes} {read written : ℕ} {e
       (eqb-true (length group) 0 (sym empty_is ∙ empty))
 
   -- a group of that many bytes has room, if it may have bytes
-  room-group_of : (count : ℕ) → count ≤ length text - read
+  pub room-group_of : (count : ℕ) → count ≤ length text - read
       → (is_padded base ≡ true → count % group_symbols base.width ≡ 0)
       → base.width * count / 8 ≤ length output - written
   room-group_of count few whole = by (is_padded base) refl where

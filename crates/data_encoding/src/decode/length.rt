@@ -30,7 +30,7 @@ impl EncodingRef<'_> {
 
     /// Returns `true` if a text of `len` bytes, none of them ignored, may mean something.
     #[inline(always)]
-    fn is_valid_length(&self, len: usize) -> bool
+    pub(crate) fn is_valid_length(&self, len: usize) -> bool
         requires limit { len ≤ DECODE_LIMIT }
         ensures { result ≡ is_valid_length self.now len }
     {

@@ -115,7 +115,7 @@ drop-past front back len count same =
 
 module _ (base : Base) where
   -- symbols have as many bits as they should
-  symbols-long : (ms : List Character) → AllFail (λ m. not (is_symbol m)) ms
+  pub symbols-long : (ms : List Character) → AllFail (λ m. not (is_symbol m)) ms
       → length (symbol_bits base ms) ≡ base.width * length ms
   symbols-long ms all =
       let values = filter_map value_of ms in
@@ -134,7 +134,7 @@ module _ (base : Base) where
   trailing-whole ms whole len = drop_all _ (symbol_bits base ms) (omega (arith, len))
 
   -- nor do they change the trailing bits of what follows
-  trailing-after : (ms ns : List Character) (whole : ℕ)
+  pub trailing-after : (ms ns : List Character) (whole : ℕ)
       → length (symbol_bits base ms) ≡ 8 * whole
       → trailing_bits base (ms ++ ns) ≡ trailing_bits base ns
   trailing-after ms ns whole len =

@@ -1,56 +1,40 @@
-use Rattle.std.proofs.Common.{◌≡◌, length, Ok, arith}
-use Rattle.data_encoding.specs.Steps.{HasStopped}
+use Rattle.std.proofs.Common.{◌≡◌, ◌∙◌, length, Ok}
 use Rattle.data_encoding_meaning.specs.decoding.Decoding.{IsDecoded}
-use Rattle.data_encoding_meaning.specs.decoding.Partial.{StopsAt}
 use Rattle.data_encoding_meaning.specs.text.Lengths.{decoded_len}
-use Rattle.data_encoding_meaning.proofs.decoding.StopLemmas.{fault-partial, most-partial}
-use Rattle.data_encoding_meaning.proofs.grammar.MeaningLemmas.{no_fault-Means}
 use Rattle.data_encoding_meaning.proofs.grammar.TightLemmas.{full-Means}
+use Rattle.data_encoding.specs.Endings.{HasReachedTo}
 use Rattle.data_encoding.proofs.encoding.EncodingRef.decode_mut.Goals as goal
-use Rattle.data_encoding.proofs.encoding.EncodingRef.decode_mut.Goals.{After-partial_error}
 
-stops : (c : After-partial_error)
-    → StopsAt c.args.self.now c.args.input.now c.partial_error.new.output c.partial_error.result
-stops c =
-    let ended : HasStopped c.args.self.now c.args.input.now c.decode_by_order.new.output
-    c.decode_by_order.new.stop =
-    rw c.if-decode_by_order.false at c.decode_by_order.ensures.ends in
-    ended.stops c.partial_error.new.output c.partial_error.result
-    (omega (arith, c.partial_error.auto.output, ended.fits)) c.partial_error.ensures.kept
-    c.partial_error.ensures.stop
+pub decode_after-requires-clause-at : goal.decode_after-requires-clause-at
+decode_after-requires-clause-at c =
+    rw c.if-decode_valid.false at c.decode_valid.ensures.begun
 
 pub returns : goal.returns
 returns c =
-    let base = c.args.self.now in
-    let width = c.decode_by_order.ensures.width in
-    let new = c.partial_error.new.output in
-    let stops = stops (goal.at.returns c).After-partial_error in
+    let after = c.decode_after.ensures in
     record {
-      decoded = cc;
-      sound = cc;
-      accepted = λ bytes means.
-          let fault = fault-partial base c.args.input.now c.partial_error.result stops.is_partial in
-          let none = no_fault-Means base width c.args.input.now bytes means in
-          cc;
-      fault = stops.is_partial;
-      partial = stops.means;
-      bounds = (stops.read_before, stops.within);
-      most = most-partial base width c.args.input.now new c.partial_error.result stops;
-      full = cc;
-      len = cc;
+      decoded = after.decoded;
+      sound = after.sound;
+      accepted = after.accepted;
+      fault = after.fault;
+      partial = after.partial;
+      bounds = after.bounds;
+      most = after.most;
+      full = after.full;
+      len = after.len ∙ c.decode_valid.auto.output;
     }
 
-pub returns-then-decode_by_order : goal.returns-then-decode_by_order
-returns-then-decode_by_order c =
+pub returns-then-decode_valid : goal.returns-then-decode_valid
+returns-then-decode_valid c =
     let base = c.args.self.now in
     let input = c.args.input.now in
-    let width = c.decode_by_order.ensures.width in
-    let output = c.decode_by_order.new.output in
-    let written = c.decode_by_order.new.stop.written in
+    let width = c.decode_valid.ensures.width in
+    let output = c.decode_valid.new.output in
+    let written = c.decode_valid.new.stop.written in
     let decoded : IsDecoded base input written output =
-    rw c.if-decode_by_order.true at c.decode_by_order.ensures.ends in
+    rw c.if-decode_valid.true at c.decode_valid.ensures.begun in
     let due : decoded_len base (length input) ≡ Ok (length output) =
-    rw c.decode_by_order.auto.output c.requires.exact in
+    rw c.decode_valid.auto.output c.requires.exact in
     record {
       decoded = (decoded.fits, decoded.means);
       sound = (decoded.no_fault, decoded.bytes_are);

@@ -1,0 +1,191 @@
+-- Whole groups of symbols more, where no byte before them is ignored since the last group.
+use Rattle.std.proofs.Common.{◌≡◌, ℕ, zero, suc, Some, is_some, ◌+◌, ◌-◌, ◌*◌, ◌/◌, ◌<◌, ◌≤◌, true, List, [], ◌++◌, length, take, drop, get_or, slice_index, refl, sym, ap, ◌∙◌, arith, length-append, length-take-le, append-nil, subst}
+use Rattle.std.proofs.Math.Nat.{div-mul-le_self, zero-mul}
+use Rattle.std.proofs.lemmas.List.{get_or-take, length-drop, take-take, take_at, take_rest}
+use Rattle.data_encoding_meaning.specs.text.Base.{Base, IsWidth, group_bytes, group_symbols, is_padding, is_symbol, meaning}
+use Rattle.data_encoding_meaning.specs.text.Grammar.{Positioned}
+use Rattle.data_encoding_meaning.specs.decoding.Decoding.{HasDecodedTo, run_bytes}
+use Rattle.data_encoding_meaning.proofs.decoding.IgnoredFrontLemmas.{no_front}
+use Rattle.data_encoding_meaning.proofs.decoding.ProgressLemmas.{after-run, begin, room-run, same-output}
+use Rattle.data_encoding_meaning.proofs.digits.WidthLemmas.{by_width, group_symbols-pos}
+use Rattle.data_encoding_meaning.proofs.grammar.LengthLemmas.{decoded_len-counted}
+use Rattle.data_encoding_meaning.proofs.lists.RunLemmas.{runs-nil}
+use Rattle.data_encoding_meaning.proofs.lists.WriteLemmas.{length-rewritten_same, rewritten, take-rewritten}
+use Rattle.data_encoding_meaning.specs.declared.encoding.Character.{Character}
+use Rattle.data_encoding_kernel.specs.Fronts.{IsFront}
+use Rattle.data_encoding_kernel.specs.Runs.{IsRun}
+use Rattle.data_encoding_kernel.specs.declared.simd.decode.last_symbols.Join.{Join}
+use Rattle.data_encoding.specs.Endings.{HasReachedTo, JoinsSymbols}
+use Rattle.data_encoding.specs.Progress.{HasExactOutput}
+use Rattle.data_encoding.specs.Encoding.{EncodingTables, KeepsPadding, KeepsRules, base_of_tables}
+use Rattle.data_encoding.specs.PlainTables.{padding_by}
+use Rattle.std.proofs.lemmas.Bool.Decides.{nat_tests}
+use Rattle.data_encoding.proofs.tables.TableLemmas.{HoldsValues-seen}
+use Rattle.data_encoding.proofs.decoding.FrontLemmas.{front-run}
+use Rattle.data_encoding.proofs.decoding.OutputLemmas.{exact-same}
+
+-- the symbols of a base that are joined have a width
+pub joins-width : {base : Base} {join : Join} → JoinsSymbols base join → IsWidth base.width
+joins-width joins =
+    subst IsWidth joins.width_is
+    (record { some = joins.is_join.some; few = joins.is_join.few })
+
+-- an entry that is a padding character
+pub padding-some : (entry : ℕ) → is_some (padding_by entry) ≡ true → padding_by entry ≡ Some entry
+padding-some entry h = grind (arith, nat_tests)
+
+-- the padding character is padding
+pub padding-means : (e : EncodingTables) → KeepsRules e → (base : Base) → base_of_tables e ≡ base
+    → (character : ℕ) → e.padding ≡ Some character → is_padding (meaning base character) ≡ true
+padding-means e rules base is character some =
+    let kept : KeepsPadding (Some character) e.width e.values =
+    subst (λ o. KeepsPadding o e.width e.values) some rules.padding in
+    (HoldsValues-seen e rules base is).paddings character (omega (arith, kept.0))
+    ∙ rw kept.1 refl
+
+-- nothing is decoded at the start
+pub start-reached : {base : Base} → IsWidth base.width → {text output : List ℕ}
+    → HasExactOutput base text output → HasReachedTo base text 0 0 output
+start-reached {base} width {text} {output} exact = record {
+  exact = exact;
+  so_far = begin base width text output;
+  front = no_front base text;
+}
+
+-- sixteen symbols are whole groups
+sixteen : (width : ℕ) → IsWidth width
+    → (16 / group_symbols width * group_symbols width ≡ 16)
+    × (16 / group_symbols width * group_bytes width ≡ 2 * width)
+sixteen =
+    by_width (λ w. (16 / group_symbols w * group_symbols w ≡ 16)
+    × (16 / group_symbols w * group_bytes w ≡ 2 * w))
+    (refl, refl) (refl, refl) (refl, refl) (refl, refl) (refl, refl) (refl, refl)
+
+module _ {base : Base} (width : IsWidth base.width) {text output : List ℕ} {read written : ℕ}
+    (at : HasReachedTo base text read written output) where
+  abbrev dec : ℕ
+  dec = group_symbols base.width
+
+  abbrev enc : ℕ
+  enc = group_bytes base.width
+
+  -- there is room for whole groups
+  pub room-groups : (count : ℕ) → count * dec ≤ length text - read
+      → written + count * enc ≤ length output
+  room-groups count few =
+      omega (
+        arith,
+        room-run base width text at.so_far count few,
+        (decoded_len-counted base (length text) (length output) at.exact.len).1,
+      )
+
+  pub room-all : length (drop read text) / dec * enc ≤ length output - written
+  room-all =
+      let count = length (drop read text) / dec in
+      omega (
+        arith,
+        room-groups count
+            (omega (arith, div-mul-le_self (length (drop read text)) dec, length-drop read text)),
+      )
+
+  pub run-reached : (new : List ℕ) → length new ≡ length output → (count : ℕ)
+      → count * dec ≤ length text - read
+      → ((k : ℕ) → k < count * dec
+      → is_symbol (meaning base (get_or (drop read text) k 0)) ≡ true)
+      → take (written + count * enc) new
+      ≡ take written output ++ run_bytes base (take (count * dec) (drop read text))
+      → HasReachedTo base text (read + count * dec) (written + count * enc) new
+  run-reached new new_len zero few symbols writes =
+      let pos = group_symbols-pos base.width width in
+      let stays : read ≡ read + zero * dec = rw (zero-mul dec) (omega arith) in
+      let same : written ≡ written + zero * enc = rw (zero-mul enc) (omega arith) in
+      let none : run_bytes base (take (zero * dec) (drop read text)) ≡ [] =
+      rw (zero-mul dec, runs-nil {X = Character} dec pos) refl in
+      let kept : take written new ≡ take written output =
+      ap (λ n. take n new) same ∙ writes ∙ ap (λ l. take written output ++ l) none
+      ∙ append-nil (take written output) in
+      record {
+        exact = exact-same at.exact new_len;
+        so_far = rw (← stays, ← same) (same-output base width text new at.so_far
+            (omega (arith, at.so_far.fits, new_len)) kept);
+        front = no_front base _;
+      }
+  run-reached new new_len (suc n) few symbols writes =
+      let place : read + 0 ≡ read = omega arith in
+      record {
+        exact = exact-same at.exact new_len;
+        so_far = rw place at (after-run base width text (suc n) new at.so_far
+            (no_front base (drop read text)) (omega arith) (rw place few) (rw place symbols)
+            (omega (arith, room-groups (suc n) few, new_len)) (rw place writes));
+        front = no_front base _;
+      }
+
+  abbrev room : List ℕ
+  room = take (length output - written) (drop written output)
+
+  room_len : length room ≡ length output - written
+  room_len = ap length (take_rest output written) ∙ length-drop written output
+
+  -- a window of sixteen symbols
+  module _ {part bytes : List ℕ} (front : IsFront base part 16 bytes)
+      (is : part ≡ take 16 (drop read text)) (enough : 16 ≤ length text - read) where
+    abbrev groups : ℕ
+    groups = 16 / dec
+
+    few : groups * dec ≤ length text - read
+    few = let both = sixteen base.width width in omega (arith, both.0, enough)
+
+    pub window-room : 2 * base.width ≤ length room
+    window-room =
+        let both = sixteen base.width width in
+        omega (arith, room-groups groups few, both.1, room_len)
+
+    window-symbols : (k : ℕ) → k < groups * dec
+        → is_symbol (meaning base (get_or (drop read text) k 0)) ≡ true
+    window-symbols k less =
+        let both = sixteen base.width width in
+        let inside : k < 16 = omega (arith, less, both.0) in
+        let here : get_or part k 0 ≡ get_or (drop read text) k 0 =
+        ap (λ l. get_or l k 0) is ∙ get_or-take 16 (drop read text) k 0 inside in
+        subst (λ byte. is_symbol (meaning base byte) ≡ true) here (front.are_symbols k inside)
+
+    module _ (new : List ℕ)
+        (is_new : new ≡ take (2 * base.width) bytes ++ drop (2 * base.width) room)
+        (new_len : length new ≡ length room) where
+      taken : length (take (2 * base.width) bytes) ≡ 2 * base.width
+      taken =
+          omega (
+            arith,
+            length-append (take (2 * base.width) bytes) (drop (2 * base.width) room),
+            ap length is_new,
+            new_len,
+            length-drop (2 * base.width) room,
+            window-room,
+          )
+
+      window-bytes : take (groups * enc) new ≡ run_bytes base (take (groups * dec) (drop read text))
+      window-bytes =
+          let both = sixteen base.width width in
+          let w = 2 * base.width in
+          let whole : groups * dec + 0 ≡ 16 = omega (arith, both.0) in
+          let long : 16 ≤ length part =
+          omega (arith, ap length is, length-take-le 16 (drop read text)
+          (omega (arith, enough, length-drop read text))) in
+          ap (λ m. take m new) both.1
+          ∙ ap (take w) is_new
+          ∙ take_at (take w bytes) (drop w room) w taken
+          ∙ ap (λ m. take m bytes) (sym both.1)
+          ∙ front-run base width front long groups 0 whole
+          ∙ ap (λ l. run_bytes base (take (groups * dec) l)) is
+          ∙ ap (run_bytes base)
+          (take-take (groups * dec) 16 (drop read text) (omega (arith, both.0)))
+
+      pub window-reached : HasReachedTo base text (read + 16) (written + 2 * base.width)
+          (rewritten written output new)
+      window-reached =
+          let both = sixteen base.width width in
+          let same = length-rewritten_same written output new at.so_far.fits new_len in
+          rw (both.0, both.1) at (run-reached (rewritten written output new) same groups few
+          window-symbols
+          (take-rewritten written output new at.so_far.fits (groups * enc)
+          ∙ ap (λ l. take written output ++ l) window-bytes))

@@ -1,0 +1,305 @@
+//! Decoding of a text that has ignored bytes only at its end, as long as it is valid.
+//!
+//! The last symbols are decoded in one vector, with the padding or the trailing bits after them.
+
+ghost use Rattle.std.specs.Prelude.{◌≡◌, ℕ, ◌+◌, ◌*◌, ◌/◌, ◌<◌, ◌≤◌, true, false, [], length, drop, IsTrue};
+ghost use Rattle.data_encoding_kernel.specs.Runs.{IsRun};
+ghost use Rattle.data_encoding_meaning.specs.text.Base.{IsWidth, group_bytes, group_symbols, ignores_some};
+ghost use Rattle.data_encoding_meaning.specs.text.Grammar.{kept};
+ghost use Rattle.data_encoding_meaning.specs.text.Lengths.{is_valid_length};
+ghost use Rattle.data_encoding.specs.Endings.{EndsAfter, FindsSymbols, HasBegun, HasReachedTo, IsFrontOf, IsPaddedBy, JoinsSymbols};
+ghost use Rattle.data_encoding.specs.Progress.{HasExactOutput, IsCodedIn};
+
+use crate::decode::Stop;
+use crate::decode::decoding_loop::Progress;
+use crate::encoding::{BitOrder, EncodingRef, IGNORED};
+use data_encoding_kernel::bit_order::{ConstantOrder, LeastSignificantFirst, MostSignificantFirst};
+use data_encoding_kernel::call_by_width;
+use data_encoding_kernel::copy::store_front;
+use data_encoding_kernel::decode::decode_iterations;
+use data_encoding_kernel::group_size::GroupSize;
+use data_encoding_kernel::simd::decode::last_symbols::{
+    Front, Join, decode_front, decode_whole, load_last,
+};
+use data_encoding_kernel::simd::decode::look_up::LookUp;
+use data_encoding_kernel::simd::padded_load::load_padded;
+use std::simd::prelude::*;
+
+impl EncodingRef<'_> {
+    /// Returns how the values of symbols are joined to bytes.
+    #[inline(always)]
+    fn join(&self) -> &'static Join
+        ensures join { JoinsSymbols self.now result.now }
+        ensures width { IsWidth self.now.width }
+    {
+        Join::of(self.fields.order(), self.fields.width as usize)
+    }
+
+    /// Returns the look-up of the symbols.
+    #[inline(always)]
+    fn look_up<L: LookUp>(&self) -> L
+        ensures { FindsSymbols L.holds self.now result }
+    {
+        L::of(&self.fields.values)
+    }
+
+    /// Decodes a text of at most sixteen bytes, like `decode_valid`.
+    #[inline(never)]
+    pub(crate) fn decode_short<L: LookUp>(
+        &self,
+        input: &[u8],
+        output: &mut [u8],
+        stop: &mut Stop,
+    ) -> bool
+        requires few { length input.now ≤ 16 }
+        requires exact { HasExactOutput self.now input.now output.old }
+        ensures begun { HasBegun self.now input.now output.new stop.new result }
+    {
+        let join = self.join();
+        let look_up = self.look_up::<L>();
+        let front = decode_front(&look_up, join, input.len(), load_padded(input));
+        let start = Progress {
+            read: 0,
+            written: 0,
+            ignored: 0,
+        };
+        self.decode_last(&front, join, start, input, output, stop)
+    }
+
+    /// Decodes a text of more than sixteen bytes, like `decode_valid`.
+    #[inline(never)]
+    pub(crate) fn decode_longer<L: LookUp>(
+        &self,
+        input: &[u8],
+        output: &mut [u8],
+        stop: &mut Stop,
+    ) -> bool
+        requires many { 16 < length input.now }
+        requires exact { HasExactOutput self.now input.now output.old }
+        ensures begun { HasBegun self.now input.now output.new stop.new result }
+    {
+        let join = self.join();
+        let mut at = Progress {
+            read: 0,
+            written: 0,
+            ignored: 0,
+        };
+        if input.len() >= 8 * join.group_symbols() {
+            at = self.decode_eights::<L>(join, input, output);
+            let left = input.len() - at.read;
+            // With more left, an iteration stopped at a byte that is not a symbol.
+            if left == 0 || left >= 8 * join.group_symbols() {
+                stop.read = at.read;
+                stop.written = at.written;
+                return left == 0;
+            }
+        }
+        let look_up = self.look_up::<L>();
+        let at = self.decode_windows::<L>(&look_up, join, at, input, output);
+        let left = input.len() - at.read;
+        if left > 16 {
+            stop.read = at.read;
+            stop.written = at.written;
+            return false;
+        }
+        let front = decode_front(&look_up, join, left, load_last(input, left));
+        self.decode_last(&front, join, at, input, output, stop)
+    }
+
+    /// Decodes the groups of a text by iterations of eight, up to one with a byte that is not a
+    /// symbol.
+    #[inline(always)]
+    fn decode_eights<L: LookUp>(&self, join: &Join, input: &[u8], output: &mut [u8]) -> Progress
+        requires join { JoinsSymbols self.now join.now }
+        requires exact { HasExactOutput self.now input.now output.old }
+        ensures reached { HasReachedTo self.now input.now result.read result.written output.new }
+    {
+        let groups = self.decode_iterations::<L>(input, output);
+        let read = groups * join.group_symbols();
+        Progress {
+            read,
+            written: join.bytes_len(read),
+            ignored: 0,
+        }
+    }
+
+    /// Decodes sixteen symbols after another, up to the last sixteen bytes or to a byte that is not
+    /// a symbol.
+    #[inline(always)]
+    fn decode_windows<L: LookUp>(
+        &self,
+        look_up: &L,
+        join: &Join,
+        start: Progress,
+        input: &[u8],
+        output: &mut [u8],
+    ) -> Progress
+        requires join { JoinsSymbols self.now join.now }
+        requires finds { FindsSymbols L.holds self.now look_up.now }
+        requires start { HasReachedTo self.now input.now start.read start.written output.old }
+        ensures reached { HasReachedTo self.now input.now result.read result.written output.new }
+    {
+        let mut at = start;
+        while input.len() - at.read > 16 {
+            let bytes = u8x16::from_slice(&input[at.read..at.read + 16]);
+            let Some(decoded) = decode_whole(look_up, join, bytes) else {
+                return at;
+            };
+            store_front(&decoded, 2 * join.width, &mut output[at.written..]);
+            at.read += 16;
+            at.written += 2 * join.width;
+        }
+        at
+    }
+
+    /// Stores what the last symbols mean, if the text is valid.
+    #[inline(always)]
+    fn decode_last(
+        &self,
+        front: &Front,
+        join: &Join,
+        at: Progress,
+        input: &[u8],
+        output: &mut [u8],
+        stop: &mut Stop,
+    ) -> bool
+        requires join { JoinsSymbols self.now join.now }
+        requires at { HasReachedTo self.now input.now at.read at.written output.old }
+        requires front { IsFrontOf self.now (drop at.read input.now) front.now }
+        ensures { HasBegun self.now input.now output.new stop.new result }
+    {
+        let count = join.bytes_len(front.symbols);
+        let bytes = front.bytes.to_array();
+        // The byte after the data has the trailing bits. It is read only where it decides.
+        if !self.ends_at(front, join, &input[at.read..])
+            || (self.fields.checks_trailing_bits && bytes[count] != 0)
+        {
+            stop.read = at.read;
+            stop.written = at.written;
+            return false;
+        }
+        store_front(&bytes, count, &mut output[at.written..]);
+        stop.written = at.written + count;
+        true
+    }
+
+    /// Returns `true` if a text may end with these symbols and the bytes after them.
+    #[inline(always)]
+    fn ends_at(&self, front: &Front, join: &Join, rest: &[u8]) -> bool
+        requires join { JoinsSymbols self.now join.now }
+        requires front { IsFrontOf self.now rest.now front.now }
+        requires valid { ignores_some self.now ≡ false
+            → is_valid_length self.now (length rest.now) ≡ true }
+        ensures { IsTrue result
+            → (padding : ℕ) × EndsAfter self.now rest.now front.now.symbols padding }
+    {
+        let left = rest.len() - front.symbols;
+        if !self.fields.ignores {
+            return left == 0 || self.is_padded_by(front, join, left);
+        }
+        let padding = self.padding_after(front, left);
+        let end = front.symbols + padding;
+        self.is_valid_length(end)
+            && (padding == 0 || self.is_padded_by(front, join, padding))
+            && self.are_ignored(front.others >> end, &rest[end..])
+    }
+
+    /// Returns `true` if a group may end with `count` bytes of padding after the symbols, and they
+    /// are the padding character.
+    #[inline(always)]
+    fn is_padded_by(&self, front: &Front, join: &Join, count: usize) -> bool
+        requires join { JoinsSymbols self.now join.now }
+        requires few { front.now.symbols ≤ 16 }
+        ensures { IsTrue result → IsPaddedBy self.now front.now count }
+    {
+        if !self.fields.is_padded() || count >= join.group_symbols() {
+            return false;
+        }
+        if join.width * front.symbols % 8 >= join.width {
+            return false;
+        }
+        front.count_alike(self.fields.padding) >= count
+    }
+
+    /// Returns how many of the next `len` bytes are the padding character, if there is one.
+    #[inline(always)]
+    fn padding_after(&self, front: &Front, len: usize) -> usize
+        requires few { front.now.symbols ≤ 16 }
+        ensures few { result ≤ len }
+    {
+        if !self.fields.is_padded() {
+            return 0;
+        }
+        front.count_alike(self.fields.padding).min(len)
+    }
+
+    /// Returns `true` if all bytes are ignored. `others` has the bits of those that are not symbols.
+    #[inline(always)]
+    fn are_ignored(&self, others: u64, rest: &[u8]) -> bool
+        requires few { length rest.now ≤ 16 }
+        ensures { IsTrue result → kept self.now rest.now ≡ [] }
+    {
+        for index in 0..rest.len() {
+            // The table is read at a byte that is no symbol only, so no address depends on a symbol.
+            let is_other = (others >> index) % 2 == 1;
+            if !is_other || self.fields.values.entries[rest[index] as usize] != IGNORED {
+                return false;
+            }
+        }
+        true
+    }
+
+    /// Decodes eight groups per iteration, up to one with a byte that is not a symbol, and returns
+    /// the number of whole groups before that byte.
+    // Not inlined, so that short texts save no registers for it.
+    #[inline(never)]
+    fn decode_iterations<L: LookUp>(&self, input: &[u8], output: &mut [u8]) -> usize
+        requires room { length input.now / group_symbols self.now.width
+            * group_bytes self.now.width ≤ length output.old }
+        ensures run { IsRun self.now input.now result output.old output.new }
+    {
+        match self.fields.order() {
+            BitOrder::MostSignificantFirst => {
+                self.decode_iterations_in_order::<L, MostSignificantFirst>(input, output)
+            }
+            BitOrder::LeastSignificantFirst => {
+                self.decode_iterations_in_order::<L, LeastSignificantFirst>(input, output)
+            }
+        }
+    }
+
+    /// Like [`decode_iterations`](EncodingRef::decode_iterations), with the bit order as a constant.
+    #[inline(always)]
+    fn decode_iterations_in_order<L: LookUp, O: ConstantOrder>(
+        &self,
+        input: &[u8],
+        output: &mut [u8],
+    ) -> usize
+        requires order { self.now.order ≡ O.ORDER }
+        requires room { length input.now / group_symbols self.now.width
+            * group_bytes self.now.width ≤ length output.old }
+        ensures run { IsRun self.now input.now result output.old output.new }
+    {
+        call_by_width!(
+            self.fields.width,
+            self.decode_iterations_of::<L, O>(input, output)
+        )
+    }
+
+    /// Like [`decode_iterations`](EncodingRef::decode_iterations), with the order and the width as
+    /// constants.
+    #[inline(never)]
+    fn decode_iterations_of<L: LookUp, O: ConstantOrder, G: GroupSize>(
+        &self,
+        input: &[u8],
+        output: &mut [u8],
+    ) -> usize
+        requires coded { IsCodedIn self.now G.WIDTH O.ORDER }
+        requires room { length input.now / group_symbols self.now.width
+            * group_bytes self.now.width ≤ length output.old }
+        ensures run { IsRun self.now input.now result output.old output.new }
+    {
+        let look_up = L::of(&self.fields.values);
+        decode_iterations::<L, O, G>(&look_up, input, input.len(), output) / G::SYMBOLS
+    }
+}
