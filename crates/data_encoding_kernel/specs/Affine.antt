@@ -1,6 +1,6 @@
 -- A table that is affine by rows. Each entry is its byte plus a constant of the row, or an entry of
 -- one row which several rows share.
-use Rattle.std.specs.Prelude.{◌≡◌, ℕ, ◌+◌, ◌/◌, ◌%◌, ◌^◌, ◌<◌, ◌==◌, ◌&&◌, ◌||◌, not, nat_le, Bool, true, eqb, if◌then◌else◌, List, [], ◌∷◌, take, slice_index, bit_and}
+use Rattle.std.specs.Prelude.{ℕ, ◌+◌, ◌/◌, ◌%◌, ◌^◌, ◌<◌, ◌==◌, ◌&&◌, ◌||◌, not, nat_le, Bool, true, eqb, if◌then◌else◌, List, [], ◌∷◌, take, slice_index, bit_and}
 use Rattle.data_encoding_kernel.specs.declared.simd.decode.affine.Affine.{Affine}
 use Rattle.data_encoding_kernel.specs.declared.simd.decode.affine.PlainAffine.{PlainAffine}
 use Rattle.data_encoding_kernel.specs.Values.{IsAsciiTable, IsExact, in_row}

@@ -1,9 +1,8 @@
 -- An affine form as plain data: the test of its entries.
-use Rattle.std.proofs.Common.{◌≡◌, ℕ, zero, suc, ◌+◌, ◌/◌, ◌%◌, ◌<◌, ◌≤◌, nat_le, ◌||◌, ◌==◌, Bool, true, cond, eqb, List, [], ◌∷◌, length, length-take-le, take, slice_index, replicate, bit_and, refl, ap, ◌∙◌, subst, arith}
+use Rattle.std.proofs.Common.{◌≡◌, ℕ, zero, suc, ◌+◌, ◌<◌, ◌≤◌, true, List, [], ◌∷◌, length, length-take-le, take, slice_index, refl, subst, arith}
 use Rattle.std.proofs.lemmas.Bool.Decides.{nat_tests}
-use Rattle.std.proofs.lemmas.List.{get_or-replicate, get_or-take}
+use Rattle.std.proofs.lemmas.List.{get_or-take}
 use Rattle.std.specs.Cmp.{first_so, second_so}
-use Rattle.std.specs.Int.Bits.{and_zero_l}
 use Rattle.data_encoding_kernel.specs.declared.simd.decode.affine.Affine.{Affine}
 use Rattle.data_encoding_kernel.specs.Affine.{AgreesWith, affine_entry, agrees_from, is_exact}
 use Rattle.data_encoding_kernel.specs.Values.{IsExact}
