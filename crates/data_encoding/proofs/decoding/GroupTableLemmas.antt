@@ -1,15 +1,17 @@
 -- The results of judging a group by a table: its symbols, its fault, or its bytes.
-use Rattle.std.proofs.Common.{◌≡◌, ℕ, ◌-◌, ◌*◌, ◌/◌, ◌<◌, ◌≤◌, ◌==◌, ◌≢◌, nat_lt, Bool, true, false, not, ◌&&◌, List, ◌++◌, length, map, take, drop, replicate, slice_index, None, refl, sym, ap, subst, ◌∙◌, arith, length-take-le, take-append-drop}
+use Rattle.std.proofs.Common.{◌≡◌, ℕ, zero, suc, ◌-◌, ◌+◌, ◌*◌, ◌/◌, ◌<◌, ◌≤◌, ◌==◌, ◌≢◌, nat_lt, Bool, true, false, not, ◌&&◌, List, [], ◌∷◌, ◌++◌, length, map, take, drop, replicate, slice_index, None, refl, sym, ap, subst, ◌∙◌, arith, length-take-le, take-append-drop, ⊎_elim}
+use Rattle.std.proofs.lemmas.Bool.{cases_lt}
 use Rattle.std.proofs.lemmas.Bool.Decides.{nat_tests}
-use Rattle.std.proofs.lemmas.List.{drop_all, get_or-take, length-drop, length-map, take-map, take_at}
+use Rattle.std.proofs.lemmas.List.{drop-map, drop_all, get_or-drop, length-drop, length-map, take-map}
 use Rattle.std.proofs.lemmas.List.Folds.{list_any-append}
 use Rattle.std.specs.List.{filter_map, list_any, position}
 use Rattle.data_encoding_meaning.specs.declared.encoding.Character.{Character}
-use Rattle.data_encoding_meaning.specs.declared.encoding.Character.TheVariants.{Padding as PaddingCharacter}
+use Rattle.data_encoding_meaning.specs.declared.encoding.Character.TheVariants.{Symbol, Ignored, Invalid, Padding as PaddingCharacter}
 use Rattle.data_encoding_meaning.specs.declared.error.DecodeKind.TheVariants.{Symbol as SymbolFault, Trailing as TrailingFault}
 use Rattle.data_encoding_meaning.specs.text.Base.{Base, meaning, is_padded, is_padding, is_symbol, value_of}
 use Rattle.data_encoding_meaning.specs.decoding.Decoding.{HasFault, HasSymbols, IsDecodedGroup}
 use Rattle.data_encoding_meaning.specs.decoding.Fault.{count_before_padding, group_fault, symbol_bytes, trailing_bits, trailing_fault}
+use Rattle.data_encoding_kernel.specs.Fronts.{IsFront}
 use Rattle.data_encoding_kernel.specs.Tables.{HoldsValues}
 use Rattle.data_encoding_meaning.proofs.lists.EndLemmas.{AllSo, count_before_end-at, count_before_end-map, end-passes}
 use Rattle.data_encoding_meaning.proofs.lists.ListLemmas.{list_any-none}
@@ -34,6 +36,44 @@ count-before base values holds group are_bytes count within all stops =
     ∙ count_before_end-at pads group 0 count within
     (λ k from inside. at k ∙ rw (all k from inside))
     (λ some. let other = stops some in at (count - 1) ∙ grind (arith, nat_tests)))
+
+-- the entry of a symbol
+pub symbols-low : (base : Base) (values : List ℕ) → HoldsValues base values → (group : List ℕ)
+    → ((k : ℕ) → slice_index group k < 256) → (k : ℕ)
+    → is_symbol (meaning base (slice_index group k)) ≡ true
+    → slice_index values (slice_index group k) < 128
+symbols-low base values holds group fits k is =
+    let byte = slice_index group k in
+    ⊎_elim (λ (low : slice_index values byte < 128). low)
+    (λ (high : 128 ≤ slice_index values byte).
+    absurd (cc (sym is ∙ holds.others byte (fits k) high)))
+    (cases_lt (slice_index values byte) 128)
+
+-- padding is not a symbol
+not-both : (m : Character) → is_padding m ≡ true → is_symbol m ≡ true → ⊥
+not-both (Symbol v) h k = absurd (cc h)
+not-both PaddingCharacter h k = absurd (cc k)
+not-both Ignored h k = absurd (cc h)
+not-both Invalid h k = absurd (cc h)
+
+-- so the bytes of padding have no symbol at their start
+padding-first : (base : Base) (bytes : List ℕ) → AllSo is_padding (map (meaning base) bytes)
+    → 0 < length bytes → is_symbol (meaning base (slice_index bytes 0)) ≡ true → ⊥
+padding-first base [] pads some h = absurd (omega (arith, some))
+padding-first base (byte ∷ bytes) pads some h = not-both (meaning base byte) pads.0 h
+
+-- a byte that is not zero
+pub set-byte : (byte : ℕ) → (byte ≡ 0 → ⊥) → not (byte == 0) ≡ true
+set-byte zero other = absurd (other refl)
+set-byte (suc n) other = grind (arith, nat_tests)
+
+-- trailing bits have a symbol
+pub some-trailing : (base : Base) (group : List ℕ) (n : ℕ) (bytes : List ℕ)
+    → IsFront base group n bytes
+    → (slice_index bytes (base.width * n / 8) ≡ 0 → ⊥) → 0 < n
+some-trailing base group zero bytes front other =
+    absurd (other (grind (arith, nat_tests, front.next)))
+some-trailing base group (suc n) bytes front other = omega arith
 
 -- A group with this many symbols, as a table says.
 module _ (base : Base) (values : List ℕ) (holds : HoldsValues base values) (group : List ℕ)
@@ -64,8 +104,19 @@ module _ (base : Base) (values : List ℕ) (holds : HoldsValues base values) (gr
       → ((k : ℕ) → k < n → is_symbol (meaning base (slice_index group k)) ≡ true) → n ≤ count
   front-few n within are =
       ⊎_elim (λ (more : count < n).
-      absurd (first (drop count all) rest_pads ? (are count more)))
+      absurd (padding-first base (drop count group)
+      (subst (AllSo is_padding) (drop-map (meaning base) count group) rest_pads)
+      (omega (arith, length-drop count group, more, within))
+      (subst (λ byte. is_symbol (meaning base byte) ≡ true)
+      (ap (slice_index group) (omega arith) ∙ sym (get_or-drop count group 0 0)) (are count more))))
       (λ (enough : n ≤ count). enough) (cases_lt count n)
+
+  -- so if there are as many, there are no more
+  pub front-is : (n : ℕ) (bytes : List ℕ) → n ≤ length group → count ≤ n
+      → IsFront base group n bytes → IsFront base group count bytes
+  front-is n bytes within enough front =
+      subst (λ m. IsFront base group m bytes)
+      (omega (arith, enough, front-few n within front.are_symbols)) front
 
   -- the first that is no symbol is the fault
   pub symbol-fault : (index : ℕ) → index < length symbols

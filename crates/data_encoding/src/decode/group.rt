@@ -5,7 +5,7 @@ ghost use Rattle.data_encoding_meaning.specs.text.Base.{Base, meaning, is_padded
 ghost use Rattle.data_encoding_meaning.specs.decoding.Decoding.{HasFault, HasSymbols, IsDecodedGroup};
 ghost use Rattle.data_encoding_meaning.specs.decoding.Fault.{count_before_padding};
 ghost use Rattle.data_encoding_kernel.specs.Tables.{HoldsValues};
-ghost use Rattle.data_encoding_kernel.specs.Fronts.{HasOthers};
+ghost use Rattle.data_encoding_kernel.specs.GroupFronts.{HasOthers};
 ghost use Rattle.data_encoding.specs.Progress.{ReadsBy};
 
 use crate::decode::groups::Entries;

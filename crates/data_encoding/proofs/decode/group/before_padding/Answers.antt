@@ -1,4 +1,5 @@
-use Rattle.std.proofs.Common.{◌-◌, length, sym, ◌∙◌, arith}
+use Rattle.std.proofs.Common.{◌≡◌, ◌-◌, length, arith}
+use Rattle.std.specs.Int.{bit_at}
 use Rattle.data_encoding.proofs.decoding.GroupTableLemmas.{count-before}
 use Rattle.data_encoding.proofs.decode.group.before_padding.Goals as goal
 use Rattle.data_encoding.proofs.decode.group.before_padding.Goals.{then-not-is_other-via-then-not-is_other, then-not-is_other-via-else-not-is_other+then-values-group}
@@ -13,7 +14,8 @@ returns-then-not-is_other-clause-count c base holds =
     (λ some is_padding.
     elim c.then-not-is_other.branch [
       | then-not-is_other-via-then-not-is_other w ↦
-          let low = (c.requires.others last (omega (arith, some))).0 ? in
+          let clear : bit_at c.args.others last ≡ 0 = omega (arith, w.if-not-is_other.true) in
+          let low = (c.requires.others last (omega (arith, some))).0 clear in
           absurd (omega (arith, is_padding, low))
       | then-not-is_other-via-else-not-is_other+then-values-group w ↦
           w.if-values-group.true is_padding

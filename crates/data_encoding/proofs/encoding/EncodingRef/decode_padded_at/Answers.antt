@@ -70,3 +70,19 @@ overflow_add-result-in-Ok g c =
             (omega (arith, len, c.SYMBOLS.ensures, c.in-Ok.ensures.sound.within)),
       );
     }
+
+pub decode_group-requires-clause-entries : goal.decode_group-requires-clause-entries
+decode_group-requires-clause-entries g c =
+    let entries = c.requires.entries in
+    record {
+      reads = record {
+        width_is = entries.reads.width_is;
+        order_is = entries.reads.order_is ∙ sym entries.order_is;
+        holds = entries.reads.holds;
+      };
+      held = entries.held;
+      join = entries.join;
+      width_is = entries.width_is;
+      order_is = refl;
+      ignored = entries.ignored;
+    }
