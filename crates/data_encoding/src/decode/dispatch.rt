@@ -31,33 +31,35 @@ impl EncodingRef<'_> {
         ensures begun { HasBegun self.now input.now output.new stop.new result }
         ensures width { IsWidth self.now.width }
     {
-        let is_affine = self.fields.values.is_affine();
+        let values = &self.fields.values;
         if !has_simd() {
             stop.read = 0;
             stop.written = 0;
             return false;
         }
-        if is_affine {
-            return self.decode_valid_by::<Affine>(input, output, stop);
+        if values.is_affine() {
+            return self.decode_valid_by::<Affine>(&Affine::of(values), input, output, stop);
         }
-        self.decode_valid_by::<Rows>(input, output, stop)
+        self.decode_valid_by::<Rows>(&Rows::of(values), input, output, stop)
     }
 
     /// Like `decode_valid`, with a look-up.
     #[inline(always)]
     fn decode_valid_by<L: LookUp>(
         &self,
+        look_up: &L,
         input: &[u8],
         output: &mut [u8],
         stop: &mut Stop,
     ) -> bool
+        requires finds { FindsSymbols L.holds self.now look_up.now }
         requires exact { HasExactOutput self.now input.now output.old }
         ensures { HasBegun self.now input.now output.new stop.new result }
     {
         if input.len() > 16 {
-            return self.decode_longer::<L>(input, output, stop);
+            return self.decode_longer::<L>(look_up, input, output, stop);
         }
-        self.decode_short::<L>(input, output, stop)
+        self.decode_short::<L>(look_up, input, output, stop)
     }
 
     /// Decodes the bytes of a text after those read, up to the first fault, and returns whether
@@ -69,36 +71,17 @@ impl EncodingRef<'_> {
     {
         match self.fields.order() {
             BitOrder::MostSignificantFirst => {
-                self.decode_by_look_up::<MostSignificantFirst>(input, output, stop)
+                self.decode_by_width::<MostSignificantFirst>(input, output, stop)
             }
             BitOrder::LeastSignificantFirst => {
-                self.decode_by_look_up::<LeastSignificantFirst>(input, output, stop)
+                self.decode_by_width::<LeastSignificantFirst>(input, output, stop)
             }
         }
-    }
-
-    /// Uses the affine form of the table if it has one, and its rows otherwise.
-    #[inline(always)]
-    fn decode_by_look_up<O: ConstantOrder>(
-        &self,
-        input: &[u8],
-        output: &mut [u8],
-        stop: &mut Stop,
-    ) -> bool
-        requires order { self.now.order ≡ O.ORDER }
-        requires at { HasReachedTo self.now input.now stop.old.read stop.old.written output.old }
-        ensures { HasEnded self.now input.now output.new stop.new result }
-    {
-        if self.fields.values.is_affine() {
-            return self.decode_by_width::<Affine, O>(input, output, stop);
-        }
-        self.decode_by_width::<Rows, O>(input, output, stop)
     }
 
     /// Makes the width and the sizes of a group constants.
-    // Not inlined, so that a call has the stack of its own look-up only.
-    #[inline(never)]
-    fn decode_by_width<L: LookUp, O: ConstantOrder>(
+    #[inline(always)]
+    fn decode_by_width<O: ConstantOrder>(
         &self,
         input: &[u8],
         output: &mut [u8],
@@ -110,14 +93,15 @@ impl EncodingRef<'_> {
     {
         call_by_width!(
             self.fields.width,
-            self.decode_rest::<L, O>(input, output, stop)
+            self.decode_rest::<O>(input, output, stop)
         )
     }
 
-    /// Decodes the bytes of a text after those read.
+    /// Decodes the bytes of a text after those read. Uses the affine form of the table if it has
+    /// one, and its rows otherwise.
     // Not inlined, so that short texts do not pay for the stack of the loop.
     #[inline(never)]
-    fn decode_rest<L: LookUp, O: ConstantOrder, G: GroupSize>(
+    fn decode_rest<O: ConstantOrder, G: GroupSize>(
         &self,
         input: &[u8],
         output: &mut [u8],
@@ -127,14 +111,28 @@ impl EncodingRef<'_> {
         requires at { HasReachedTo self.now input.now stop.old.read stop.old.written output.old }
         ensures { HasEnded self.now input.now output.new stop.new result }
     {
-        let values = &self.fields.values;
+        let table = &self.fields.values;
+        let values = &table.entries;
+        let join = Join::of(O::ORDER, G::WIDTH);
+        let ignored = &IgnoredBytes::of(values);
+        let at = progress_at(ignored, stop.read, stop.written, input);
+        if table.is_affine() {
+            let look_up = &Affine::of(table);
+            let entries = Entries {
+                values,
+                look_up,
+                join,
+                ignored,
+            };
+            return self.decode_steps::<Affine, O, G>(entries, at, input, output, stop);
+        }
+        let look_up = &Rows::of(table);
         let entries = Entries {
-            values: &values.entries,
-            look_up: &L::of(values),
-            join: Join::of(O::ORDER, G::WIDTH),
-            ignored: &IgnoredBytes::of(&values.entries),
+            values,
+            look_up,
+            join,
+            ignored,
         };
-        let at = progress_at(entries.ignored, stop.read, stop.written, input);
-        self.decode_steps::<L, O, G>(entries, at, input, output, stop)
+        self.decode_steps::<Rows, O, G>(entries, at, input, output, stop)
     }
 }

@@ -35,29 +35,22 @@ impl EncodingRef<'_> {
         Join::of(self.fields.order(), self.fields.width as usize)
     }
 
-    /// Returns the look-up of the symbols.
-    #[inline(always)]
-    fn look_up<L: LookUp>(&self) -> L
-        ensures { FindsSymbols L.holds self.now result }
-    {
-        L::of(&self.fields.values)
-    }
-
     /// Decodes a text of at most sixteen bytes, like `decode_valid`.
     #[inline(never)]
     pub(crate) fn decode_short<L: LookUp>(
         &self,
+        look_up: &L,
         input: &[u8],
         output: &mut [u8],
         stop: &mut Stop,
     ) -> bool
+        requires finds { FindsSymbols L.holds self.now look_up.now }
         requires few { length input.now ≤ 16 }
         requires exact { HasExactOutput self.now input.now output.old }
         ensures begun { HasBegun self.now input.now output.new stop.new result }
     {
         let join = self.join();
-        let look_up = self.look_up::<L>();
-        let front = decode_front(&look_up, join, input.len(), load_padded(input));
+        let front = decode_front(look_up, join, input.len(), load_padded(input));
         let start = Progress {
             read: 0,
             written: 0,
@@ -70,10 +63,12 @@ impl EncodingRef<'_> {
     #[inline(never)]
     pub(crate) fn decode_longer<L: LookUp>(
         &self,
+        look_up: &L,
         input: &[u8],
         output: &mut [u8],
         stop: &mut Stop,
     ) -> bool
+        requires finds { FindsSymbols L.holds self.now look_up.now }
         requires many { 16 < length input.now }
         requires exact { HasExactOutput self.now input.now output.old }
         ensures begun { HasBegun self.now input.now output.new stop.new result }
@@ -85,7 +80,7 @@ impl EncodingRef<'_> {
             ignored: 0,
         };
         if input.len() >= 8 * join.group_symbols() {
-            at = self.decode_eights::<L>(join, input, output);
+            at = self.decode_eights::<L>(look_up, join, input, output);
             let left = input.len() - at.read;
             // With more left, an iteration stopped at a byte that is not a symbol.
             if left == 0 || left >= 8 * join.group_symbols() {
@@ -94,27 +89,33 @@ impl EncodingRef<'_> {
                 return left == 0;
             }
         }
-        let look_up = self.look_up::<L>();
-        let at = self.decode_windows::<L>(&look_up, join, at, input, output);
+        let at = self.decode_windows::<L>(look_up, join, at, input, output);
         let left = input.len() - at.read;
         if left > 16 {
             stop.read = at.read;
             stop.written = at.written;
             return false;
         }
-        let front = decode_front(&look_up, join, left, load_last(input, left));
+        let front = decode_front(look_up, join, left, load_last(input, left));
         self.decode_last(&front, join, at, input, output, stop)
     }
 
     /// Decodes the groups of a text by iterations of eight, up to one with a byte that is not a
     /// symbol.
     #[inline(always)]
-    fn decode_eights<L: LookUp>(&self, join: &Join, input: &[u8], output: &mut [u8]) -> Progress
+    fn decode_eights<L: LookUp>(
+        &self,
+        look_up: &L,
+        join: &Join,
+        input: &[u8],
+        output: &mut [u8],
+    ) -> Progress
         requires join { JoinsSymbols self.now join.now }
+        requires finds { FindsSymbols L.holds self.now look_up.now }
         requires exact { HasExactOutput self.now input.now output.old }
         ensures reached { HasReachedTo self.now input.now result.read result.written output.new }
     {
-        let groups = self.decode_iterations::<L>(input, output);
+        let groups = self.decode_iterations::<L>(look_up, input, output);
         let read = groups * join.group_symbols();
         Progress {
             read,
@@ -253,17 +254,18 @@ impl EncodingRef<'_> {
     /// the number of whole groups before that byte.
     // Not inlined, so that short texts save no registers for it.
     #[inline(never)]
-    fn decode_iterations<L: LookUp>(&self, input: &[u8], output: &mut [u8]) -> usize
+    fn decode_iterations<L: LookUp>(&self, look_up: &L, input: &[u8], output: &mut [u8]) -> usize
+        requires finds { FindsSymbols L.holds self.now look_up.now }
         requires room { length input.now / group_symbols self.now.width
             * group_bytes self.now.width ≤ length output.old }
         ensures run { IsRun self.now input.now result output.old output.new }
     {
         match self.fields.order() {
             BitOrder::MostSignificantFirst => {
-                self.decode_iterations_in_order::<L, MostSignificantFirst>(input, output)
+                self.decode_iterations_in_order::<L, MostSignificantFirst>(look_up, input, output)
             }
             BitOrder::LeastSignificantFirst => {
-                self.decode_iterations_in_order::<L, LeastSignificantFirst>(input, output)
+                self.decode_iterations_in_order::<L, LeastSignificantFirst>(look_up, input, output)
             }
         }
     }
@@ -272,9 +274,11 @@ impl EncodingRef<'_> {
     #[inline(always)]
     fn decode_iterations_in_order<L: LookUp, O: ConstantOrder>(
         &self,
+        look_up: &L,
         input: &[u8],
         output: &mut [u8],
     ) -> usize
+        requires finds { FindsSymbols L.holds self.now look_up.now }
         requires order { self.now.order ≡ O.ORDER }
         requires room { length input.now / group_symbols self.now.width
             * group_bytes self.now.width ≤ length output.old }
@@ -282,7 +286,7 @@ impl EncodingRef<'_> {
     {
         call_by_width!(
             self.fields.width,
-            self.decode_iterations_of::<L, O>(input, output)
+            self.decode_iterations_of::<L, O>(look_up, input, output)
         )
     }
 
@@ -291,15 +295,16 @@ impl EncodingRef<'_> {
     #[inline(never)]
     fn decode_iterations_of<L: LookUp, O: ConstantOrder, G: GroupSize>(
         &self,
+        look_up: &L,
         input: &[u8],
         output: &mut [u8],
     ) -> usize
+        requires finds { FindsSymbols L.holds self.now look_up.now }
         requires coded { IsCodedIn self.now G.WIDTH O.ORDER }
         requires room { length input.now / group_symbols self.now.width
             * group_bytes self.now.width ≤ length output.old }
         ensures run { IsRun self.now input.now result output.old output.new }
     {
-        let look_up = L::of(&self.fields.values);
-        decode_iterations::<L, O, G>(&look_up, input, input.len(), output) / G::SYMBOLS
+        decode_iterations::<L, O, G>(look_up, input, input.len(), output) / G::SYMBOLS
     }
 }

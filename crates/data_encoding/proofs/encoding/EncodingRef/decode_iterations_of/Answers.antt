@@ -1,8 +1,8 @@
 use Rattle.std.proofs.Common.{length, sym, ap, ◌∙◌, arith}
 use Rattle.std.proofs.lemmas.List.{take_all}
+use Rattle.data_encoding_kernel.specs.Tables.{Reads}
 use Rattle.data_encoding_meaning.specs.text.Base.{group_bytes, group_symbols}
 use Rattle.data_encoding_meaning.proofs.digits.SizeLemmas.{room-same}
-use Rattle.data_encoding.proofs.tables.TableLemmas.{Reads-seen}
 use Rattle.data_encoding.proofs.encoding.EncodingRef.decode_iterations_of.Goals as goal
 
 pub decode_iterations-requires-clause-room : goal.decode_iterations-requires-clause-room
@@ -15,9 +15,14 @@ decode_iterations-requires-clause-room g c =
 pub returns : goal.returns
 returns g c =
     let input = c.args.input.now in
-    let reads = Reads-seen _ c.self.invariant c.args.self.now c.self.view_is g.G.GroupSize.WIDTH
-    g.O.ConstantOrder.ORDER c.requires.coded.width_is c.requires.coded.order_is in
+    let finds = c.requires.finds in
+    let reads : Reads c.args.self.now finds.values g.G.GroupSize.WIDTH g.O.ConstantOrder.ORDER =
+    record {
+      width_is = c.requires.coded.width_is;
+      order_is = c.requires.coded.order_is;
+      holds = finds.is_table;
+    } in
     record {
       run = rw (c.SYMBOLS.ensures, ← (take_all (length input) input (omega arith)))
-          (c.decode_iterations.ensures.run _ c.of-look_up.ensures c.args.self.now reads);
+          (c.decode_iterations.ensures.run finds.values finds.held c.args.self.now reads);
     }

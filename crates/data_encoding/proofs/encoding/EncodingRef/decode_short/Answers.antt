@@ -9,7 +9,7 @@ decode_last-requires-clause-at g c = start-reached c.join-join.ensures.width c.r
 pub decode_last-requires-clause-front : goal.decode_last-requires-clause-front
 decode_last-requires-clause-front g c =
     let joins = c.join-join.ensures.join in
-    let finds = c.look_up-look_up.ensures in
+    let finds = c.requires.finds in
     let found = c.decode_front-front.ensures in
     let join = c.join-join.result.now in
     let reads : Reads c.args.self.now finds.values join.width join.order =

@@ -12,7 +12,7 @@ store_front-requires-clause-room g c =
     let finds = c.requires.finds in
     let reads : Reads c.args.self.now finds.values c.args.join.now.width c.args.join.now.order =
     record { width_is = sym joins.width_is; order_is = sym joins.order_is; holds = finds.is_table } in
-    let front = c.decode_whole.ensures c.in-Some.decoded c.in-Some.is finds.values finds.held
+    let front = c.decode_whole.ensures.front c.in-Some.decoded c.in-Some.is finds.values finds.held
     c.args.self.now reads in
     let width : c.loop-at.at.read + 16 - c.loop-at.at.read ≡ 16 = omega arith in
     rw joins.width_is (window-room (joins-width joins) c.loop-at.invariant front
@@ -24,7 +24,7 @@ loop-at-preserved g c =
     let finds = c.requires.finds in
     let reads : Reads c.args.self.now finds.values c.args.join.now.width c.args.join.now.order =
     record { width_is = sym joins.width_is; order_is = sym joins.order_is; holds = finds.is_table } in
-    let front = c.decode_whole.ensures c.in-Some.decoded c.in-Some.is finds.values finds.held
+    let front = c.decode_whole.ensures.front c.in-Some.decoded c.in-Some.is finds.values finds.held
     c.args.self.now reads in
     let width : c.loop-at.at.read + 16 - c.loop-at.at.read ≡ 16 = omega arith in
     rw joins.width_is (window-reached (joins-width joins) c.loop-at.invariant front
