@@ -1,7 +1,6 @@
 -- The end of a text: its last symbols, the padding of their group, and ignored bytes.
 use Rattle.std.specs.Prelude.{◌≡◌, ℕ, ◌+◌, ◌-◌, ◌%◌, ◌<◌, ◌≤◌, Bool, true, false, List, [], ◌++◌, length, drop, replicate, slice_index}
 use Rattle.data_encoding.specs.declared.decode.Stop.{Stop}
-use Rattle.data_encoding.specs.declared.decode.decoding_loop.Progress.{Progress}
 use Rattle.data_encoding.specs.Progress.{HasReached}
 use Rattle.data_encoding_kernel.specs.Fronts.{IsFront}
 use Rattle.data_encoding_kernel.specs.Joins.{IsJoin}

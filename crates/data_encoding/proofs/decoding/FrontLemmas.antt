@@ -1,20 +1,19 @@
 -- The bytes of the symbols at the start of a text: those of whole groups, and of the symbols after
 -- them.
-use Rattle.std.proofs.Common.{◌≡◌, ℕ, zero, suc, ◌+◌, ◌-◌, ◌*◌, ◌/◌, ◌%◌, ◌<◌, ◌≤◌, ◌==◌, not, true, false, List, [], ◌∷◌, ◌++◌, length, map, take, drop, get_or, slice_index, refl, sym, ap, ◌∙◌, arith, length-append, length-take-le, take-append-drop, flat_map}
-use Rattle.std.proofs.Math.Nat.{mul-le-mul_left, mul-mod_left, suc-mul, zero-mul}
+use Rattle.std.proofs.Common.{◌≡◌, ℕ, zero, suc, ◌+◌, ◌*◌, ◌/◌, ◌<◌, ◌≤◌, not, true, false, List, [], ◌∷◌, ◌++◌, length, map, take, drop, slice_index, refl, sym, ap, ◌∙◌, arith, length-append, length-take-le, take-append-drop, flat_map}
+use Rattle.std.proofs.Math.Nat.{mul-le-mul_left, suc-mul, zero-mul}
 use Rattle.std.proofs.Math.Seq.{take-add, take-append-add}
-use Rattle.std.proofs.lemmas.List.{drop_at, get_or-take, length-drop, length-map, map-append, nil_from_length, take-take, take_all, take_at}
+use Rattle.std.proofs.lemmas.List.{get_or-take, length-drop, length-map, map-append, nil_from_length, take-take, take_all, take_at}
 use Rattle.std.proofs.lemmas.List.Concat.{flat_map-append}
 use Rattle.std.proofs.lemmas.List.Elements.{filter_map-append}
-use Rattle.std.specs.List.{filter_map, list_any}
 use Rattle.data_encoding_meaning.specs.declared.encoding.Character.{Character}
-use Rattle.data_encoding_meaning.specs.text.Base.{Base, IsWidth, group_bytes, group_symbols, is_symbol, meaning, value_of}
+use Rattle.data_encoding_meaning.specs.text.Base.{Base, IsWidth, group_bytes, group_symbols, is_symbol, meaning}
 use Rattle.data_encoding_meaning.specs.text.Bits.{number_of, runs}
 use Rattle.data_encoding_meaning.specs.decoding.Decoding.{run_bytes}
 use Rattle.data_encoding_meaning.specs.decoding.Fault.{symbol_bits, symbol_bytes, trailing_bits}
 use Rattle.data_encoding_meaning.proofs.decoding.ByteFaultLemmas.{symbols-long, trailing-after}
 use Rattle.data_encoding_meaning.proofs.decoding.WholeLengthLemmas.{whole_bytes}
-use Rattle.data_encoding_meaning.proofs.digits.WidthLemmas.{by_width, group_bits, group_symbols-pos}
+use Rattle.data_encoding_meaning.proofs.digits.WidthLemmas.{by_width, group_symbols-pos}
 use Rattle.data_encoding_meaning.proofs.lists.EachLemmas.{all_parts}
 use Rattle.data_encoding_meaning.proofs.lists.ListLemmas.{AllFail}
 use Rattle.data_encoding_meaning.proofs.lists.RunLemmas.{length-runs, run_count-whole, runs-first, runs-join, runs-nil}

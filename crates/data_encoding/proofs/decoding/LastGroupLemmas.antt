@@ -1,12 +1,12 @@
 -- The end of a text: the last symbols, the padding of their group, and ignored bytes.
-use Rattle.std.proofs.Common.{◌≡◌, ℕ, zero, suc, ◌+◌, ◌-◌, ◌*◌, ◌/◌, ◌%◌, ◌<◌, ◌≤◌, ◌==◌, ◌&&◌, ◌⊎◌, Bool, not, nat_lt, true, false, List, [], ◌∷◌, ◌++◌, length, map, take, drop, get_or, replicate, slice_index, None, refl, sym, ap, ◌∙◌, arith, subst, inl, inr, length-append, length-take-le, take-append-drop, ⊎_elim}
-use Rattle.std.proofs.Math.Nat.{mul-le-mul_left, mul-mod_left}
+use Rattle.std.proofs.Common.{◌≡◌, ℕ, suc, ◌+◌, ◌-◌, ◌*◌, ◌/◌, ◌%◌, ◌<◌, ◌≤◌, ◌==◌, ◌&&◌, ◌⊎◌, Bool, not, nat_lt, true, false, List, [], ◌∷◌, ◌++◌, length, map, take, drop, get_or, replicate, slice_index, None, refl, sym, ap, ◌∙◌, arith, subst, inl, inr, length-take-le, take-append-drop, ⊎_elim}
+use Rattle.std.proofs.Math.Nat.{mul-le-mul_left}
 use Rattle.std.proofs.Math.Seq.{take-append-add}
 use Rattle.std.proofs.lemmas.Bool.{cases_lt, eqb-true, false≢true}
 use Rattle.std.proofs.lemmas.Bool.Decides.{nat_tests}
-use Rattle.std.proofs.lemmas.List.{append-nil, append_assoc, drop-drop, drop_all, get_or-drop, get_or-take, length-drop, length-map, take-append-le, take-map, take-take, take_at, take_rest}
+use Rattle.std.proofs.lemmas.List.{append-nil, append_assoc, drop-drop, drop_all, get_or-drop, get_or-take, length-drop, length-map, take-append-le, take-map, take-take, take_at}
 use Rattle.std.proofs.lemmas.Nat.{div-add-mod', mul-le}
-use Rattle.std.specs.List.{filter_map, list_any, position}
+use Rattle.std.specs.List.{list_any, position}
 use Rattle.data_encoding_meaning.specs.declared.encoding.Character.{Character}
 use Rattle.data_encoding_meaning.specs.declared.encoding.Character.TheVariants.{Symbol, Padding as PaddingCharacter, Ignored, Invalid}
 use Rattle.data_encoding_meaning.specs.declared.error.DecodeKind.{DecodeKind}
@@ -14,7 +14,7 @@ use Rattle.data_encoding_meaning.specs.text.Base.{Base, IsWidth, group_bytes, gr
 use Rattle.data_encoding_meaning.specs.text.Grammar.{Positioned, bytes_in, is_final, kept, kept_from, kept_in, positioned_from}
 use Rattle.data_encoding_meaning.specs.text.Lengths.{is_valid_count, is_valid_length}
 use Rattle.data_encoding_meaning.specs.decoding.Decoding.{HasDecodedTo, HasSymbols, IsDecoded, IsGathered, run_bytes}
-use Rattle.data_encoding_meaning.specs.decoding.Fault.{bytes_of_group, count_before_padding, group_fault, symbol_bytes, trailing_bits, trailing_fault}
+use Rattle.data_encoding_meaning.specs.decoding.Fault.{bytes_of_group, count_before_padding, group_fault, symbol_bytes, trailing_bits}
 use Rattle.data_encoding_meaning.proofs.decoding.GatherLemmas.{bytes-next, is-next, next_bytes}
 use Rattle.data_encoding_meaning.proofs.decoding.GroupJudgementLemmas.{symbols-all, symbols-before}
 use Rattle.data_encoding_meaning.proofs.decoding.IgnoredFrontLemmas.{nothing-kept_in}
@@ -32,7 +32,7 @@ use Rattle.data_encoding_kernel.specs.Fronts.{IsFront}
 use Rattle.data_encoding_kernel.specs.declared.simd.decode.last_symbols.Front.{Front}
 use Rattle.data_encoding.specs.Endings.{EndsAfter, HasBegun, HasReachedTo, IsFrontOf, IsPaddedBy}
 use Rattle.data_encoding.specs.Groups.{NoneIgnored}
-use Rattle.data_encoding.proofs.decoding.FrontLemmas.{AreSymbols, all_symbols, first-count, first-few, front-bytes, front-run, front-trailing}
+use Rattle.data_encoding.proofs.decoding.FrontLemmas.{AreSymbols, all_symbols, first-few, front-bytes, front-run, front-trailing}
 use Rattle.data_encoding.proofs.decoding.ReadGroupLemmas.{plain-at, plain-bytes, plain-sound}
 use Rattle.data_encoding.proofs.decoding.ShortLemmas.{run-reached}
 use Rattle.data_encoding.proofs.decoding.StepLemmas.{IsUnderWay, decoded, decoded-all, room-group_of, under_way}

@@ -1,10 +1,9 @@
 -- Whole groups of symbols more, where no byte before them is ignored since the last group.
-use Rattle.std.proofs.Common.{◌≡◌, ℕ, zero, suc, Some, is_some, ◌+◌, ◌-◌, ◌*◌, ◌/◌, ◌<◌, ◌≤◌, true, List, [], ◌++◌, length, take, drop, get_or, slice_index, refl, sym, ap, ◌∙◌, arith, length-append, length-take-le, append-nil, subst}
+use Rattle.std.proofs.Common.{◌≡◌, ℕ, zero, suc, Some, is_some, ◌+◌, ◌-◌, ◌*◌, ◌/◌, ◌<◌, ◌≤◌, true, List, [], ◌++◌, length, take, drop, get_or, refl, sym, ap, ◌∙◌, arith, length-append, length-take-le, append-nil, subst}
 use Rattle.std.proofs.Math.Nat.{div-mul-le_self, zero-mul}
 use Rattle.std.proofs.lemmas.List.{get_or-take, length-drop, take-take, take_at, take_rest}
 use Rattle.data_encoding_meaning.specs.text.Base.{Base, IsWidth, group_bytes, group_symbols, is_padding, is_symbol, meaning}
-use Rattle.data_encoding_meaning.specs.text.Grammar.{Positioned}
-use Rattle.data_encoding_meaning.specs.decoding.Decoding.{HasDecodedTo, run_bytes}
+use Rattle.data_encoding_meaning.specs.decoding.Decoding.{run_bytes}
 use Rattle.data_encoding_meaning.proofs.decoding.IgnoredFrontLemmas.{no_front}
 use Rattle.data_encoding_meaning.proofs.decoding.ProgressLemmas.{after-run, begin, room-run, same-output}
 use Rattle.data_encoding_meaning.proofs.digits.WidthLemmas.{by_width, group_symbols-pos}
@@ -13,7 +12,6 @@ use Rattle.data_encoding_meaning.proofs.lists.RunLemmas.{runs-nil}
 use Rattle.data_encoding_meaning.proofs.lists.WriteLemmas.{length-rewritten_same, rewritten, take-rewritten}
 use Rattle.data_encoding_meaning.specs.declared.encoding.Character.{Character}
 use Rattle.data_encoding_kernel.specs.Fronts.{IsFront}
-use Rattle.data_encoding_kernel.specs.Runs.{IsRun}
 use Rattle.data_encoding_kernel.specs.declared.simd.decode.last_symbols.Join.{Join}
 use Rattle.data_encoding.specs.Endings.{HasReachedTo, JoinsSymbols}
 use Rattle.data_encoding.specs.Progress.{HasExactOutput}

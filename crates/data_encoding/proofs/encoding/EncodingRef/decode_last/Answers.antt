@@ -1,8 +1,7 @@
-use Rattle.std.proofs.Common.{◌≡◌, ℕ, ◌+◌, ◌-◌, ◌*◌, ◌/◌, ◌≤◌, ◌==◌, ◌&&◌, not, false, List, ◌++◌, length, take, drop, slice_index, refl, sym, ap, ◌∙◌, arith, length-append, length-drop}
+use Rattle.std.proofs.Common.{◌≡◌, ◌-◌, ◌*◌, ◌/◌, ◌≤◌, ◌==◌, ◌&&◌, not, false, ◌++◌, length, take, drop, slice_index, refl, ap, ◌∙◌, arith, length-append, length-drop}
 use Rattle.std.proofs.lemmas.Bool.Decides.{nat_tests}
 use Rattle.std.proofs.lemmas.List.{take_at, take_rest}
 use Rattle.data_encoding_meaning.proofs.lists.WriteLemmas.{length-rewritten_same, rewritten, take-rewritten}
-use Rattle.data_encoding.specs.Endings.{EndsAfter}
 use Rattle.data_encoding.proofs.decoding.LastGroupLemmas.{few-bytes, last-decoded, last-room, rest-valid}
 use Rattle.data_encoding.proofs.decoding.ShortLemmas.{joins-width}
 use Rattle.data_encoding.proofs.encoding.EncodingRef.decode_last.Goals as goal

@@ -2,7 +2,6 @@ use Rattle.std.proofs.Common.{◌≡◌, ◌∙◌, length, Ok}
 use Rattle.data_encoding_meaning.specs.decoding.Decoding.{IsDecoded}
 use Rattle.data_encoding_meaning.specs.text.Lengths.{decoded_len}
 use Rattle.data_encoding_meaning.proofs.grammar.TightLemmas.{full-Means}
-use Rattle.data_encoding.specs.Endings.{HasReachedTo}
 use Rattle.data_encoding.proofs.encoding.EncodingRef.decode_mut.Goals as goal
 
 pub decode_after-requires-clause-at : goal.decode_after-requires-clause-at

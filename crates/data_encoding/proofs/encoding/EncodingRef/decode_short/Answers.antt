@@ -1,4 +1,4 @@
-use Rattle.std.proofs.Common.{◌∙◌, sym, arith}
+use Rattle.std.proofs.Common.{◌∙◌, sym}
 use Rattle.data_encoding_kernel.specs.Tables.{Reads}
 use Rattle.data_encoding.proofs.decoding.ShortLemmas.{start-reached}
 use Rattle.data_encoding.proofs.encoding.EncodingRef.decode_short.Goals as goal

@@ -1,9 +1,7 @@
-use Rattle.std.proofs.Common.{◌≡◌, ◌+◌, ◌-◌, ◌*◌, ◌≤◌, List, ℕ, length, take, drop, refl, sym, arith, length-drop}
+use Rattle.std.proofs.Common.{◌≡◌, ◌+◌, ◌-◌, drop, sym, arith}
 use Rattle.std.proofs.lemmas.List.{take-take}
-use Rattle.data_encoding_kernel.specs.Fronts.{IsFront}
 use Rattle.data_encoding_kernel.specs.Tables.{Reads}
 use Rattle.data_encoding.proofs.decoding.ShortLemmas.{joins-width, window-reached, window-room}
-use Rattle.data_encoding.proofs.encoding.EncodingRef.decode_windows.Given.{Over}
 use Rattle.data_encoding.proofs.encoding.EncodingRef.decode_windows.Goals as goal
 
 pub store_front-requires-clause-room : goal.store_front-requires-clause-room

@@ -1,4 +1,4 @@
-use Rattle.std.proofs.Common.{◌≡◌, ◌⊎◌, ℕ, ◌+◌, ◌-◌, length, true, false, take, drop, refl, sym, ap, subst, ◌∙◌, arith, inl, inr, IsTrue}
+use Rattle.std.proofs.Common.{◌≡◌, ◌⊎◌, ◌+◌, ◌-◌, length, true, false, refl, sym, ap, subst, ◌∙◌, arith, inl, inr, IsTrue}
 use Rattle.std.proofs.lemmas.List.{take_rest}
 use Rattle.data_encoding_meaning.specs.text.Base.{ignores_some}
 use Rattle.data_encoding_meaning.specs.text.Lengths.{is_valid_length}

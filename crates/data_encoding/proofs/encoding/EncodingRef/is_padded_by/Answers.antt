@@ -1,6 +1,6 @@
-use Rattle.std.proofs.Common.{◌≡◌, ℕ, ◌<◌, ◌≤◌, Some, refl, sym, ap, subst, ◌∙◌, arith}
+use Rattle.std.proofs.Common.{◌<◌, sym, ap, subst, ◌∙◌, arith}
 use Rattle.std.proofs.lemmas.Bool.Decides.{nat_tests}
-use Rattle.data_encoding_meaning.specs.text.Base.{Base, group_symbols, is_padded, is_padding, meaning}
+use Rattle.data_encoding_meaning.specs.text.Base.{group_symbols, is_padded, is_padding, meaning}
 use Rattle.data_encoding.proofs.decoding.ShortLemmas.{padding-means, padding-some}
 use Rattle.data_encoding.proofs.encoding.EncodingRef.is_padded_by.Goals as goal
 
