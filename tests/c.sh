@@ -56,6 +56,8 @@ program 'calls of the shared library' "$cc" "${strict[@]}" tests/c/calls.c "-L$l
 program 'calls with short enums' "$cc" "${strict[@]}" -fshort-enums tests/c/calls.c \
     "$lib/libdata_encoding.a"
 program 'outputs that hold the data' "$cc" "${strict[@]}" tests/c/fits.c "$lib/libdata_encoding.a"
+program 'outputs that overlap the input' "$cc" "${strict[@]}" tests/c/overlap.c \
+    "$lib/libdata_encoding.a"
 program 'texts in pieces' "$cc" "${strict[@]}" tests/c/pieces.c "$lib/libdata_encoding.a"
 program 'data in pieces' "$cc" "${strict[@]}" tests/c/blocks.c "$lib/libdata_encoding.a"
 program 'what is written to a bool' "$cc" "${strict[@]}" tests/c/bools.c "$glue"/*.c \
@@ -96,6 +98,8 @@ if "$cc" "${sanitized[@]}" "$room/empty.c" -o "$room/empty" 2>/dev/null; then
         "$glue"/*.c "$lib/libdata_encoding.a"
     program 'outputs that hold the data, with sanitizers' "$cc" "${strict[@]}" "${sanitized[@]}" \
         tests/c/fits.c "$glue"/*.c "$lib/libdata_encoding.a"
+    program 'outputs that overlap the input, with sanitizers' "$cc" "${strict[@]}" \
+        "${sanitized[@]}" tests/c/overlap.c "$glue"/*.c "$lib/libdata_encoding.a"
     program 'texts in pieces with sanitizers' "$cc" "${strict[@]}" "${sanitized[@]}" \
         tests/c/pieces.c "$glue"/*.c "$lib/libdata_encoding.a"
     program 'data in pieces with sanitizers' "$cc" "${strict[@]}" "${sanitized[@]}" \

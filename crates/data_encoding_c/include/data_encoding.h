@@ -5,7 +5,8 @@
  *
  * The caller must ensure the following, which no call checks:
  * - A pointer points to as many bytes as the length after it, or to a value of its type.
- * - Memory that a call writes to does not overlap any other argument.
+ * - Memory that a call writes to does not overlap any other argument, except that an output may
+ *   overlap the input: DE_OVERLAP refuses it.
  * - Nothing else writes to an argument while the call runs.
  * - A de_encoding was made by de_encoding_new or de_encoding_read, or is a copy of such a value.
  *
@@ -104,6 +105,9 @@ enum {
     /* The output is too short. de_encode_len writes the length that a text needs, and de_decode the
      * length that its data needs. */
     DE_SHORT_BUFFER = 4,
+
+    /* The output overlaps the input. The calls that encode, decode or read a piece check this. */
+    DE_OVERLAP = 5,
 
     /* No valid text has this length. */
     DE_INVALID_LENGTH = 6,
