@@ -72,6 +72,24 @@ done)
 holds 'the calls for this processor' "$room/processors" "$([ -n "$missing" ] || echo wide)"
 holds 'the calls for each processor' env DE_CPU=baseline "$room/processors"
 
+cat >"$room/supported.c" <<'END'
+#include "data_encoding.h"
+#include <stdio.h>
+
+int main(void) {
+    puts(de_is_supported() ? "supported" : "too old");
+    return 0;
+}
+END
+"$cc" "${strict[@]}" -static "$room/supported.c" "$lib/libdata_encoding.a" -o "$room/supported"
+is 'this processor' supported "$("$room/supported")"
+if command -v qemu-x86_64 >/dev/null; then
+    is 'a processor of x86-64-v2' supported "$(qemu-x86_64 -cpu Nehalem "$room/supported")"
+    is 'an older processor' 'too old' "$(qemu-x86_64 -cpu core2duo "$room/supported")"
+else
+    skip 'an older processor: no qemu-x86_64 (qemu-user)'
+fi
+
 # The words of a status, which has no character and no number.
 cat >"$room/words.c" <<'END'
 #include "data_encoding.h"

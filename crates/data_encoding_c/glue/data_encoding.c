@@ -4,8 +4,10 @@
 #define DE_NONNULL(...)
 #include "data_encoding.h"
 
-#ifdef DE_WIDE
+#ifdef __x86_64__
 #include <cpuid.h>
+#endif
+#ifdef DE_WIDE
 #include <stdlib.h>
 #endif
 #include <string.h>
@@ -169,6 +171,20 @@ static de_status stored(de_encoding *encoding, const struct made *made) {
 const char *de_version(void) {
     return DE_VERSION;
 }
+
+#ifdef __x86_64__
+/* What x86-64-v2 adds, as the processor reports it. */
+enum { V2 = bit_SSE3 | bit_SSSE3 | bit_CMPXCHG16B | bit_SSE4_1 | bit_SSE4_2 | bit_POPCNT };
+
+bool de_is_supported(void) {
+    unsigned a, b, c = 0, d;
+    return __get_cpuid(1, &a, &b, &c, &d) != 0 && (c & V2) == V2;
+}
+#else
+bool de_is_supported(void) {
+    return true;
+}
+#endif
 
 const char *de_status_text(de_status status) {
     static const char *const texts[] = {

@@ -20,7 +20,7 @@
  *
  * The library is for Linux with glibc, on x86-64 (x86-64-v2 or newer) and 64-bit ARM (ARMv8-A or
  * newer). On x86-64-v3 it uses calls made for that level. On an older x86-64 processor a call ends
- * the program with an illegal instruction, since no call tests for it.
+ * the program with an illegal instruction, except those that return texts: de_is_supported tells.
  */
 #ifndef DATA_ENCODING_H
 #define DATA_ENCODING_H
@@ -81,6 +81,11 @@ extern "C" {
  * never null, and valid until the program ends. */
 DE_EXPORT
 const char *de_version(void);
+
+/* Returns true if the processor has x86-64-v2, or is for 64-bit ARM. It runs on any processor, and
+ * no other call tests for this. */
+DE_EXPORT DE_NODISCARD
+bool de_is_supported(void);
 
 /* The greatest length of data that one call encodes, and of a text that one call decodes. */
 #define DE_ENCODE_LIMIT (SIZE_MAX / 512)
