@@ -20,7 +20,8 @@ put_deb() {
     rm -r "$tree"
 }
 
-# debian_program TREE: both programs; the installation chooses the one for the machine.
+# debian_program TREE: both programs. The first installation links the one for the machine. The link
+# is not a file of the package, so that an upgrade keeps another choice.
 debian_program() {
     local tree=$room/deb/basecode
     local lib=$tree/usr/lib/basecode
@@ -28,16 +29,27 @@ debian_program() {
     DESTDIR=$tree quietly "$1/install.sh" /usr
     mv "$tree/usr/bin/basecode" "$lib/basecode-x86-64-v2"
     cp "$1/bin/basecode-x86-64-v3" "$lib"
-    ln -s ../lib/basecode/basecode-x86-64-v2 "$tree/usr/bin/basecode"
+    rmdir "$tree/usr/bin"
     gzip -n -9 "$tree/usr/share/man/man1/basecode.1"
     cat >"$tree/DEBIAN/postinst" <<'END'
 #!/bin/sh
 set -e
-if /lib64/ld-linux-x86-64.so.2 --help 2>/dev/null | grep -q '^ *x86-64-v3 (supported'; then
-    ln -sf ../lib/basecode/basecode-x86-64-v3 "${DPKG_ROOT-}/usr/bin/basecode"
+link=${DPKG_ROOT-}/usr/bin/basecode
+if [ ! -L "$link" ]; then
+    level=v2
+    if /lib64/ld-linux-x86-64.so.2 --help 2>/dev/null | grep -q '^ *x86-64-v3 (supported'; then
+        level=v3
+    fi
+    mkdir -p "${link%/*}"
+    ln -s "../lib/basecode/basecode-x86-64-$level" "$link"
 fi
 END
-    chmod 755 "$tree/DEBIAN/postinst"
+    cat >"$tree/DEBIAN/prerm" <<'END'
+#!/bin/sh
+set -e
+[ "$1" != remove ] || rm -f "${DPKG_ROOT-}/usr/bin/basecode"
+END
+    chmod 755 "$tree/DEBIAN/postinst" "$tree/DEBIAN/prerm"
     put_deb basecode amd64 <<END
 Depends: libc6 (>= $(newest_glibc "$1/bin/basecode"))
 Section: utils

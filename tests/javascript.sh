@@ -61,6 +61,12 @@ size=$(node "${flags[@]}" --input-type=module -e "
     console.log(Buffer.from(MODULE, 'base64').length)")
 holds "the module goes by words: ${size:-no} bytes" test "${size:-600000}" -lt 600000
 
+# What a bundle has of the package, nearly: docs/JAVASCRIPT.md has a figure.
+size=$(cat package/src/*.js | wc -c)
+holds "the package has $size bytes" test "$size" -lt 650000
+size=$(cat package/src/*.js | gzip -9 | wc -c)
+holds "the package has $size bytes, compressed" test "$size" -lt 200000
+
 # Where no folder of the PATH has rt, and no module is kept.
 mkdir -p alone/bindings
 cp -r "$source" alone/bindings
@@ -189,16 +195,24 @@ is 'what has a type' \
     "$(node "${flags[@]}" --input-type=module -e \
         "console.log(Object.keys(await import('$room/package/src/index.js')).sort().join('\n'))" |
         sort)" "$(names package/src/index.d.ts)"
+is 'what has a type of the streams' $'DecoderStream\nEncoderStream' "$(names package/src/streams.d.ts)"
 if command -v tsc >/dev/null; then
     holds 'its types' quietly tsc --strict --noEmit --target es2022 --module nodenext \
         package/tests/types.ts
     mkdir -p older/node_modules
     ln -s "$room/package" older/node_modules/data-encoding
-    sed 's:"\.\./src/index\.js":"data-encoding":' package/tests/types.ts >older/types.ts
-    sed '1i import { HEXLOWER as last } from "data-encoding/memory64"; export { last };' \
+    sed -e 's:"\.\./src/index\.js":"data-encoding":' \
+        -e 's:"\.\./src/streams\.js":"data-encoding/streams":' package/tests/types.ts >older/types.ts
+    sed '1i import { HEXLOWER as last } from "data-encoding/memory64"; export { last };\
+import { DecoderStream as stream } from "data-encoding/memory64/streams"; export { stream };' \
         older/types.ts >older/both.ts
     holds 'its types for moduleResolution node' quietly tsc --strict --noEmit --target es2022 \
         --module es2022 --moduleResolution node older/types.ts older/both.ts
+    # Only the streams need declarations of a platform.
+    echo 'import { BASE64 } from "data-encoding"; BASE64.decode(BASE64.encode(new Uint8Array()));' \
+        >older/bare.ts
+    holds 'its types without a platform' quietly tsc --strict --noEmit --target es2022 --lib es2022 \
+        --module es2022 --moduleResolution node older/bare.ts
 else
     skip 'the types of the package: no tsc'
 fi

@@ -56,6 +56,12 @@ for folder in '' "$room" lib; do
         build_ext 2>&1)
     is "without a library in '$folder'" "$wanted" "$given"
 done
+mkdir -p old/setuptools/command
+echo 'Extension = setup = None; __version__ = "60.10.0"' >old/setuptools/__init__.py
+echo 'build_ext = object' >old/setuptools/command/build_ext.py
+is 'an old setuptools' \
+    'setuptools 60.10.0 is too old: run `pip install "setuptools>=61" wheel` first' \
+    "$(cd bindings/python && PYTHONPATH=$room/old "$python" setup.py -q build_ext 2>&1)"
 is 'an sdist, which needs none' "data_encoding-$version" \
     "$(cd bindings/python && env -u DATA_ENCODING_DIR "$python" setup.py -q sdist --dist-dir .. \
         >/dev/null 2>&1 && tar -tf ../data*"$version.tar.gz" | head -n 1 | tr -d / | tr - _ |
@@ -92,6 +98,16 @@ unset DATA_ENCODING_DIR
 is 'the versions of the module and of the wheel' "$version $version" "$("$python" -c '
 import importlib.metadata, data_encoding
 print(data_encoding.__version__, importlib.metadata.version("data-encoding"))')"
+if command -v qemu-x86_64 >/dev/null; then
+    is 'an older processor' 'data_encoding needs an x86-64-v2 processor' "$(qemu-x86_64 -cpu core2duo \
+        "$("$python" -c 'import os, sys; print(os.path.realpath(sys.executable))')" -c '
+try:
+    import data_encoding
+except ImportError as error:
+    print(error)' 2>&1)"
+else
+    skip 'the package on an older processor: no qemu-x86_64 (qemu-user)'
+fi
 tests=(bindings/python/tests/test_data_encoding.py bindings/python/tests/test_compat.py)
 
 # try_with PYTHON NAME: runs the tests of the package with a Python.
@@ -117,15 +133,25 @@ is_from() {
 }
 
 try_with "$python" 'the package'
-# The wheel serves any other Python from 3.11 on. An older one has a module built with it.
+# The wheel serves any other Python from 3.11 on. An older one has a module built with it, and with
+# this setuptools, since its own may be too old.
+mkdir newer
+"$python" -c '
+import pathlib, setuptools
+where = pathlib.Path(setuptools.__path__[0]).parent
+names = ["setuptools", "pkg_resources", "_distutils_hack"]
+names += [it.name for it in where.glob("setuptools-*-info")]
+for name in names:
+    pathlib.Path("newer", name).symlink_to(where / name)
+'
 for other in $(pythons); do
     if is_from "$other" 11; then
         try_with "$other" "the package with $other"
     elif is_from "$other" 9 && "$other" -c 'import setuptools' 2>/dev/null; then
         cp -r bindings/python older
         cp -r older/src site-older
-        (cd older && DATA_ENCODING_DIR=$lib quietly "$other" setup.py -q build_ext \
-            --build-lib ../site-older) || fail "a module for $other"
+        (cd older && DATA_ENCODING_DIR=$lib PYTHONPATH=$room/newer quietly "$other" setup.py -q \
+            build_ext --build-lib ../site-older) || fail "a module for $other"
         PYTHONPATH=$room/site-older try_with "$other" "the module for $other"
         rm -r older site-older
     fi
@@ -167,6 +193,21 @@ PYTHONPATH=$room/site-copying holds 'the tests of a module that copies texts' \
 if command -v mypy >/dev/null; then
     MYPYPATH=site holds 'its types' quietly mypy --strict --cache-dir mypy site/data_encoding \
         "${tests[@]}"
+    cat >wrong.py <<'END'
+import io, sys
+from data_encoding import BASE64, compat
+
+compat.b64decode(5)
+compat.b64encode("text")
+compat.encodebytes("text")
+compat.decodebytes("text")
+BASE64.encode_stream(io.BytesIO(), 5)
+BASE64.encode_stream(io.BytesIO(), sys.stdout)
+BASE64.encode_stream(io.BytesIO(), sys.stdout.buffer)
+print(compat.b64encode(memoryview(b"data"), b"-_"), compat.b64decode(bytearray(b"Zm9v"), "-_"))
+END
+    is 'the lines with a wrong type' $'4\n5\n6\n7\n8' "$(MYPYPATH=site mypy --strict --cache-dir mypy \
+        wrong.py | sed -n 's/^wrong.py:\([0-9]*\): error.*/\1/p')"
 else
     skip 'the types of the package: no mypy'
 fi

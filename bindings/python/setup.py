@@ -3,6 +3,7 @@
 import os
 import sys
 
+import setuptools
 from setuptools import Extension, setup
 from setuptools.command.build_ext import build_ext
 
@@ -11,6 +12,16 @@ ARCHIVE = "libdata_encoding.a"
 # older Python is for that version.
 STABLE = sys.version_info >= (3, 11)
 ABI = "cp311"
+
+# An older one ignores `[project]` of pyproject.toml, and installs an empty package UNKNOWN.
+OLDEST_SETUPTOOLS = 61
+
+found = setuptools.__version__.split(".")[0]
+if found.isdigit() and int(found) < OLDEST_SETUPTOOLS:
+    sys.exit(
+        f"setuptools {setuptools.__version__} is too old: "
+        f'run `pip install "setuptools>={OLDEST_SETUPTOOLS}" wheel` first'
+    )
 
 
 def folder() -> str:

@@ -18,6 +18,8 @@ from typing import Any, Dict, List, Set
 
 LIST = pathlib.Path(sys.argv[1])
 LICENCE = pathlib.Path(sys.argv[2]).read_bytes()
+# The part without a licence, in each of the files that name one.
+UNLICENSED = b"LicenseRef-Rattle-Runtime"
 
 # A name of a file, and the part of a release that it is of.
 PARTS = {
@@ -103,6 +105,11 @@ def check_licence(name: str, held: Dict[str, bytes]) -> None:
     assert licences, f"{name} has no licence"
     for path in licences:
         assert held[path] == LICENCE, f"{name}: another licence: {path}"
+    # LICENSE tells what this names. `cargo package` keeps a file as it was, as Cargo.toml.orig.
+    form = r"(^|/)(METADATA|PKG-INFO|Cargo\.toml(\.orig)?|package\.json|pyproject\.toml)$"
+    for path in filter(re.compile(form).search, held):
+        named = re.search(rb"licen[cs]e[^a-z-].*", held[path], re.IGNORECASE)
+        assert named and UNLICENSED in named[0], f"{name}: the licence of the runtime: {path}"
 
 
 def check_toolchain(name: str, data: bytes, tools: Dict[str, str]) -> None:
@@ -138,6 +145,7 @@ def main() -> None:
     own = listed["packages"][0]
     assert f"bamsturk-{own['versionInfo']}.spdx.json" == LIST.name, own
     assert own["licenseConcluded"] == "MIT" and LICENCE.startswith(b"MIT License\n"), own
+    assert UNLICENSED in LICENCE, "LICENSE does not name the runtime"
     tools = dict(it.split(": ", 1) for it in listed["creationInfo"]["comment"].split("\n"))
     files = sorted(it for it in LIST.parent.iterdir() if it.name not in (LIST.name, "SHA256SUMS"))
     check_relations(listed)

@@ -12,6 +12,11 @@ if has '*.deb' && ! lacks 'the packages for Debian' dpkg dpkg; then
             wanted=basecode-x86-64-v3
         fi
         is 'the program for this machine' "$wanted" "$(basename "$(readlink "$root/usr/bin/basecode")")"
+        ln -sf ../lib/basecode/basecode-x86-64-v2 "$root/usr/bin/basecode"
+        holds 'installs it again' quietly install_debs debian-program \
+            "$files/basecode_${version}_amd64.deb"
+        is 'the program that was chosen' basecode-x86-64-v2 \
+            "$(basename "$(readlink "$root/usr/bin/basecode")")"
         holds 'removes the package of the program' quietly dpkg "--root=$root" --force-not-root \
             --force-script-chrootless --force-bad-path --remove basecode
         is 'what is left of the program' '' "$(find "$root" -path "$root/usr/*" ! -type d)"

@@ -47,6 +47,16 @@ static void wrote(const de_decoded *decoded, size_t read, size_t written, size_t
     is("position", position, decoded->position);
 }
 
+static bool are_unchanged(const unsigned char *output, size_t len) {
+    size_t index;
+    for (index = 0; index < len; index++) {
+        if (output[index] != 0xa5) {
+            return false;
+        }
+    }
+    return true;
+}
+
 /* The text, of a length for which `size` bytes may be needed, decoded to an output of `room` bytes.
  * The output is memory of its own, so that sanitizers see a byte that is written past it. */
 static void to_room(const struct by *by, size_t len, size_t size, size_t room) {
@@ -58,12 +68,13 @@ static void to_room(const struct by *by, size_t len, size_t size, size_t room) {
     if (output == NULL) {
         exit(EXIT_FAILURE);
     }
-    output[room] = 0xa5;
+    memset(output, 0xa5, room + 1);
     status = decode(by, len, output, room, &decoded);
     holds("nothing after the output", output[room] == 0xa5);
     if (room >= size) {
         is("room for all", wanted, status);
         wrote(&decoded, all.read, all.written, all.position);
+        holds("nothing after the greatest length", are_unchanged(output + size, room - size));
     } else if (wanted != DE_OK) {
         is("a fault", wanted, status);
         wrote(&decoded, 0, 0, all.position);
@@ -149,6 +160,21 @@ static void spread(void) {
     to_rooms(&by, 3 * len, 32);
 }
 
+/* A length that de_decode_len refuses leaves the output unchanged, and a fault in a short output
+ * leaves both numbers 0. */
+static void refused(void) {
+    unsigned char output[6];
+    de_decoded decoded = {77, 77, 77};
+    memset(output, 0xa5, sizeof output);
+    is("a length", DE_INVALID_LENGTH,
+       de_decode(DE_BASE64, "Zm9vYm!", 7, output, sizeof output, &decoded));
+    wrote(&decoded, 0, 0, 4);
+    holds("an unchanged output", are_unchanged(output, sizeof output));
+    is("a symbol", DE_INVALID_SYMBOL, de_decode(DE_BASE64, "Zm9vYm!y", 8, output, 3, &decoded));
+    wrote(&decoded, 0, 0, 6);
+    holds("nothing after three bytes", are_unchanged(output + 3, sizeof output - 3));
+}
+
 int main(void) {
     struct by by = {NULL, 0};
     size_t index;
@@ -166,6 +192,7 @@ int main(void) {
     own("0123456789abcdefghjkmnpqrstvwxyz", '=', "", 8);
     own("ABCDEFGHIJKLMNOPQRSTUVWXYZabcdefghijklmnopqrstuvwxyz0123456789-_", -1, "", 64);
     spread();
+    refused();
     printf("%d passed, %d failed\n", passed, failed);
     return failed != 0;
 }

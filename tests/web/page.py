@@ -371,31 +371,90 @@ class Sides(Page):
             "return arguments[0].scrollHeight - arguments[0].clientHeight", area))
         self.assertFalse(self.is_too_wide())
         # As in the field, so in that of the data.
-        self.paste("data", 100_000 * "x")
-        self.until(lambda: self.find("#data .size").text == "100000 bytes")
+        self.paste("data", 80_000 * "x")
+        self.until(lambda: self.find("#data .size").text == "80000 bytes")
         self.assertTrue(self.find("#data .unshaded").is_displayed())
         self.hex(True)
-        self.assertEqual(self.find("#data .addresses").text.count("\n"), 6249)
+        self.assertEqual(self.find("#data .addresses").text.count("\n"), 4999)
         self.hex(False)
         self.clear("data")
         self.assertFalse(self.find("#data .unshaded").is_displayed())
         self.assertFalse(self.find("#text .unshaded").is_displayed())
 
     def test_a_key_in_a_long_text(self) -> None:
-        """A key in a mebibyte takes less than twice what it takes in a field of that alone."""
-        text = 350_000 * "Zm9v"
+        """A key takes less than twice what it takes in a field of the text alone."""
+        text = 65_000 * "Zm9v"
         self.paste("text", text)
-        self.until(lambda: len(self.shown("data")) == 3 * 350_000)
+        self.until(lambda: len(self.shown("data")) == 3 * 65_000)
         took, length = self.driver.execute_script(
             A_KEY, self.find("#text textarea"), self.find("#data textarea"))
         plain = self.driver.execute_script(A_PLAIN_KEY, text)
         self.assertLess(took, 2 * plain)
         # It is converted after a pause, or once the field is left.
-        self.assertEqual(length, 3 * 350_000)
-        self.until(lambda: len(self.shown("data")) == 3 * 350_003)
+        self.assertEqual(length, 3 * 65_000)
+        self.until(lambda: len(self.shown("data")) == 3 * 65_003)
         self.driver.execute_script(A_KEY, self.find("#text textarea"), self.find("#data textarea"))
         self.find("#text .copy").click()
-        self.assertEqual(len(self.shown("data")), 3 * 350_006)
+        self.assertEqual(len(self.shown("data")), 3 * 65_006)
+
+    def test_a_large_paste(self) -> None:
+        """Its first part is shown, and all of it is converted, copied and saved."""
+        text = 1_250_000 * "Zm9v"
+        part = 1 << 18
+        took = self.driver.execute_script(A_PASTE, self.find("#text textarea"), text)
+        self.assertLess(took, 4_000)
+        self.assertEqual(self.shown("text"), text[:part])
+        self.assertEqual(self.find("#text .cut").text,
+                         f"Characters 0 to {part} of 5000000 are shown, and can't be edited.")
+        self.assertEqual(self.find("#text .size").text, "5000000 characters")
+        self.assertEqual(self.find("#data .size").text, "3750000 bytes")
+        self.assertEqual(self.shown("data"), part // 3 * "foo" + "f")
+        self.find("#data .save").click()
+        self.assertEqual(self.saved("data.bin"), 1_250_000 * b"foo")
+        self.hex(True)
+        self.assertTrue(self.shown("data").startswith("66 6f 6f 66"))
+        self.hex(False)
+        # The part with a fault is shown by a key.
+        self.clear("text")
+        self.assertFalse(self.find("#text .cut").is_displayed())
+        self.driver.execute_script(A_PASTE, self.find("#text textarea"), text[:-1] + "!")
+        self.assertEqual(self.fault(), "Not a symbol of BASE64, at 4999999: !")
+        self.press(Keys.F8)
+        area = self.find("#text textarea")
+        self.assertEqual(area.get_property("selectionStart"), part - 1)
+        self.assertEqual(self.shown("text")[-4:], "Zm9!")
+        self.clear("text")
+        self.type("text", "Zm9v")
+        self.assertEqual(self.shown("data"), "foo")
+
+    def test_the_next_encoding(self) -> None:
+        """The encoding of the same group that reads the text is named."""
+        for name, text, said in (
+            ("BASE64", "YWI", "BASE64_NOPAD"),
+            ("BASE64", "Zm9_", "BASE64URL"),
+            ("BASE64", "-w", "BASE64URL_NOPAD"),
+            ("BASE64URL", "Zm9/", "BASE64"),
+            ("HEXLOWER", "4A", "HEXLOWER_PERMISSIVE"),
+            ("HEXUPPER", "4a", "HEXLOWER"),
+            ("BASE32", "mzxw6", "BASE32_NOPAD_NOCASE"),
+        ):
+            self.choose(name)
+            self.clear("text")
+            self.type("text", text)
+            self.assertTrue(self.fault().endswith(f". {said} reads this text"), self.fault())
+            self.choose(said)
+            self.assertEqual(self.fault(), "")
+        self.choose("BASE64")
+        for text, said, marked in (
+            ("data:text/plain;base64,Zm9v",
+             "This is a data: address: the text begins after the comma", "data:text/plain;base64,"),
+            ("-----BEGIN X-----\nZm9v\n-----END X-----",
+             "This is PEM: BASE64_MIME reads the lines between the first and the last",
+             "-----BEGIN X-----"),
+        ):
+            self.clear("text")
+            self.paste("text", text)
+            self.assertEqual((self.fault(), self.marked()), (said, marked))
 
     def test_lines_of_what_is_done(self) -> None:
         self.type("data", "Hello")
@@ -535,8 +594,8 @@ class Own(Page):
             field.send_keys(value)
 
     def test_own(self) -> None:
+        self.open("#symbols=01234567&padding=%3D")
         self.type("data", "Hi")
-        self.choose("your own")
         self.assertEqual(self.shown("text"), "220644==")
         self.fill(padding="", symbols="01", width="8", separator="\\r\\n")
         self.assertEqual(self.shown("text"), "01001000\r\n01101001\r\n")
@@ -548,6 +607,30 @@ class Own(Page):
         for words in ("it.wrap.separator.push_str(\"\\r\\n\");", "it.symbols_len = 2;",
                       "it.bit_order = BitOrder::LeastSignificantFirst;", "python3 -c 'import sys;"):
             self.assertIn(words, lines)
+
+    def test_begins_with_the_chosen_one(self) -> None:
+        names = [it.text for it in Select(self.find("#encoding")).options][:-1]
+        self.assertEqual(len(names), 18)
+        self.type("data", "begins \u00e9")
+        for name in names:
+            self.choose(name)
+            text, facts = self.shown("text"), self.find("#facts").text
+            self.choose("your own")
+            self.assertEqual(self.shown("text"), text)
+            self.assertEqual(self.find("#facts").text.partition("\n")[2].partition("\n")[2],
+                             facts.partition("\n")[2].partition("\n")[2])
+        self.choose("BASE64_MIME")
+        self.choose("your own")
+        self.assertEqual(self.find("#own-separator").get_property("value"), "\\r\\n")
+        self.assertEqual(self.find("#own-ignore").get_property("value"), "")
+
+    def test_one_row(self) -> None:
+        """What is also read, and as what, are beside each other."""
+        for width in (320, 640, 1200, 1280):
+            self.shape(width, 900)
+            self.open("#symbols=01")
+            tops = [self.find(f"#own-{it}").rect["y"] for it in ("from", "to")]
+            self.assertEqual(*tops)
 
     def line(self, language: str) -> str:
         """The line that makes the encoding in another language."""
@@ -597,6 +680,7 @@ class Own(Page):
         for fields, field, message in (
             ({"symbols": "abc"}, "symbols",
              "2, 4, 8, 16, 32 or 64 symbols are needed, and these are 3."),
+            ({"symbols": "0\u00e9"}, "symbols", "A character is not ASCII."),
             ({"symbols": "01234566"}, "symbols", '"6" has two meanings.'),
             ({"symbols": "01", "padding": "="}, "padding",
              "No text of 2, 4 or 16 symbols needs padding."),
@@ -904,6 +988,18 @@ area.getBoundingClientRect();
 {KEYS}
 area.remove();
 return Math.min(...times);
+"""
+
+# Pastes a text into a field, and returns the milliseconds until it is shown.
+A_PASTE = """
+const [area, text] = arguments;
+const clipboardData = new DataTransfer();
+clipboardData.setData("text/plain", text);
+const began = performance.now();
+area.select();
+area.dispatchEvent(new ClipboardEvent("paste", { clipboardData, bubbles: true, cancelable: true }));
+area.getBoundingClientRect();
+return performance.now() - began;
 """
 
 # Prints what the line asks for, each field followed by a NUL.

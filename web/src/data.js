@@ -134,9 +134,17 @@ export class DataSide extends Side {
     this.text = linesOf(this.data, columns >= WIDE ? 16 : 8);
   }
 
-  /** Lays out the lines of digits again, if they are valid and nothing is typed. */
+  /** Goes to the fault. The part that is then shown may be another. */
+  go() {
+    const went = super.go();
+    this.#describe();
+    return went;
+  }
+
+  /** Lays out the lines of digits again, if they are valid, all shown, and nothing is typed. */
   #tidy() {
-    if (this.isHex && this.mark === null && document.activeElement !== this.area) {
+    const { area, mark } = this;
+    if (this.isHex && mark === null && !area.readOnly && document.activeElement !== area) {
       this.#showLines();
       this.paint();
       this.#describe();
@@ -146,8 +154,10 @@ export class DataSide extends Side {
   #describe() {
     this.size.textContent = `${this.data.length} byte${this.data.length === 1 ? "" : "s"}`;
     if (this.isHex) {
-      this.addresses.textContent = addressesOf(this.area.value);
-      this.characters.textContent = charactersOf(this.area.value, this.data);
+      // They are known from the front on.
+      const value = this.offset === 0 ? this.area.value : "";
+      this.addresses.textContent = addressesOf(value);
+      this.characters.textContent = charactersOf(value, this.data);
     }
   }
 }

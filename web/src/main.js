@@ -7,11 +7,13 @@ import { decoded } from "./decoded.js";
 import { linesOf } from "./elsewhere.js";
 import { GROUPS, factsOf } from "./facts.js";
 import { Job } from "./job.js";
-import { OwnForm, encodingOf } from "./own.js";
+import { nextOf } from "./next.js";
+import { OwnForm, encodingOf, fieldsOf } from "./own.js";
 import { shadesOf } from "./shades.js";
 import { Side, download, say } from "./side.js";
 import {
-  blankOf, blankSentence, characterAt, characters, indexOf, sentenceOf, singled, unknownSentence,
+  blankOf, blankSentence, characterAt, characters, headOf, indexOf, sentenceOf, singled,
+  unknownSentence, withNext,
 } from "./words.js";
 
 /** A file up to this length is shown, and any other converted in pieces. */
@@ -82,6 +84,11 @@ function decode() {
     text.showFault(null, null);
     return;
   }
+  const head = headOf(single);
+  if (head !== undefined) {
+    text.showFault({ words: head.words }, { from: 0, to: head.length });
+    return;
+  }
   const blank = blankOf(error, single, encoding);
   if (blank !== undefined) {
     text.showFault(blankSentence(blank, single[blank], encoding), markOf(value, blank, false));
@@ -89,7 +96,9 @@ function decode() {
   }
   const { kind, position } = error;
   const character = characterAt(value, indexOf(value, position));
-  const sentence = sentenceOf(error, nameOf(), character, single.length);
+  const sentence = withNext(
+    sentenceOf(error, nameOf(), character, single.length), nextOf(encoding, single),
+  );
   // At the end of a text the last character is marked.
   const marked = Math.min(position, single.length - 1);
   text.showFault(sentence, value === "" ? null : markOf(value, marked, kind === "length"));
@@ -178,6 +187,8 @@ function choose() {
   find("#own").hidden = !isOwn;
   find("#unknown").hidden = true;
   if (isOwn) {
+    // It begins with the encoding that was chosen before.
+    form.fields = fieldsOf(encoding.specification());
     takeOwn();
   } else {
     setUsable(true);

@@ -12,6 +12,33 @@ export function unescaped(value) {
   );
 }
 
+const LETTERS = { "\n": "\\n", "\r": "\\r", "\t": "\\t", "\\": "\\\\" };
+
+/** Returns the characters as a field has them: the others than printed ones are escapes. */
+function escaped(characters) {
+  return characters.replace(/[\\\x00-\x1f\x7f]/g, (character) =>
+    LETTERS[character] ?? `\\x${character.charCodeAt(0).toString(16).padStart(2, "0")}`,
+  );
+}
+
+/** Returns the fields of the form for a specification. */
+export function fieldsOf(specification) {
+  const { symbols, padding, ignore, wrap, translate } = specification;
+  return {
+    symbols: escaped(symbols),
+    padding: escaped(padding ?? ""),
+    // The characters of the separator are ignored by themselves.
+    ignore: escaped([...ignore].filter((it) => !wrap?.separator.includes(it)).join("")),
+    width: wrap === null ? "" : String(wrap.width),
+    separator: escaped(wrap?.separator ?? ""),
+    from: escaped(translate?.from ?? ""),
+    to: escaped(translate?.to ?? ""),
+    order: specification.bitOrder === "least-significant-first",
+    check: specification.checkTrailingBits,
+    concatenate: specification.concatenate,
+  };
+}
+
 /** A field with a fault of its own, before it is checked with the others. */
 class FieldError extends Error {
   constructor(field, message) {

@@ -24,6 +24,10 @@ const noShade = () => "";
  * than the text itself. index.html has the number. */
 const SHADED = 65_536;
 
+/** Of a longer text only a part is shown, which can't be edited: the browser takes seconds to lay out
+ * megabytes. */
+const PART = 1 << 18;
+
 /** The pause in typing after which a text longer than that is converted, in milliseconds: in a
  * mebibyte a conversion takes a second. */
 const PAUSE = 300;
@@ -31,6 +35,10 @@ const PAUSE = 300;
 export class Side {
   /** The timer of a text that waits for a pause in typing. */
   #waiting;
+
+  /** The text, if only a part of it is shown, and the index of the part. */
+  #whole;
+  offset = 0;
 
   /**
    * @param {HTMLElement} section
@@ -47,6 +55,7 @@ export class Side {
     this.size = find(".size");
     this.note = find(".note");
     this.unshaded = find(".unshaded");
+    this.cut = find(".cut");
     this.taken = find(".taken");
     this.fault = find(".fault");
     this.goButton = find(".go");
@@ -56,7 +65,9 @@ export class Side {
     this.area.addEventListener("input", () => {
       this.taken.textContent = "";
       this.#stopWaiting();
-      if (this.area.value.length > SHADED) {
+      if (this.area.value.length > PART) {
+        this.replace(this.text);
+      } else if (this.area.value.length > SHADED) {
         this.#waiting = setTimeout(() => this.settle(), PAUSE);
       } else {
         this.typed(this.text);
@@ -113,7 +124,11 @@ export class Side {
   #keepReturns() {
     this.area.addEventListener("paste", (event) => {
       const text = event.clipboardData.getData("text/plain");
-      if (text.includes("\r") && !event.defaultPrevented) {
+      if (text.length > PART && !event.defaultPrevented) {
+        const [from, to] = this.selection;
+        event.preventDefault();
+        this.replace(this.text.slice(0, from) + text + this.text.slice(to));
+      } else if (text.includes("\r") && !event.defaultPrevented) {
         event.preventDefault();
         document.execCommand("insertText", false, shown(text));
       }
@@ -121,8 +136,10 @@ export class Side {
     for (const kind of ["copy", "cut"]) {
       this.area.addEventListener(kind, (event) => {
         const { selectionStart, selectionEnd, value } = this.area;
+        const selected = value.slice(selectionStart, selectionEnd);
         event.preventDefault();
-        event.clipboardData.setData("text/plain", meant(value.slice(selectionStart, selectionEnd)));
+        // All that is shown stands for the whole text.
+        event.clipboardData.setData("text/plain", selected === value ? this.text : meant(selected));
         if (kind === "cut") {
           document.execCommand("delete");
         }
@@ -132,12 +149,39 @@ export class Side {
 
   /** The text of the field, with its carriage returns. */
   get text() {
-    return meant(this.area.value);
+    return this.#whole ?? meant(this.area.value);
   }
 
   set text(text) {
     this.#stopWaiting();
-    this.area.value = shown(text);
+    this.#whole = text.length > PART ? text : undefined;
+    this.#showFrom(0, text);
+  }
+
+  /** The first and the last index of the selection, in the whole text. */
+  get selection() {
+    const { selectionStart, selectionEnd } = this.area;
+    return [selectionStart + this.offset, selectionEnd + this.offset];
+  }
+
+  /** Shows the text, or a part of a long one from an index on. */
+  #showFrom(index, text = this.#whole) {
+    const isCut = this.#whole !== undefined;
+    const end = Math.min(index + PART, text.length);
+    this.offset = index;
+    this.area.value = shown(isCut ? text.slice(index, end) : text);
+    this.area.readOnly = isCut;
+    this.cut.hidden = !isCut;
+    this.cut.textContent = isCut
+      ? `Characters ${index} to ${end} of ${text.length} are shown, and can't be edited.`
+      : "";
+  }
+
+  /** Takes another text, as if it had been typed. */
+  replace(text) {
+    this.taken.textContent = "";
+    this.text = text;
+    this.typed(this.text);
   }
 
   #stopWaiting() {
@@ -158,13 +202,14 @@ export class Side {
     this.mark = mark;
     this.fault.replaceChildren();
     if (sentence !== null) {
-      const { words, word, character } = sentence;
+      const { words, word, character, after } = sentence;
       this.fault.append(word === undefined ? words : `${words}: ${word}`);
       if (character !== undefined) {
         const code = document.createElement("code");
         code.textContent = character;
         this.fault.append(": ", code);
       }
+      this.fault.append(after ?? "");
     }
     this.field.classList.toggle("faulty", sentence !== null);
     this.area.setAttribute("aria-invalid", String(sentence !== null));
@@ -175,9 +220,10 @@ export class Side {
   paint() {
     const { value } = this.area;
     const isLong = value.length > SHADED;
+    const isCut = this.area.readOnly;
     // Beside lines of digits are their addresses, which have the same height.
     this.field.classList.toggle("long", isLong && !this.field.classList.contains("hex"));
-    this.unshaded.hidden = !isLong;
+    this.unshaded.hidden = !isLong || isCut;
     shade(this.shades, isLong ? "" : value, this.shadeOf, isLong ? null : this.mark);
   }
 
@@ -187,7 +233,7 @@ export class Side {
     if (this.mark === null) {
       return false;
     }
-    const { from, to } = this.mark;
+    const { from, to } = this.#markShown();
     this.area.focus({ preventScroll: true });
     this.area.setSelectionRange(from, Math.min(to, from + 1));
     const faulty = this.shades.querySelector(".faulty");
@@ -197,6 +243,15 @@ export class Side {
       this.#scrollTo(from);
     }
     return true;
+  }
+
+  /** Returns the mark as indexes of the field, which shows the part of the text that has it. */
+  #markShown() {
+    const { from, to } = this.mark;
+    if (this.#whole !== undefined && (from < this.offset || from >= this.offset + PART)) {
+      this.#showFrom(Math.max(0, Math.min(from - PART / 2, this.#whole.length - PART)));
+    }
+    return { from: from - this.offset, to: to - this.offset };
   }
 
   /** Scrolls a field without shades: the text before the position is laid out once. */

@@ -105,6 +105,27 @@ export function blankSentence(at, blank, { name }) {
   return { words: `${place}: ${name ?? "your own encoding"} ignores none${other}` };
 }
 
+const DATA_URL = /^data:[^,]*,/i;
+const PEM_HEAD = /^-----BEGIN [^-]*-----/;
+
+/** Returns the sentence of a head that is not a part of the text, and its length, or undefined. */
+export function headOf(text) {
+  const [url] = DATA_URL.exec(text) ?? [];
+  if (url !== undefined) {
+    return { words: "This is a data: address: the text begins after the comma", length: url.length };
+  }
+  const [head] = PEM_HEAD.exec(text) ?? [];
+  return head === undefined
+    ? undefined
+    : { words: `This is PEM: ${LINES} reads the lines between the first and the last`,
+        length: head.length };
+}
+
+/** Returns the sentence with the name of another encoding that reads the text, if there is one. */
+export function withNext(sentence, next) {
+  return next === undefined ? sentence : { ...sentence, after: `. ${next} reads this text` };
+}
+
 /** That no encoding has this name, as a sentence, with the one that differs by case alone. */
 export function unknownSentence(name, names, taken) {
   const meant = names.find((it) => it === name.toUpperCase());

@@ -131,6 +131,9 @@ export function encode(key, data, take, held = NOTHING) {
     return short;
   }
   const length = encodeLen(key, size);
+  if (take === machine.stringAt) {
+    machine.needsString(length);
+  }
   const output = machine.reserve(size, length);
   putData(data, held);
   needsOk(

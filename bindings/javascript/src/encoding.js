@@ -1,14 +1,12 @@
 import { bytesOf, kindOf, textOf } from "./bytes.js";
 import * as calls from "./calls.js";
+import { EIGHTEEN } from "./eighteen.js";
 import { DecodeError } from "./errors.js";
 import { part, stringAt } from "./machine.js";
 import { alignmentOf, keyOfLayout, keyOfSpecification, specificationOf } from "./specification.js";
 
 /** Returns the key of an encoding. Throws a TypeError for any other value. */
 export let keyOf;
-
-/** The predefined encodings by their names. */
-const PREDEFINED = new Map();
 
 function lengthOf(value) {
   if (typeof value !== "number") {
@@ -180,9 +178,9 @@ export class Encoding {
   }
 }
 
-/** Adds a predefined encoding. The module has calls for its number. */
-export function predefined(name, specification) {
-  const found = new Encoding(keyOfSpecification(specification, PREDEFINED.size));
-  PREDEFINED.set(name, found);
-  return found;
-}
+/** The predefined encodings by their names. The module has calls for their numbers. */
+const PREDEFINED = new Map(
+  Object.entries(EIGHTEEN).map(([name, specification], number) => [
+    name, new Encoding(keyOfSpecification(specification, number)),
+  ]),
+);

@@ -1,4 +1,9 @@
-/** Base encodings with proofs: data as text over an alphabet of symbols, and back. */
+/**
+ * Base encodings with proofs: data as text over an alphabet of symbols, and back.
+ *
+ * Encoding and decoding are not constant-time: `SECURITY.md` of the sources has the packages in which
+ * they are.
+ */
 
 /** Bytes: data, or a text in ASCII. */
 export type Bytes = ArrayBufferLike | ArrayBufferView;
@@ -9,11 +14,17 @@ export type Bytes = ArrayBufferLike | ArrayBufferView;
  */
 export type Text = string | Bytes;
 
+/**
+ * Data that a call returns, in a buffer of its own. From TypeScript 5.7 on it is
+ * `Uint8Array<ArrayBuffer>`, and before, `Uint8Array`.
+ */
+export type Data = ReturnType<Uint8Array["slice"]>;
+
 export type FaultKind = "length" | "symbol" | "trailing" | "padding";
 
 /** Thrown if a text can't be decoded. */
 export class DecodeError extends Error {
-  constructor(kind: FaultKind, position: number, data?: Uint8Array);
+  constructor(kind: FaultKind, position: number, data?: Data);
 
   readonly name: "DecodeError";
   readonly kind: FaultKind;
@@ -25,7 +36,7 @@ export class DecodeError extends Error {
   readonly position: number;
 
   /** The data that the call decoded before the fault. */
-  readonly data: Uint8Array;
+  readonly data: Data;
 }
 
 export type RefusalKind =
@@ -86,10 +97,16 @@ export interface Specification {
   concatenate?: boolean;
 }
 
+/** The parameters of an encoding as the constructor takes them. */
+export type GivenSpecification = Omit<Specification, "wrap"> & {
+  /** As in `Specification`, or a pair: `[76, "\r\n"]`. */
+  wrap?: Specification["wrap"] | readonly [width: number, separator: string];
+};
+
 /** The result of decoding as much of a text as possible. */
 export interface PartialDecode {
   /** The data of the first `read` characters. */
-  data: Uint8Array;
+  data: Data;
 
   /** The number of characters that were decoded. */
   read: number;
@@ -104,7 +121,7 @@ export type Partial = PartialDecode;
 /** A way to write data as text, and to read it back. Immutable. */
 export class Encoding {
   /** Makes an encoding. Throws a SpecificationError if the specification is invalid. */
-  constructor(specification: Specification);
+  constructor(specification: GivenSpecification);
 
   /** Returns the names of the predefined encodings. */
   static names(): string[];
@@ -119,7 +136,7 @@ export class Encoding {
   readonly name: string | null;
 
   /** Bytes that describe the encoding completely, to store or send. */
-  readonly layout: Uint8Array;
+  readonly layout: Data;
 
   /**
    * The block size in bytes of data. If data is cut at multiples of it, the joined texts of the
@@ -146,7 +163,7 @@ export class Encoding {
   encodeInto(data: Bytes, output: Bytes): number;
 
   /** Returns the data of `text`. Throws a DecodeError if the text is invalid. */
-  decode(text: Text): Uint8Array;
+  decode(text: Text): Data;
 
   /**
    * Writes the data of `text` to the start of `output`, and returns its length. Throws a DecodeError
@@ -195,24 +212,14 @@ export class Decoder {
   constructor(encoding: Encoding);
 
   /** Returns the data of the groups that this piece completes. After a fault it is empty. */
-  push(piece: Text): Uint8Array;
+  push(piece: Text): Data;
 
   /**
    * Returns the data of the last group. Throws a DecodeError if the text is invalid, with the
    * position in the whole text and the data of the last group alone. The next piece begins a new
    * text.
    */
-  finish(): Uint8Array;
-}
-
-/** Encodes a stream of data to a stream of text, of any length. */
-export class EncoderStream extends TransformStream<Bytes, string> {
-  constructor(encoding: Encoding);
-}
-
-/** Decodes a stream of text to a stream of data, of any length. */
-export class DecoderStream extends TransformStream<Text, Uint8Array> {
-  constructor(encoding: Encoding);
+  finish(): Data;
 }
 
 /** The version of the package. */

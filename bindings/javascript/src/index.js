@@ -8,5 +8,4 @@ export { Encoding } from "./encoding.js";
 export { DecodeError, SpecificationError } from "./errors.js";
 export { Decoder, Encoder } from "./pieces.js";
 export * from "./predefined.js";
-export { DecoderStream, EncoderStream } from "./streams.js";
 export { version } from "./machine.js";

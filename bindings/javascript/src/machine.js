@@ -120,15 +120,33 @@ export function reserve(inputLength, outputLength) {
 /** Returns the part of the room from an address on. It is valid until the next `reserve`. */
 export const part = (address, length) => bytes.subarray(address, address + length);
 
+/** Every platform has strings of this length. */
+const STRING = 1 << 28;
+
+function tooLong(length) {
+  return new RangeError(`no string has ${length} characters here: encodeInto writes to a buffer`);
+}
+
+/** Throws a RangeError if a string can't have this length. The engine copies no character for it. */
+export function needsString(length) {
+  if (length > STRING) {
+    try {
+      " ".repeat(length);
+    } catch {
+      throw tooLong(length);
+    }
+  }
+}
+
 /**
  * Returns the string of the ASCII characters from an address on: Latin-1 has the same characters.
- * Throws a RangeError if a string can't have this length.
+ * Throws a RangeError if there is no memory for it.
  */
 export function stringAt(address, length) {
   try {
     return buffer?.latin1Slice(address, address + length) ?? stringOf(part(address, length));
   } catch {
-    throw new RangeError(`no string has ${length} characters here: encodeInto writes to a buffer`);
+    throw tooLong(length);
   }
 }
 

@@ -1,102 +1,57 @@
-// The eighteen, in the order of their numbers. Each is called by its number. The fields here are
-// for its layout and its specification, and tests compare both.
+// The eighteen, each by its name, so that a bundle has what a program names.
 
-import { predefined } from "./encoding.js";
-
-const UPPER = "ABCDEFGHIJKLMNOPQRSTUVWXYZ";
-const LOWER = UPPER.toLowerCase();
-const DIGITS = "0123456789";
-const HEX_LOWER = `${DIGITS}abcdef`;
-const HEX_UPPER = `${DIGITS}ABCDEF`;
-const SYMBOLS_32 = `${UPPER}234567`;
-const SYMBOLS_32_HEX = DIGITS + UPPER.slice(0, 22);
-const SYMBOLS_64 = `${UPPER + LOWER + DIGITS}+/`;
-const SYMBOLS_64_URL = `${UPPER + LOWER + DIGITS}-_`;
-const SYMBOLS_CURVE = `${DIGITS}bcdfghjklmnpqrstuvwxyz`;
-const PADDING = "=";
-const LINES = { width: 76, separator: "\r\n" };
-
-/** The translation of letters to the other case. */
-const readAs = (to, from) => ({ from, to });
+import { Encoding } from "./encoding.js";
 
 /** Hexadecimal with the letters a to f. */
-export const HEXLOWER = predefined("HEXLOWER", { symbols: HEX_LOWER });
+export const HEXLOWER = Encoding.named("HEXLOWER");
 
 /** Hexadecimal with the letters a to f, which reads A to F as these. */
-export const HEXLOWER_PERMISSIVE = predefined("HEXLOWER_PERMISSIVE", {
-  symbols: HEX_LOWER,
-  translate: readAs("abcdef", "ABCDEF"),
-});
+export const HEXLOWER_PERMISSIVE = Encoding.named("HEXLOWER_PERMISSIVE");
 
 /** Hexadecimal with the letters A to F. */
-export const HEXUPPER = predefined("HEXUPPER", { symbols: HEX_UPPER });
+export const HEXUPPER = Encoding.named("HEXUPPER");
 
 /** Hexadecimal with the letters A to F, which reads a to f as these. */
-export const HEXUPPER_PERMISSIVE = predefined("HEXUPPER_PERMISSIVE", {
-  symbols: HEX_UPPER,
-  translate: readAs("ABCDEF", "abcdef"),
-});
+export const HEXUPPER_PERMISSIVE = Encoding.named("HEXUPPER_PERMISSIVE");
 
 /** Base32 with padding: RFC 4648, section 6. */
-export const BASE32 = predefined("BASE32", { symbols: SYMBOLS_32, padding: PADDING });
+export const BASE32 = Encoding.named("BASE32");
 
 /** Base32 without padding. */
-export const BASE32_NOPAD = predefined("BASE32_NOPAD", { symbols: SYMBOLS_32 });
+export const BASE32_NOPAD = Encoding.named("BASE32_NOPAD");
 
 /** Base32 without padding, which reads lower case as upper case. */
-export const BASE32_NOPAD_NOCASE = predefined("BASE32_NOPAD_NOCASE", {
-  symbols: SYMBOLS_32,
-  translate: readAs(UPPER, LOWER),
-});
+export const BASE32_NOPAD_NOCASE = Encoding.named("BASE32_NOPAD_NOCASE");
 
 /** Base32 without padding, which reads 0, 1, l and 8 as the letters they look like. */
-export const BASE32_NOPAD_VISUAL = predefined("BASE32_NOPAD_VISUAL", {
-  symbols: SYMBOLS_32,
-  translate: readAs("OIIB", "01l8"),
-});
+export const BASE32_NOPAD_VISUAL = Encoding.named("BASE32_NOPAD_VISUAL");
 
 /** Base32hex with padding: RFC 4648, section 7. */
-export const BASE32HEX = predefined("BASE32HEX", { symbols: SYMBOLS_32_HEX, padding: PADDING });
+export const BASE32HEX = Encoding.named("BASE32HEX");
 
 /** Base32hex without padding. */
-export const BASE32HEX_NOPAD = predefined("BASE32HEX_NOPAD", { symbols: SYMBOLS_32_HEX });
+export const BASE32HEX_NOPAD = Encoding.named("BASE32HEX_NOPAD");
 
 /** Base32hex of DNSSEC, in lower case, which reads upper case too. */
-export const BASE32_DNSSEC = predefined("BASE32_DNSSEC", {
-  symbols: SYMBOLS_32_HEX.toLowerCase(),
-  translate: readAs(LOWER.slice(0, 22), UPPER.slice(0, 22)),
-});
+export const BASE32_DNSSEC = Encoding.named("BASE32_DNSSEC");
 
 /** Base32 of DNSCurve, the least significant bit first. */
-export const BASE32_DNSCURVE = predefined("BASE32_DNSCURVE", {
-  symbols: SYMBOLS_CURVE,
-  translate: readAs(SYMBOLS_CURVE.slice(10), SYMBOLS_CURVE.slice(10).toUpperCase()),
-  bitOrder: "least-significant-first",
-});
+export const BASE32_DNSCURVE = Encoding.named("BASE32_DNSCURVE");
 
 /** Base64 with padding: RFC 4648, section 4. */
-export const BASE64 = predefined("BASE64", { symbols: SYMBOLS_64, padding: PADDING });
+export const BASE64 = Encoding.named("BASE64");
 
 /** Base64 without padding. */
-export const BASE64_NOPAD = predefined("BASE64_NOPAD", { symbols: SYMBOLS_64 });
+export const BASE64_NOPAD = Encoding.named("BASE64_NOPAD");
 
 /** Base64 in lines of 76 characters, as in MIME, which ignores CR and LF. */
-export const BASE64_MIME = predefined("BASE64_MIME", {
-  symbols: SYMBOLS_64,
-  padding: PADDING,
-  wrap: LINES,
-});
+export const BASE64_MIME = Encoding.named("BASE64_MIME");
 
 /** The same, which does not check trailing bits. */
-export const BASE64_MIME_PERMISSIVE = predefined("BASE64_MIME_PERMISSIVE", {
-  symbols: SYMBOLS_64,
-  padding: PADDING,
-  wrap: LINES,
-  checkTrailingBits: false,
-});
+export const BASE64_MIME_PERMISSIVE = Encoding.named("BASE64_MIME_PERMISSIVE");
 
 /** Base64url with padding: RFC 4648, section 5. */
-export const BASE64URL = predefined("BASE64URL", { symbols: SYMBOLS_64_URL, padding: PADDING });
+export const BASE64URL = Encoding.named("BASE64URL");
 
 /** Base64url without padding. */
-export const BASE64URL_NOPAD = predefined("BASE64URL_NOPAD", { symbols: SYMBOLS_64_URL });
+export const BASE64URL_NOPAD = Encoding.named("BASE64URL_NOPAD");

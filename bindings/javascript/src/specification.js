@@ -67,7 +67,10 @@ function fieldsOf(name, value, defaults) {
   return { ...defaults, ...Object.fromEntries(given) };
 }
 
-/** The byte that pads, or -1; 128 is any character that is not ASCII. */
+/** The least byte that is not ASCII. */
+const NOT_ASCII = 128;
+
+/** The byte that pads, or -1. `NOT_ASCII` is any character that is not ASCII. */
 function paddingOf(value) {
   if (value === null) {
     return -1;
@@ -75,7 +78,7 @@ function paddingOf(value) {
   if ([...stringAt("padding", value)].length !== 1) {
     throw new TypeError("padding has to be one character");
   }
-  return Math.min(value.codePointAt(0), 128);
+  return Math.min(value.codePointAt(0), NOT_ASCII);
 }
 
 function widthOf(value) {
@@ -94,10 +97,20 @@ function orderOf(value) {
   return value === LEAST_SIGNIFICANT_FIRST;
 }
 
+/** Returns the fields of `wrap`, which may be a pair as well. */
+function wrapOf(value) {
+  if (Array.isArray(value) && value.length !== 2) {
+    throw new TypeError("wrap has to be a width and a separator");
+  }
+  const [width, separator] = Array.isArray(value) ? value : [];
+  const given = Array.isArray(value) ? { width, separator } : (value ?? {});
+  return fieldsOf("wrap", given, { width: 0, separator: "" });
+}
+
 /** The texts of a specification as bytes, and its other fields as the module takes them. */
 function partsOf(asked) {
   const given = fieldsOf("a specification", asked, DEFAULTS);
-  const wrap = fieldsOf("wrap", given.wrap ?? {}, { width: 0, separator: "" });
+  const wrap = wrapOf(given.wrap);
   const translate = fieldsOf("translate", given.translate ?? {}, { from: "", to: "" });
   return {
     padding: paddingOf(given.padding),
@@ -165,9 +178,22 @@ function refusedField(asked) {
   return JUDGED[0];
 }
 
+/** Returns the first field with a character that is not ASCII, or undefined. */
+function fieldOutsideAscii({ padding, texts }) {
+  const [symbols, ignore, wrap, from, to] = texts.map((text) => text.some((it) => it >= NOT_ASCII));
+  const found = { symbols, padding: padding === NOT_ASCII, ignore, wrap, translate: from || to };
+  return JUDGED.find((field) => found[field]);
+}
+
 /** The key of the encoding that is asked for, which is by a number where one is given. */
 export function keyOfSpecification(asked, number) {
-  const status = statusOf(partsOf(asked));
+  const parts = partsOf(asked);
+  // The module would count the bytes of such a character.
+  const field = fieldOutsideAscii(parts);
+  if (field !== undefined) {
+    throw new SpecificationError("not-ascii", field);
+  }
+  const status = statusOf(parts);
   if (status === OK) {
     return new Key(tables(), number);
   }

@@ -1,3 +1,9 @@
+/**
+ * Streams of data and of text, for platforms with TransformStream.
+ *
+ * @module
+ */
+
 import { Decoder, Encoder } from "./pieces.js";
 
 /** Returns the transformer of a stream, which passes on the results that are not empty. */

@@ -61,7 +61,12 @@ test("why a specification is refused, and where", () => {
   for (const [asked, kind, field, message] of [
     [{ symbols: "abc" }, "symbol-count", "symbols", "invalid number of symbols"],
     [{ symbols: "" }, "symbol-count", "symbols", "invalid number of symbols"],
-    [{ symbols: "a\u00e9" }, "symbol-count", "symbols", "invalid number of symbols"],
+    [{ symbols: "a\u00e9" }, "not-ascii", "symbols", "non-ascii character"],
+    [{ symbols: "\u{1f600}" }, "not-ascii", "symbols", "non-ascii character"],
+    [{ symbols: "abc", ignore: "\u00e9" }, "not-ascii", "ignore", "non-ascii character"],
+    [{ ...binary, padding: "=", wrap: [9, "\u00e9"] }, "not-ascii", "wrap", "non-ascii character"],
+    [{ ...binary, translate: { from: "a", to: "\u00e9" } }, "not-ascii", "translate",
+      "non-ascii character"],
     [{ symbols: "ab\u00e9" }, "not-ascii", "symbols", "non-ascii character"],
     [{ symbols: "aa" }, "duplicate", "symbols", "'a' has conflicting definitions"],
     [{ ...binary, padding: "=" }, "extra-padding", "padding", "unnecessary padding"],
@@ -122,6 +127,10 @@ test("fields of another type are a TypeError", () => {
     [{ symbols: "01", wrap: { width: -8, separator: "\n" } },
       "the width of wrap has to be a number from 0 on, not -8"],
     [{ symbols: "01", wrap: { length: 8 } }, "wrap has no field length"],
+    [{ symbols: "01", wrap: [8] }, "wrap has to be a width and a separator"],
+    [{ symbols: "01", wrap: ["\n", 8] },
+      "the width of wrap has to be a number from 0 on, not \n"],
+    [{ symbols: "01", wrap: [8, 8] }, "the separator of wrap has to be a string, not Number"],
     [{ symbols: "01", translate: { from: "a", to: 1 } },
       "the second text of translate has to be a string, not Number"],
     [{ symbols: "01", bitOrder: "least" },
@@ -154,6 +163,12 @@ test("the specification of an encoding makes it again", () => {
   assert.equal(BASE32_DNSCURVE.specification().bitOrder, "least-significant-first");
   assert.equal(OWN[5].specification().checkTrailingBits, false);
   assert.deepEqual(OWN[6].decode("220644#="), ascii("Hi"));
+});
+
+test("lines as a pair", () => {
+  const { symbols, padding } = BASE64.specification();
+  assert.ok(new Encoding({ symbols, padding, wrap: [76, "\r\n"] }).equals(BASE64_MIME));
+  assert.ok(new Encoding({ symbols, padding, wrap: [0, ""] }).equals(BASE64));
 });
 
 test("layouts", () => {

@@ -8,6 +8,7 @@ import test from "node:test";
 import { Worker } from "node:worker_threads";
 
 import { BASE64, BASE64_MIME, HEXLOWER, version } from "../src/index.js";
+import { calls } from "../src/machine.js";
 import { Encoder, Encoding, bytes } from "./common.js";
 
 const index = new URL("../src/index.js", import.meta.url);
@@ -32,8 +33,10 @@ test("a text that is too long for a string", () => {
     name: "RangeError",
     message: `no string has ${length} characters here: encodeInto writes to a buffer`,
   };
+  const before = calls.memory.buffer.byteLength;
   assert.throws(() => encoding.encode(data), error);
   assert.throws(() => new Encoder(encoding).push(data), error);
+  assert.equal(calls.memory.buffer.byteLength, before, "nothing is copied");
   assert.equal(encoding.encodeInto(data, new Uint8Array(length)), length);
 });
 

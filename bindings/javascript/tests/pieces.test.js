@@ -3,8 +3,9 @@
 import assert from "node:assert/strict";
 import test from "node:test";
 
-import { BASE64, BASE64_MIME, DecoderStream, EncoderStream } from "../src/index.js";
+import { BASE64, BASE64_MIME } from "../src/index.js";
 import { calls } from "../src/machine.js";
+import { DecoderStream, EncoderStream } from "../src/streams.js";
 import {
   DecodeError, Decoder, EVERY, Encoder, OWN, ascii, bytes, verdict,
 } from "./common.js";

@@ -18,8 +18,8 @@ from typing import Any, Callable, Dict, List, Tuple
 
 from data_encoding import DecodeError, compat
 
-# Tests of calls that compat lacks: encodings of 85 symbols, and the calls over files and lines.
-OTHERS = ("85", "LegacyBase64TestCase", "TestMain")
+# Tests of calls that compat lacks: encodings of 85 symbols, and the calls over files.
+OTHERS = ("85", "TestMain")
 
 # The tests that fail, and why.
 DIFFERENT: Dict[str, str] = {}
@@ -153,6 +153,20 @@ class Same(unittest.TestCase):
                     if not is_padded_in_vain(text):
                         self.assert_same("b64decode", one, None, True)
                         self.assert_same("b64decode", one, b"*$", True)
+
+    def test_lines(self) -> None:
+        for size in (*range(20), 56, 57, 58, 114, 115, 9000):
+            data = random.randbytes(size)
+            self.assert_same("encodebytes", data)
+            self.assert_same("encodebytes", array.array("b", data))
+            lines = base64.encodebytes(data)
+            for text in (lines, lines[:-1], self.damaged(lines), base64.b64encode(data)):
+                self.assert_same("decodebytes", text)
+                self.assert_same("decodebytes", memoryview(text))
+        square = memoryview(bytes(4)).cast("B", (2, 2))
+        for wrong in ("Zm9v", 5, None, [1], array.array("H", [1, 2]), square):
+            self.assert_same("encodebytes", wrong)
+            self.assert_same("decodebytes", wrong)
 
     def test_messages_for_padding(self) -> None:
         """Without `validate` the standard library itself refuses a text."""

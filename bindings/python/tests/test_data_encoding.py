@@ -22,7 +22,8 @@ import unittest
 from typing import Any, Callable, List, Optional, Tuple
 
 import data_encoding
-from data_encoding import BASE64, DecodeError, Decoder, Encoder, Encoding
+import data_encoding.compat
+from data_encoding import BASE64, BASE64_MIME, DecodeError, Decoder, Encoder, Encoding
 
 SAME: Any = {
     "hexlower": base64.b16encode,
@@ -345,6 +346,18 @@ class Streams(unittest.TestCase):
                 encoding.decode_stream(io.StringIO(text.getvalue().decode()), back)
                 self.assertEqual(back.getvalue(), data)
 
+    def test_text_files(self) -> None:
+        data = random.randbytes(600_000)
+        for encoding in every():
+            text = io.StringIO(newline="")
+            encoding.encode_stream(io.BytesIO(data), text)
+            self.assertTrue(text.getvalue() == encoding.encode(data), encoding)
+        raw = io.BytesIO()
+        file = io.TextIOWrapper(raw, encoding="utf-16", newline="")
+        BASE64_MIME.encode_stream(io.BytesIO(data), file)
+        file.flush()
+        self.assertEqual(raw.getvalue().decode("utf-16"), BASE64_MIME.encode(data))
+
     def test_faults(self) -> None:
         text = bytearray(base64.b64encode(bytes(600_000)))
         text[500_002] = ord("!")
@@ -360,7 +373,6 @@ class Streams(unittest.TestCase):
 
     def test_what_is_no_file_of_bytes(self) -> None:
         self.assertRaises(TypeError, BASE64.encode_stream, io.StringIO("text"), io.BytesIO())
-        self.assertRaises(TypeError, BASE64.encode_stream, io.BytesIO(b"a"), io.StringIO())
         self.assertRaises(TypeError, BASE64.decode_stream, io.BytesIO(b"Zm9v"), io.StringIO())
         self.assertRaises(AttributeError, BASE64.encode_stream, b"data", io.BytesIO())
 
@@ -559,8 +571,22 @@ class Encodings(unittest.TestCase):
             self.assertIs(getattr(Encoding, name)(), constant)
             self.assertIs(Encoding.named(name.upper()), constant)
             self.assertIn(name.upper(), data_encoding.__all__)
+            self.assertEqual(constant.name, name.upper())
+            self.assertEqual(f"{constant}", name.upper())
+        self.assertEqual(Encoding(**BASE64.specification()).name, "BASE64")
+        self.assertIsNone(OWN[0].name)
+        self.assertEqual(str(OWN[0]), repr(OWN[0]))
         for name in ("base64", "BASE", "BASE64 ", "", "BASE64\u00e9", "\ud800"):
             self.assertRaises(ValueError, Encoding.named, name)
+
+    def test_with_padding_or_without(self) -> None:
+        """The recipe of docs/FORMATS.md, with the texts that it names."""
+        asked: Any = {**Encoding.named("BASE64URL_NOPAD").specification(), "ignore": "="}
+        either = Encoding(**asked)
+        for text in ("SGk", "SGk=", "S=Gk"):
+            self.assertEqual(either.decode(text), b"Hi")
+        self.assertEqual(either.encode(b"Hi"), "SGk")
+        self.assertRaises(DecodeError, either.decode, "AA==AAA=")
 
     def test_canonical(self) -> None:
         canonical = [name for name in NAMES if getattr(Encoding, name)().is_canonical()]
@@ -691,6 +717,14 @@ class Encodings(unittest.TestCase):
             if not name.startswith("_") and name not in data_encoding.__all__:
                 self.assertNotEqual(getattr(value, "__module__", None), "data_encoding._native")
                 self.assertNotIsInstance(value, types.BuiltinFunctionType)
+
+    def test_listed_names(self) -> None:
+        """`dir` lists what is public, and not what is imported."""
+        for module in (data_encoding, data_encoding.compat):
+            listed = [name for name in dir(module) if not name.startswith("__")]
+            public = set(module.__all__) - {"__version__"}
+            self.assertEqual(set(listed) - {"compat"}, public)
+            self.assertTrue(all(hasattr(module, name) for name in dir(module)))
 
     def test_unchanged(self) -> None:
         with self.assertRaises(AttributeError):

@@ -53,7 +53,7 @@ impl Encoding {
 
     /// Calls `call` with the handle of this encoding.
     #[inline]
-    fn with<R>(&self, call: impl FnOnce(Handle<'_>) -> R) -> R {
+    pub(crate) fn with<R>(&self, call: impl FnOnce(Handle<'_>) -> R) -> R {
         match self.0 {
             Source::Predefined { number, .. } => call(Handle::Number(number)),
             _ => self.with_tables(call),

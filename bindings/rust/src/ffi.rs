@@ -7,6 +7,7 @@ use alloc::string::String;
 use alloc::vec::Vec;
 #[cfg(feature = "alloc")]
 use core::ffi::c_int;
+use core::mem::size_of;
 use core::str;
 
 // It has the library.
@@ -69,6 +70,44 @@ struct Decoded {
     read: usize,
     written: usize,
     position: usize,
+}
+
+/// The state of a decoder of pieces: a `de_decoder`.
+#[derive(Clone, Debug, Default)]
+#[repr(C)]
+pub(crate) struct DecoderState {
+    len: usize,
+    count: usize,
+    positions: [usize; 8],
+    fault_position: usize,
+    fault: u32,
+    ended: u32,
+    bytes: [u8; 8],
+}
+
+/// The state of an encoder of pieces: a `de_encoder`.
+#[derive(Clone, Debug)]
+#[repr(C)]
+pub(crate) struct EncoderState {
+    count: usize,
+    bytes: [u8; 189],
+}
+
+// Their sizes in C.
+const _: () = assert!(size_of::<DecoderState>() == 104 && size_of::<EncoderState>() == 200);
+
+impl Default for EncoderState {
+    fn default() -> Self {
+        EncoderState { count: 0, bytes: [0; 189] }
+    }
+}
+
+#[cfg(feature = "std")]
+impl EncoderState {
+    /// Returns the number of held bytes.
+    pub(crate) fn held(&self) -> usize {
+        self.count
+    }
 }
 
 /// Bytes of a `de_specification`.
@@ -142,6 +181,94 @@ extern "C" {
     ) -> u32;
     fn de_encoding_is_canonical(encoding: *const Tables, canonical: *mut bool) -> u32;
     fn de_encoding_read(encoding: *mut Tables, layout: *const u8, len: usize) -> u32;
+    fn de_decoder_most(
+        number: u32,
+        decoder: *const DecoderState,
+        len: usize,
+        most: *mut usize,
+    ) -> u32;
+    fn de_decoder_read(
+        number: u32,
+        decoder: *mut DecoderState,
+        input: *const u8,
+        input_len: usize,
+        output: *mut u8,
+        output_len: usize,
+        written: *mut usize,
+    ) -> u32;
+    fn de_decoder_finish(
+        number: u32,
+        decoder: *const DecoderState,
+        output: *mut u8,
+        output_len: usize,
+        decoded: *mut Decoded,
+    ) -> u32;
+    fn de_encoding_decoder_most(
+        encoding: *const Tables,
+        decoder: *const DecoderState,
+        len: usize,
+        most: *mut usize,
+    ) -> u32;
+    fn de_encoding_decoder_read(
+        encoding: *const Tables,
+        decoder: *mut DecoderState,
+        input: *const u8,
+        input_len: usize,
+        output: *mut u8,
+        output_len: usize,
+        written: *mut usize,
+    ) -> u32;
+    fn de_encoding_decoder_finish(
+        encoding: *const Tables,
+        decoder: *const DecoderState,
+        output: *mut u8,
+        output_len: usize,
+        decoded: *mut Decoded,
+    ) -> u32;
+    fn de_encoder_most(
+        number: u32,
+        encoder: *const EncoderState,
+        len: usize,
+        most: *mut usize,
+    ) -> u32;
+    fn de_encoder_read(
+        number: u32,
+        encoder: *mut EncoderState,
+        input: *const u8,
+        input_len: usize,
+        output: *mut u8,
+        output_len: usize,
+        written: *mut usize,
+    ) -> u32;
+    fn de_encoder_finish(
+        number: u32,
+        encoder: *const EncoderState,
+        output: *mut u8,
+        output_len: usize,
+        written: *mut usize,
+    ) -> u32;
+    fn de_encoding_encoder_most(
+        encoding: *const Tables,
+        encoder: *const EncoderState,
+        len: usize,
+        most: *mut usize,
+    ) -> u32;
+    fn de_encoding_encoder_read(
+        encoding: *const Tables,
+        encoder: *mut EncoderState,
+        input: *const u8,
+        input_len: usize,
+        output: *mut u8,
+        output_len: usize,
+        written: *mut usize,
+    ) -> u32;
+    fn de_encoding_encoder_finish(
+        encoding: *const Tables,
+        encoder: *const EncoderState,
+        output: *mut u8,
+        output_len: usize,
+        written: *mut usize,
+    ) -> u32;
     #[cfg(feature = "alloc")]
     fn de_encoding_new(
         encoding: *mut Tables,
@@ -426,6 +553,160 @@ pub(crate) fn layout(tables: &Tables) -> Vec<u8> {
     accept(status);
     layout.truncate(written);
     layout
+}
+
+/// Returns the greatest number of bytes that `len` more bytes of text complete.
+///
+/// # Panics
+///
+/// Panics if the text is then over the limit.
+pub(crate) fn decoder_most(encoding: Handle<'_>, state: &DecoderState, len: usize) -> usize {
+    let mut most = 0;
+    // SAFETY: The state and the tables are borrowed, and the other pointer is to a local variable.
+    let status = unsafe {
+        match encoding {
+            Handle::Number(number) => de_decoder_most(number, state, len, &mut most),
+            Handle::Tables(tables) => de_encoding_decoder_most(tables, state, len, &mut most),
+        }
+    };
+    accept(status);
+    most
+}
+
+/// Writes the data that a piece of text completes to the start of the output, and returns its
+/// length.
+///
+/// # Panics
+///
+/// Panics if the output has no room, or the text is over the limit.
+pub(crate) fn decoder_read(
+    encoding: Handle<'_>,
+    state: &mut DecoderState,
+    input: &[u8],
+    output: &mut [u8],
+) -> usize {
+    let (bytes, len) = (input.as_ptr(), input.len());
+    let (room, room_len) = (output.as_mut_ptr(), output.len());
+    let mut written = 0;
+    // SAFETY: The state and the output are borrowed mutably, so that nothing else is in them.
+    let status = unsafe {
+        match encoding {
+            Handle::Number(number) => {
+                de_decoder_read(number, state, bytes, len, room, room_len, &mut written)
+            }
+            Handle::Tables(tables) => {
+                de_encoding_decoder_read(tables, state, bytes, len, room, room_len, &mut written)
+            }
+        }
+    };
+    accept(status);
+    written
+}
+
+/// Writes the data of a last group to the start of the output. Returns its length, and the fault of
+/// the whole text if there is one.
+///
+/// # Panics
+///
+/// Panics if the output has no room.
+pub(crate) fn decoder_finish(
+    encoding: Handle<'_>,
+    state: &DecoderState,
+    output: &mut [u8],
+) -> (usize, Result<(), DecodeError>) {
+    let (room, room_len) = (output.as_mut_ptr(), output.len());
+    let mut decoded = Decoded::default();
+    // SAFETY: The output is borrowed mutably, and the state and the tables are borrowed.
+    let status = unsafe {
+        match encoding {
+            Handle::Number(number) => {
+                de_decoder_finish(number, state, room, room_len, &mut decoded)
+            }
+            Handle::Tables(tables) => {
+                de_encoding_decoder_finish(tables, state, room, room_len, &mut decoded)
+            }
+        }
+    };
+    let verdict = match status {
+        status::OK => Ok(()),
+        _ => Err(length_error(status, decoded.position)),
+    };
+    (decoded.written, verdict)
+}
+
+/// Returns the length of the text that `len` more bytes of data complete.
+///
+/// # Panics
+///
+/// Panics if `len` is over the limit.
+pub(crate) fn encoder_most(encoding: Handle<'_>, state: &EncoderState, len: usize) -> usize {
+    let mut most = 0;
+    // SAFETY: The state and the tables are borrowed, and the other pointer is to a local variable.
+    let status = unsafe {
+        match encoding {
+            Handle::Number(number) => de_encoder_most(number, state, len, &mut most),
+            Handle::Tables(tables) => de_encoding_encoder_most(tables, state, len, &mut most),
+        }
+    };
+    accept(status);
+    most
+}
+
+/// Writes the text of the blocks that a piece of data completes to the start of the output, and
+/// returns its length.
+///
+/// # Panics
+///
+/// Panics if the output has no room, or the piece is over the limit.
+pub(crate) fn encoder_read(
+    encoding: Handle<'_>,
+    state: &mut EncoderState,
+    input: &[u8],
+    output: &mut [u8],
+) -> usize {
+    let (bytes, len) = (input.as_ptr(), input.len());
+    let (room, room_len) = (output.as_mut_ptr(), output.len());
+    let mut written = 0;
+    // SAFETY: The state and the output are borrowed mutably, so that nothing else is in them.
+    let status = unsafe {
+        match encoding {
+            Handle::Number(number) => {
+                de_encoder_read(number, state, bytes, len, room, room_len, &mut written)
+            }
+            Handle::Tables(tables) => {
+                de_encoding_encoder_read(tables, state, bytes, len, room, room_len, &mut written)
+            }
+        }
+    };
+    accept(status);
+    written
+}
+
+/// Writes the text of the held bytes to the start of the output, and returns its length.
+///
+/// # Panics
+///
+/// Panics if the output has no room.
+pub(crate) fn encoder_finish(
+    encoding: Handle<'_>,
+    state: &EncoderState,
+    output: &mut [u8],
+) -> usize {
+    let (room, room_len) = (output.as_mut_ptr(), output.len());
+    let mut written = 0;
+    // SAFETY: The output is borrowed mutably, and the state and the tables are borrowed.
+    let status = unsafe {
+        match encoding {
+            Handle::Number(number) => {
+                de_encoder_finish(number, state, room, room_len, &mut written)
+            }
+            Handle::Tables(tables) => {
+                de_encoding_encoder_finish(tables, state, room, room_len, &mut written)
+            }
+        }
+    };
+    accept(status);
+    written
 }
 
 #[inline]

@@ -16,7 +16,8 @@
 //!
 //! Other calls encode to a slice ([`Encoding::encode_mut`]), to the end of a `String`
 //! ([`Encoding::encode_append`]), in pieces ([`Encoding::new_encoder`]), to a writer
-//! ([`Encoding::encode_write`]), or when formatted ([`Encoding::encode_display`]).
+//! ([`Encoding::encode_write`]), or when formatted ([`Encoding::encode_display`]). The module
+//! [`pieces`], which the original lacks, decodes in pieces, too, and reads and writes streams.
 //!
 //! # Features
 //!
@@ -40,6 +41,7 @@ mod error;
 #[allow(unsafe_code)]
 mod ffi;
 mod layout;
+pub mod pieces;
 mod predefined;
 #[cfg(feature = "alloc")]
 mod specification;

@@ -65,7 +65,7 @@ pub extern "C" fn de_numbered_decode_len(number: u32, len: usize, most: &mut usi
 ///
 /// Any output that holds the data is long enough. If the data does not fit, the status is 4,
 /// `decoded.written` is its length, and `output` is unspecified. If `output` has fewer bytes than
-/// `de_numbered_decode_len` writes, no data is left in it after a fault, and both numbers are 0.
+/// `de_numbered_decode_len` writes, it is unspecified after a fault too, and both numbers are 0.
 #[unsafe(no_mangle)]
 pub extern "C" fn de_numbered_decode(
     number: u32,

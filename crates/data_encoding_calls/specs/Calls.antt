@@ -96,7 +96,7 @@ pub record TellsMost (base : Base) (len old new answer : ℕ) : Type 0 where
 
 -- The call wrote the data of the text to the start of the output, or stopped at the fault of the
 -- text, or wrote the length of data that does not fit, or failed and changed nothing. If the output
--- has fewer bytes than a text of this length may mean, no data is left in it after a fault.
+-- has fewer bytes than a text of this length may mean, its bytes are unspecified after a fault.
 pub record Decodes (base : Base) (text output_old output_new : List ℕ)
     (decoded_old decoded_new : Decoded) (answer : ℕ) : Type 0 where
   pub status : answer ≡ decode_status base text (length output_old)

@@ -13,6 +13,7 @@ Make an Encoding once and keep it: making one takes longer than using it.
 """
 
 import codecs
+import io
 from typing import (
     Any, Dict, List, NamedTuple, Optional, Protocol, Tuple, TypedDict, Union, final,
 )
@@ -49,6 +50,13 @@ __all__ = [
 
 __version__ = _native.version
 
+
+def __dir__() -> List[str]:
+    """Returns the public names, without the imported ones."""
+    found = globals()
+    return [it for it in found if it in __all__ or it == "compat" or it.startswith("__")]
+
+
 _Bytes = Union[bytes, bytearray, memoryview]
 
 # How much a stream reads at once, about.
@@ -65,6 +73,13 @@ class _Target(Protocol):
     """A file object that bytes are written to. It may return how many of them it took."""
 
     def write(self, data: memoryview, /) -> Optional[int]: ...
+
+
+class _TextTarget(Protocol):
+    """A file object that text is written to."""
+
+    def write(self, text: str, /) -> int: ...
+
 
 _FAULTS = {
     "length": "invalid length",
@@ -143,8 +158,8 @@ def _read_data(source: _Source, size: int) -> bytes:
     return pieces[0] if len(pieces) == 1 else b"".join(pieces)
 
 
-def _write(target: _Target, data: bytes) -> None:
-    left = memoryview(data)
+def _write(target: Any, data: Union[bytes, str]) -> None:
+    left = data if isinstance(data, str) else memoryview(data)
     while left:
         count = target.write(left)
         # A raw file may take a part, or, if it does not block, nothing.
@@ -254,6 +269,11 @@ class Encoding(_native.Calls):
         return encoding if name is None else _PREDEFINED[name]
 
     @property
+    def name(self) -> Optional[str]:
+        """The name of the predefined encoding that this one equals, or None."""
+        return _NAMES.get(self._layout())
+
+    @property
     def layout(self) -> bytes:
         """The layout: bytes that describe the encoding completely, to store or send."""
         return self._layout()
@@ -268,13 +288,14 @@ class Encoding(_native.Calls):
         error = None if kind is None else DecodeError(kind, position, data)
         return Partial(data, read, error)
 
-    def encode_stream(self, source: _Source, target: _Target) -> None:
-        """Encodes the rest of the binary file `source` to the binary file `target`, in pieces."""
+    def encode_stream(self, source: _Source, target: Union[_Target, _TextTarget]) -> None:
+        """Encodes the rest of the binary file `source` to the file `target`, in pieces."""
+        is_text = isinstance(target, io.TextIOBase)
         size = _BLOCK - _BLOCK % self.encode_align
         whole = True
         while whole:
             data = _read_data(source, size)
-            _write(target, self.encode_bytes(data))
+            _write(target, self.encode(data) if is_text else self.encode_bytes(data))
             whole = len(data) == size
 
     def decode_stream(self, source: _Source, target: _Target) -> None:
@@ -299,8 +320,11 @@ class Encoding(_native.Calls):
         width = layout[_LINES] if len(layout) > _LINES else 0
         return width * bits // 8 if width > 0 else bits // (bits & -bits)
 
+    def __str__(self) -> str:
+        return self.name or repr(self)
+
     def __repr__(self) -> str:
-        name = _NAMES.get(self._layout())
+        name = self.name
         if name is not None:
             return f"Encoding.{name.lower()}()"
         asked = dict(self.specification())
@@ -317,11 +341,10 @@ class Encoding(_native.Calls):
         return hash(self._layout())
 
     def __reduce__(self) -> Tuple[Any, ...]:
-        layout = self._layout()
-        name = _NAMES.get(layout)
+        name = self.name
         if name is not None:
             return Encoding.named, (name,)
-        return Encoding.from_layout, (layout,)
+        return Encoding.from_layout, (self._layout(),)
 
     def __copy__(self) -> "Encoding":
         return self

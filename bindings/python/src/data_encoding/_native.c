@@ -1081,7 +1081,21 @@ static unsigned long running_version(void) {
 #endif
 }
 
+/* Returns true if the processor has the instructions of the library's calls. */
+static bool is_supported(void) {
+#ifdef __x86_64__
+    return __builtin_cpu_supports("ssse3") && __builtin_cpu_supports("sse4.2") &&
+           __builtin_cpu_supports("popcnt");
+#else
+    return true;
+#endif
+}
+
 PyMODINIT_FUNC PyInit__native(void) {
+    if (!is_supported()) {
+        PyErr_SetString(PyExc_ImportError, "data_encoding needs an x86-64-v2 processor");
+        return NULL;
+    }
     return PyModuleDef_Init(running_version() >= 0x030C0000 ? &definition
                                                             : &definition_before_3_12);
 }

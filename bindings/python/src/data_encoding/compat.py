@@ -8,12 +8,21 @@ An invalid text raises `binascii.Error`. Its `__cause__` is the DecodeError with
 except if the padding is wrong without `validate`. docs/PYTHON.md lists the differences.
 """
 
+from __future__ import annotations
+
 import binascii
 import functools
-from typing import Any, Optional, Tuple, Union
+from typing import TYPE_CHECKING, List, Optional, Tuple, Union
 
 from . import BASE32, BASE32HEX, BASE64, BASE64URL, HEXUPPER, HEXUPPER_PERMISSIVE
 from . import DecodeError, Encoding
+
+if TYPE_CHECKING:
+    from _typeshed import ReadableBuffer
+
+    _Text = Union[str, ReadableBuffer]
+    # Bytes with a length, which a ReadableBuffer may lack.
+    _Bytes = Union[bytes, bytearray, memoryview]
 
 __all__ = [
     "b16decode",
@@ -24,14 +33,19 @@ __all__ = [
     "b32hexencode",
     "b64decode",
     "b64encode",
+    "decodebytes",
+    "encodebytes",
     "standard_b64decode",
     "standard_b64encode",
     "urlsafe_b64decode",
     "urlsafe_b64encode",
 ]
 
-_Data = Any
-_Text = Any
+
+def __dir__() -> List[str]:
+    """Returns the public names, without the imported ones."""
+    return __all__ + [it for it in globals() if it.startswith("__")]
+
 
 _FROM_URL = bytes.maketrans(b"-_", b"+/")
 
@@ -56,6 +70,7 @@ def _unpadded(translate: Tuple[str, str] = ("", "")) -> Encoding:
 _BASE64 = _as_there(BASE64)
 _BASE32 = _as_there(BASE32)
 _BASE32HEX = _as_there(BASE32HEX)
+_LINES = Encoding(BASE64.specification()["symbols"], padding="=", wrap=(76, "\n"))
 
 # Calling a bound method takes less time than finding it.
 _encode_base64 = BASE64.encode_bytes
@@ -84,7 +99,7 @@ def _bytes_of(text: _Text) -> bytes:
 
 
 @functools.lru_cache(maxsize=16)
-def _table_from(altchars: Union[bytes, str]) -> bytes:
+def _table_from(altchars: _Text) -> bytes:
     """Returns the table that translates `altchars` to `+` and `/`."""
     others = _bytes_of(altchars)
     assert len(others) == 2, repr(others)
@@ -100,7 +115,7 @@ def _decoded(encoding: Encoding, text: _Text) -> bytes:
     raise binascii.Error(str(fault)) from fault
 
 
-def b64encode(s: _Data, altchars: Optional[_Data] = None) -> bytes:
+def b64encode(s: ReadableBuffer, altchars: Optional[_Bytes] = None) -> bytes:
     """Encodes bytes-like data as base64. `altchars`, two bytes, replace `+` and `/`."""
     text = _encode_base64(s)
     if altchars is None:
@@ -128,7 +143,7 @@ def b64decode(
     return binascii.a2b_base64(_bytes_of(text)) if data is None else data
 
 
-def standard_b64encode(s: _Data) -> bytes:
+def standard_b64encode(s: ReadableBuffer) -> bytes:
     """Encodes bytes-like data as base64."""
     return _encode_base64(s)
 
@@ -138,7 +153,7 @@ def standard_b64decode(s: _Text) -> bytes:
     return b64decode(s)
 
 
-def urlsafe_b64encode(s: _Data) -> bytes:
+def urlsafe_b64encode(s: ReadableBuffer) -> bytes:
     """Encodes bytes-like data as base64 with `-` and `_`."""
     return _encode_base64url(s)
 
@@ -149,7 +164,7 @@ def urlsafe_b64decode(s: _Text) -> bytes:
     return b64decode(_bytes_of(s).translate(_FROM_URL)) if data is None else data
 
 
-def b32encode(s: _Data) -> bytes:
+def b32encode(s: ReadableBuffer) -> bytes:
     """Encodes bytes-like data as base32."""
     return BASE32.encode_bytes(s)
 
@@ -168,7 +183,7 @@ def b32decode(s: _Text, casefold: bool = False, map01: Optional[_Text] = None) -
     return _decoded(_BASE32, _bytes_of(text).upper() if casefold else text)
 
 
-def b32hexencode(s: _Data) -> bytes:
+def b32hexencode(s: ReadableBuffer) -> bytes:
     """Encodes bytes-like data as base32hex."""
     return BASE32HEX.encode_bytes(s)
 
@@ -178,7 +193,7 @@ def b32hexdecode(s: _Text, casefold: bool = False) -> bytes:
     return _decoded(_BASE32HEX, _bytes_of(s).upper() if casefold else s)
 
 
-def b16encode(s: _Data) -> bytes:
+def b16encode(s: ReadableBuffer) -> bytes:
     """Encodes bytes-like data as hexadecimal in upper case."""
     return _encode_hex(s)
 
@@ -186,3 +201,28 @@ def b16encode(s: _Data) -> bytes:
 def b16decode(s: _Text, casefold: bool = False) -> bytes:
     """Decodes a hexadecimal text. With `casefold`, also reads lower case."""
     return _decoded(HEXUPPER_PERMISSIVE if casefold else HEXUPPER, s)
+
+
+def _needs_bytes(s: ReadableBuffer) -> None:
+    """Raises TypeError, as `base64` does, for anything but a row of single bytes."""
+    name = type(s).__name__
+    try:
+        view = memoryview(s)
+    except TypeError:
+        raise TypeError(f"expected bytes-like object, not {name}") from None
+    if view.format not in ("c", "b", "B"):
+        raise TypeError(f"expected single byte elements, not {view.format!r} from {name}")
+    if view.ndim != 1:
+        raise TypeError(f"expected 1-D data, not {view.ndim}-D data from {name}")
+
+
+def encodebytes(s: ReadableBuffer) -> bytes:
+    """Encodes bytes-like data as base64 in lines of 76 characters, each with a line feed."""
+    _needs_bytes(s)
+    return _LINES.encode_bytes(s)
+
+
+def decodebytes(s: ReadableBuffer) -> bytes:
+    """Decodes a base64 text in lines, which is bytes-like, like `b64decode`."""
+    _needs_bytes(s)
+    return b64decode(s)
