@@ -57,6 +57,8 @@ program 'calls of the shared library' "$cc" "${strict[@]}" tests/c/calls.c "-L$l
 program 'calls with short enums' "$cc" "${strict[@]}" -fshort-enums tests/c/calls.c \
     "$lib/libdata_encoding.a"
 program 'outputs that hold the data' "$cc" "${strict[@]}" tests/c/fits.c "$lib/libdata_encoding.a"
+program 'outputs that overlap the input' "$cc" "${strict[@]}" tests/c/overlap.c \
+    "$lib/libdata_encoding.a"
 program 'texts in pieces' "$cc" "${strict[@]}" tests/c/pieces.c "$lib/libdata_encoding.a"
 program 'data in pieces' "$cc" "${strict[@]}" tests/c/blocks.c "$lib/libdata_encoding.a"
 program 'what is written to a bool' "$cc" "${strict[@]}" tests/c/bools.c "$glue"/*.c \
@@ -70,6 +72,24 @@ missing=$(for feature in abm avx avx2 bmi1 bmi2 f16c fma movbe xsave; do
 done)
 holds 'the calls for this processor' "$room/processors" "$([ -n "$missing" ] || echo wide)"
 holds 'the calls for each processor' env DE_CPU=baseline "$room/processors"
+
+cat >"$room/supported.c" <<'END'
+#include "data_encoding.h"
+#include <stdio.h>
+
+int main(void) {
+    puts(de_is_supported() ? "supported" : "too old");
+    return 0;
+}
+END
+"$cc" "${strict[@]}" -static "$room/supported.c" "$lib/libdata_encoding.a" -o "$room/supported"
+is 'this processor' supported "$("$room/supported")"
+if command -v qemu-x86_64 >/dev/null; then
+    is 'a processor of x86-64-v2' supported "$(qemu-x86_64 -cpu Nehalem "$room/supported")"
+    is 'an older processor' 'too old' "$(qemu-x86_64 -cpu core2duo "$room/supported")"
+else
+    skip 'an older processor: no qemu-x86_64 (qemu-user)'
+fi
 
 # The words of a status, which has no character and no number.
 cat >"$room/words.c" <<'END'
@@ -97,6 +117,8 @@ if "$cc" "${sanitized[@]}" "$room/empty.c" -o "$room/empty" 2>/dev/null; then
         "$glue"/*.c "$opened"
     program 'outputs that hold the data, with sanitizers' "$cc" "${strict[@]}" "${sanitized[@]}" \
         tests/c/fits.c "$glue"/*.c "$opened"
+    program 'outputs that overlap the input, with sanitizers' "$cc" "${strict[@]}" \
+        "${sanitized[@]}" tests/c/overlap.c "$glue"/*.c "$opened"
     program 'texts in pieces with sanitizers' "$cc" "${strict[@]}" "${sanitized[@]}" \
         tests/c/pieces.c "$glue"/*.c "$opened"
     program 'data in pieces with sanitizers' "$cc" "${strict[@]}" "${sanitized[@]}" \

@@ -136,10 +136,14 @@ try_with "$python" 'the package'
 # The wheel serves any other Python from 3.11 on. An older one has a module built with it, and with
 # this setuptools, since its own may be too old.
 mkdir newer
-for module in setuptools pkg_resources _distutils_hack; do
-    found=$("$python" -c "import $module; print($module.__path__[0])" 2>/dev/null) &&
-        ln -s "$found" newer
-done
+"$python" -c '
+import pathlib, setuptools
+where = pathlib.Path(setuptools.__path__[0]).parent
+names = ["setuptools", "pkg_resources", "_distutils_hack"]
+names += [it.name for it in where.glob("setuptools-*-info")]
+for name in names:
+    pathlib.Path("newer", name).symlink_to(where / name)
+'
 for other in $(pythons); do
     if is_from "$other" 11; then
         try_with "$other" "the package with $other"

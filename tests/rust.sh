@@ -102,6 +102,8 @@ if command -v "$cc" >/dev/null; then
 typedef char size[sizeof(de_encoding) <= $size ? 1 : -1];
 typedef char parts[sizeof(de_decoded) == 3 * sizeof(size_t) ? 1 : -1];
 typedef char limit[DE_LAYOUT_LIMIT == 770 ? 1 : -1];
+typedef char decoder[sizeof(de_decoder) == 104 ? 1 : -1];
+typedef char encoder[sizeof(de_encoder) == 200 && DE_LAST_TEXT_LIMIT == 510 ? 1 : -1];
 END
     holds 'the size of an encoding' "$cc" -std=c99 "-I$lib" -c "$room/size.c" -o "$room/size.o"
 else

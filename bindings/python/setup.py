@@ -16,7 +16,8 @@ ABI = "cp311"
 # An older one ignores `[project]` of pyproject.toml, and installs an empty package UNKNOWN.
 OLDEST_SETUPTOOLS = 61
 
-if int(setuptools.__version__.split(".")[0]) < OLDEST_SETUPTOOLS:
+found = setuptools.__version__.split(".")[0]
+if found.isdigit() and int(found) < OLDEST_SETUPTOOLS:
     sys.exit(
         f"setuptools {setuptools.__version__} is too old: "
         f'run `pip install "setuptools>={OLDEST_SETUPTOOLS}" wheel` first'

@@ -18,7 +18,7 @@ if has 'data-encoding-*.tgz' && ! lacks 'the package for JavaScript' node nodejs
     holds 'the tests of the package for JavaScript' quietly node --test package/tests/*.test.js
     flag=--experimental-wasm-memory64
     if node $flag -e 0 2>/dev/null; then
-        sed 's:"data-encoding":"data-encoding/memory64":' JavaScript/calls.mjs >JavaScript/calls64.mjs
+        sed 's:"data-encoding:"data-encoding/memory64:' JavaScript/calls.mjs >JavaScript/calls64.mjs
         is 'the same, with 64-bit memory' "$(block "$pages/docs/JAVASCRIPT.md" text)" \
             "$(node $flag JavaScript/calls64.mjs 2>&1)"
     fi

@@ -7,6 +7,7 @@ use alloc::string::String;
 use alloc::vec::Vec;
 #[cfg(feature = "alloc")]
 use core::ffi::c_int;
+use core::mem::size_of;
 use core::str;
 
 // It has the library.
@@ -91,6 +92,9 @@ pub(crate) struct EncoderState {
     count: usize,
     bytes: [u8; 189],
 }
+
+// Their sizes in C.
+const _: () = assert!(size_of::<DecoderState>() == 104 && size_of::<EncoderState>() == 200);
 
 impl Default for EncoderState {
     fn default() -> Self {

@@ -4,8 +4,10 @@
 #define DE_NONNULL(...)
 #include "data_encoding.h"
 
-#ifdef DE_WIDE
+#ifdef __x86_64__
 #include <cpuid.h>
+#endif
+#ifdef DE_WIDE
 #include <stdlib.h>
 #endif
 #include <string.h>
@@ -143,6 +145,17 @@ static byte *out(void *bytes, size_t len) {
     return len == 0 ? no_room : NULL;
 }
 
+/* Returns true if the bytes to read and those to write have one in common. An input that is too long
+ * is left to the call. */
+static bool overlap(const byte *from, size_t from_len, const byte *to, size_t to_len) {
+    uintptr_t input = (uintptr_t)from;
+    uintptr_t output = (uintptr_t)to;
+    if (from_len == 0 || from_len > DE_ENCODE_LIMIT || to_len == 0) {
+        return false;
+    }
+    return input <= output ? output - input < from_len : input - output < to_len;
+}
+
 static bool is_held(const de_encoding *encoding) {
     return memcmp(encoding->made, made_mark, sizeof made_mark) == 0;
 }
@@ -160,6 +173,20 @@ const char *de_version(void) {
     return DE_VERSION;
 }
 
+#ifdef __x86_64__
+/* What x86-64-v2 adds, as the processor reports it. */
+enum { V2 = bit_SSE3 | bit_SSSE3 | bit_CMPXCHG16B | bit_SSE4_1 | bit_SSE4_2 | bit_POPCNT };
+
+bool de_is_supported(void) {
+    unsigned a, b, c = 0, d;
+    return __get_cpuid(1, &a, &b, &c, &d) != 0 && (c & V2) == V2;
+}
+#else
+bool de_is_supported(void) {
+    return true;
+}
+#endif
+
 const char *de_status_text(de_status status) {
     static const char *const texts[] = {
         "no fault",
@@ -167,7 +194,7 @@ const char *de_status_text(de_status status) {
         "null pointer",
         "too long",
         "output too short",
-        "unknown status",
+        "the output overlaps the input",
         "invalid length",
         "invalid symbol",
         "non-zero trailing bits",
@@ -201,6 +228,9 @@ de_status de_encode(de_number number, const void *input, size_t input_len, char 
     if (from == NULL || to == NULL || written == NULL) {
         return DE_NULL_POINTER;
     }
+    if (overlap(from, input_len, to, output_len)) {
+        return DE_OVERLAP;
+    }
     return BY_PROCESSOR(numbered_encode, input_len,
                         (number, from, input_len, to, output_len, written));
 }
@@ -218,6 +248,9 @@ de_status de_decode(de_number number, const char *input, size_t input_len, void 
     byte *to = out(output, output_len);
     if (from == NULL || to == NULL || decoded == NULL) {
         return DE_NULL_POINTER;
+    }
+    if (overlap(from, input_len, to, output_len)) {
+        return DE_OVERLAP;
     }
     return BY_PROCESSOR(numbered_decode, input_len,
                         (number, from, input_len, to, output_len, decoded));
@@ -341,6 +374,9 @@ de_status de_encoding_encode(const de_encoding *encoding, const void *input, siz
     if (!is_held(encoding)) {
         return DE_NO_ENCODING;
     }
+    if (overlap(from, input_len, to, output_len)) {
+        return DE_OVERLAP;
+    }
     return BY_PROCESSOR(custom_encode, input_len,
                         (encoding->tables, from, input_len, to, output_len, written));
 }
@@ -364,6 +400,9 @@ de_status de_encoding_decode(const de_encoding *encoding, const char *input, siz
     }
     if (!is_held(encoding)) {
         return DE_NO_ENCODING;
+    }
+    if (overlap(from, input_len, to, output_len)) {
+        return DE_OVERLAP;
     }
     return BY_PROCESSOR(custom_decode, input_len,
                         (encoding->tables, from, input_len, to, output_len, decoded));
@@ -407,6 +446,9 @@ de_status de_decoder_read(de_number number, de_decoder *decoder, const char *inp
     if (decoder == NULL || from == NULL || to == NULL || written == NULL) {
         return DE_NULL_POINTER;
     }
+    if (overlap(from, input_len, to, output_len)) {
+        return DE_OVERLAP;
+    }
     return BY_PROCESSOR(numbered_decoder_read, input_len,
                         (number, decoder, from, input_len, to, output_len, written));
 }
@@ -441,6 +483,9 @@ de_status de_encoding_decoder_read(const de_encoding *encoding, de_decoder *deco
     }
     if (!is_held(encoding)) {
         return DE_NO_ENCODING;
+    }
+    if (overlap(from, input_len, to, output_len)) {
+        return DE_OVERLAP;
     }
     return BY_PROCESSOR(custom_decoder_read, input_len,
                         (encoding->tables, decoder, from, input_len, to, output_len, written));
@@ -568,6 +613,9 @@ de_status de_encoder_read(de_number number, de_encoder *encoder, const void *inp
     if (encoder == NULL || from == NULL || to == NULL || written == NULL) {
         return DE_NULL_POINTER;
     }
+    if (overlap(from, input_len, to, output_len)) {
+        return DE_OVERLAP;
+    }
     return BY_PROCESSOR(numbered_encoder_read, input_len,
                         (number, encoder, from, input_len, to, output_len, written));
 }
@@ -602,6 +650,9 @@ de_status de_encoding_encoder_read(const de_encoding *encoding, de_encoder *enco
     }
     if (!is_held(encoding)) {
         return DE_NO_ENCODING;
+    }
+    if (overlap(from, input_len, to, output_len)) {
+        return DE_OVERLAP;
     }
     return BY_PROCESSOR(custom_encoder_read, input_len,
                         (encoding->tables, encoder, from, input_len, to, output_len, written));

@@ -5,7 +5,8 @@
  *
  * The caller must ensure the following, which no call checks:
  * - A pointer points to as many bytes as the length after it, or to a value of its type.
- * - Memory that a call writes to does not overlap any other argument.
+ * - Memory that a call writes to does not overlap any other argument, except that an output may
+ *   overlap the input: DE_OVERLAP refuses it.
  * - Nothing else writes to an argument while the call runs.
  * - A de_encoding was made by de_encoding_new or de_encoding_read, or is a copy of such a value.
  *
@@ -19,7 +20,7 @@
  *
  * The library is for Linux with glibc, on x86-64 (x86-64-v2 or newer) and 64-bit ARM (ARMv8-A or
  * newer). On x86-64-v3 it uses calls made for that level. On an older x86-64 processor a call ends
- * the program with an illegal instruction, since no call tests for it.
+ * the program with an illegal instruction, except those that return texts: de_is_supported tells.
  */
 #ifndef DATA_ENCODING_H
 #define DATA_ENCODING_H
@@ -81,6 +82,11 @@ extern "C" {
 DE_EXPORT
 const char *de_version(void);
 
+/* Returns true if the processor has x86-64-v2, or is for 64-bit ARM. It runs on any processor, and
+ * no other call tests for this. */
+DE_EXPORT DE_NODISCARD
+bool de_is_supported(void);
+
 /* The greatest length of data that one call encodes, and of a text that one call decodes. */
 #define DE_ENCODE_LIMIT (SIZE_MAX / 512)
 #define DE_DECODE_LIMIT (SIZE_MAX / 8)
@@ -104,6 +110,9 @@ enum {
     /* The output is too short. de_encode_len writes the length that a text needs, and de_decode the
      * length that its data needs. */
     DE_SHORT_BUFFER = 4,
+
+    /* The output overlaps the input. The calls that encode, decode or read a piece check this. */
+    DE_OVERLAP = 5,
 
     /* No valid text has this length. */
     DE_INVALID_LENGTH = 6,
