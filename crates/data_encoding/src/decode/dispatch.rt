@@ -2,7 +2,7 @@
 
 ghost use Rattle.std.specs.Prelude.{◌≡◌};
 ghost use Rattle.data_encoding_meaning.specs.text.Base.{IsWidth};
-ghost use Rattle.data_encoding.specs.Endings.{HasBegun, HasReachedTo};
+ghost use Rattle.data_encoding.specs.Endings.{FindsSymbols, HasBegun, HasReachedTo};
 ghost use Rattle.data_encoding.specs.Progress.{HasExactOutput, IsCodedIn};
 ghost use Rattle.data_encoding.specs.Steps.{HasEnded};
 

@@ -7,7 +7,10 @@ use Rattle.data_encoding.proofs.encoding.EncodingRef.decode_eights.Goals as goal
 pub decode_iterations-groups-requires : goal.decode_iterations-groups-requires
 decode_iterations-groups-requires g c =
     let width = joins-width c.requires.join in
-    record { room = omega (arith, room-all width (start-reached width c.requires.exact)) }
+    record {
+      finds = c.requires.finds;
+      room = omega (arith, room-all width (start-reached width c.requires.exact));
+    }
 
 pub returns : goal.returns
 returns g c =

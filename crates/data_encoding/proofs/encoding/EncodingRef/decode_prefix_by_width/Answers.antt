@@ -1,4 +1,4 @@
-use Rattle.std.proofs.Common.{◌≡◌, ℕ, List, ◌≤◌, length, take, sym, ap, ◌∙◌, arith, length-take-le, inr}
+use Rattle.std.proofs.Common.{◌≡◌, ℕ, List, ◌≤◌, length, take, refl, sym, ap, ◌∙◌, arith, length-take-le, inr}
 use Rattle.data_encoding_meaning.specs.text.Base.{Base, group_symbols}
 use Rattle.data_encoding_meaning.specs.decoding.Decoding.{valid_front}
 use Rattle.data_encoding_meaning.specs.text.Lengths.{greatest_valid_length}
@@ -25,7 +25,7 @@ returns-in-Ok g c =
     let few : length (valid_front seen rest) ≤ group_symbols seen.width = omega arith in
     let sound = rw (front seen rest value c.greatest_valid_length-len.ensures.most)
     at c.in-Ok.ensures.sound in
-    let width = c.WIDTH.ensures ∙ sym c.requires.width in
+    let width = c.WIDTH-in-Ok.ensures ∙ sym c.requires.width in
     let room = room-symbols width sound.within (c.requires.room few) in (
       omega arith,
       inr (omega arith, few, c.in-Ok.count, sound, cc),
@@ -65,7 +65,7 @@ pub overflow_mul-result : goal.overflow_mul-result
 overflow_mul-result g c =
     let len = c.greatest_valid_length-len.result in
     let taken = length-take-le len c.args.rest.now c.greatest_valid_length-len.ensures.most in
-    let few = few-bits g.G.GroupSize.is_group c.WIDTH.ensures c.in-Ok.count
+    let few = few-bits g.G.GroupSize.is_group c.WIDTH-in-Ok.ensures c.in-Ok.count
     (omega (arith, c.in-Ok.ensures.sound.within)) in
     record { fits = omega (arith, few) }
 
@@ -73,9 +73,14 @@ pub decode_group-requires-clause-entries : goal.decode_group-requires-clause-ent
 decode_group-requires-clause-entries g c =
     record {
       reads = Reads-seen _ c.self.invariant c.args.self.now c.self.view_is g.G.GroupSize.WIDTH
-          c.order.result c.requires.width cc;
+          c.of-2.result.now.order c.requires.width
+          (ap (λ (base : Base). base.order) (sym c.self.view_is) ∙ sym c.order.ensures
+          ∙ sym c.of-2.ensures.same.0);
       held = c.of.ensures;
-      ignored = c.of-2.ensures c.args.self.now
+      join = c.of-2.ensures.join;
+      width_is = c.of-2.ensures.same.1 ∙ c.WIDTH.ensures;
+      order_is = refl;
+      ignored = c.of-3.ensures c.args.self.now
           (HoldsValues-seen _ c.self.invariant c.args.self.now c.self.view_is)
           (ascii-seen _ c.self.invariant c.args.self.now c.self.view_is);
     }
