@@ -59,15 +59,18 @@ alarms() {
         done | sort
 }
 
-# plant EDIT: makes an edit in "$room/wrong". The text that it replaces is there once.
+# plant EDIT: makes an edit in "$room/wrong". The text that it replaces is there once, in the function that
+# the name of the edit begins with.
 plant() {
     python3 - "$1" "$room/wrong/data_encoding.c" <<'END'
-import sys
+import os, re, sys
 edit, path = sys.argv[1:]
 old, new = (line.split(": ", 1)[1] for line in open(edit).read().splitlines()[1:])
 text = open(path).read()
-assert text.count(old) == 1
-open(path, "w").write(text.replace(old, new))
+name = os.path.basename(edit).split("-")[0]
+body = re.search(r"^\w[^\n]*\b%s\([^;{]*\{\n.*?^\}\n" % name, text, re.DOTALL | re.MULTILINE)
+assert body[0].count(old) == 1
+open(path, "w").write(text[:body.start()] + body[0].replace(old, new) + text[body.end():])
 END
 }
 
@@ -97,7 +100,7 @@ wp "$room/wrong" -wp-fct "${functions#,}" -wp-prop=@ensures -wp-par 1 -wp-timeou
     >"$room/edits"
 for edit in "$crate"/contracts/must-fail/*.edit; do
     name=$(basename "$edit" .edit)
-    holds "$name is refused" grep -qE "^${name%%-*}_((call|none|null|long_name)_)?ensures" \
+    holds "$name is refused" grep -qE "^${name%%-*}_((call|none|null|overlap|long_name)_)?ensures" \
         <(not_proved "$room/edits")
 done
 

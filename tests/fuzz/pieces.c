@@ -123,8 +123,10 @@ static void check_data(const struct by *by, struct words cuts, const uint8_t *by
     size_t done = 0;
     size_t at = 0;
     const void *data = copy_at_end(&input, bytes, len);
-    LAW("the text of the whole", encode(&builds[0], by, data, len, fresh(&output, 9 * len + 600),
-                                        9 * len + 600, &text_len) == DE_OK);
+    size_t room = 0;
+    LAW("the length of the whole", encode_len(by, len, &room) == DE_OK);
+    LAW("the text of the whole",
+        encode(&builds[0], by, data, len, fresh(&output, room), room, &text_len) == DE_OK);
     LAW("an encoder", de_encoder_new(&encoder) == DE_OK);
     while (at < len) {
         size_t piece = cuts.left == 0 ? len - at : next_len(&cuts, len - at);

@@ -18,26 +18,46 @@
     Does(\old(by), \old(*state), \old(BYTES(output, output_len)), BYTES(output, output_len), \
         \old(*new), *new, \result)
 
-/* Three cases: a pointer is missing, the encoding was not made, or the call is an export's. */
+/* The cases, in their order: a pointer is missing, the encoding was not made, the output overlaps the
+ * input, or the call is an export's. */
 #define REFUSES(no_pointer) \
     terminates yes; exits no; \
     behavior null: \
       assumes no_pointer; \
       assigns \nothing; \
       ensures \result == DE_NULL_POINTER;
-#define CALL_UNLESS(no_pointer) \
-    REFUSES(no_pointer) \
-    behavior call: \
-      assumes !(no_pointer);
-#define CALL_IF_MADE(no_pointer) \
+#define REFUSES_UNMADE(no_pointer) \
     requires was_made(encoding); \
     REFUSES(encoding == \null || (no_pointer)) \
     behavior none: \
       assumes !(encoding == \null || (no_pointer)) && !marked(encoding); \
       assigns \nothing; \
-      ensures \result == DE_NO_ENCODING; \
+      ensures \result == DE_NO_ENCODING;
+#define IS_MADE(no_pointer) (!(encoding == \null || (no_pointer)) && marked(encoding))
+#define OVERLAPS overlaps(input, input_len, output, output_len)
+#define REFUSES_OVERLAP(otherwise) \
+    behavior overlap: \
+      assumes otherwise && OVERLAPS; \
+      assigns \nothing; \
+      ensures \result == DE_OVERLAP; \
     behavior call: \
-      assumes !(encoding == \null || (no_pointer)) && marked(encoding);
+      assumes otherwise && !OVERLAPS; \
+      requires input_len > DE_ENCODE_LIMIT ==> \
+        \separated(SPAN(input, input_len), SPAN(output, output_len));
+#define CALL_UNLESS(no_pointer) \
+    REFUSES(no_pointer) \
+    behavior call: \
+      assumes !(no_pointer);
+#define CALL_IF_MADE(no_pointer) \
+    REFUSES_UNMADE(no_pointer) \
+    behavior call: \
+      assumes IS_MADE(no_pointer);
+#define CONVERT_UNLESS(no_pointer) \
+    REFUSES(no_pointer) \
+    REFUSES_OVERLAP(!(no_pointer))
+#define CONVERT_IF_MADE(no_pointer) \
+    REFUSES_UNMADE(no_pointer) \
+    REFUSES_OVERLAP(IS_MADE(no_pointer))
 #define CASES complete behaviors; disjoint behaviors;
 #define VALUE(p) (p == \null || \valid(p))
 #define VALUE_READ(p) (p == \null || \valid_read(p))
@@ -47,6 +67,11 @@
   @ ensures valid_read_string(\result);
   @*/
 const char *de_version(void);
+/*@ terminates \true; exits \false;
+  @ assigns \result \from \nothing;
+  @ ensures \result <==> has_v2;
+  @*/
+bool de_is_supported(void);
 /*@ terminates \true; exits \false;
   @ assigns \result \from status;
   @ ensures valid_read_string(\result);
@@ -62,8 +87,9 @@ const char *de_status_text(de_status status);
 de_status de_encode_len(de_number number, size_t len, size_t *text_len);
 /*@ requires chosen;
   @ requires in_bytes(input, input_len) && out_bytes(output, output_len) && VALUE(written);
-  @ CALL_UNLESS(missing(input, input_len) || missing(output, output_len) || written == \null)
-  @   requires \separated(SPAN(input, input_len), SPAN(output, output_len), written);
+  @ CONVERT_UNLESS(missing(input, input_len) || missing(output, output_len) || written == \null)
+  @   requires \separated(SPAN(input, input_len), written);
+  @   requires \separated(SPAN(output, output_len), written);
   @   assigns ((byte *)output)[0 .. output_len - 1], *written;
   @   ensures CONVERTS(EncodesByNumber, number, written);
   @ CASES
@@ -79,8 +105,9 @@ de_status de_encode(de_number number, const void *input, size_t input_len, char 
 de_status de_decode_len(de_number number, size_t len, size_t *most);
 /*@ requires chosen;
   @ requires in_bytes(input, input_len) && out_bytes(output, output_len) && VALUE(decoded);
-  @ CALL_UNLESS(missing(input, input_len) || missing(output, output_len) || decoded == \null)
-  @   requires \separated(SPAN(input, input_len), SPAN(output, output_len), decoded);
+  @ CONVERT_UNLESS(missing(input, input_len) || missing(output, output_len) || decoded == \null)
+  @   requires \separated(SPAN(input, input_len), decoded);
+  @   requires \separated(SPAN(output, output_len), decoded);
   @   assigns ((byte *)output)[0 .. output_len - 1], *decoded;
   @   ensures CONVERTS(DecodesByNumber, number, decoded);
   @ CASES
@@ -192,8 +219,8 @@ de_status de_encoding_read(de_encoding *encoding, const void *layout, size_t len
 de_status de_encoding_encode_len(const de_encoding *encoding, size_t len, size_t *text_len);
 /*@ requires chosen;
   @ requires in_bytes(input, input_len) && out_bytes(output, output_len) && VALUE(written);
-  @ CALL_IF_MADE(missing(input, input_len) || missing(output, output_len) || written == \null)
-  @   requires \separated(SPAN(input, input_len), SPAN(output, output_len), written);
+  @ CONVERT_IF_MADE(missing(input, input_len) || missing(output, output_len) || written == \null)
+  @   requires \separated(SPAN(input, input_len), written);
   @   requires \separated(encoding, SPAN(output, output_len), written);
   @   assigns ((byte *)output)[0 .. output_len - 1], *written;
   @   ensures CONVERTS(Encodes, BASE, written);
@@ -211,8 +238,8 @@ de_status de_encoding_encode(const de_encoding *encoding, const void *input, siz
 de_status de_encoding_decode_len(const de_encoding *encoding, size_t len, size_t *most);
 /*@ requires chosen;
   @ requires in_bytes(input, input_len) && out_bytes(output, output_len) && VALUE(decoded);
-  @ CALL_IF_MADE(missing(input, input_len) || missing(output, output_len) || decoded == \null)
-  @   requires \separated(SPAN(input, input_len), SPAN(output, output_len), decoded);
+  @ CONVERT_IF_MADE(missing(input, input_len) || missing(output, output_len) || decoded == \null)
+  @   requires \separated(SPAN(input, input_len), decoded);
   @   requires \separated(encoding, SPAN(output, output_len), decoded);
   @   assigns ((byte *)output)[0 .. output_len - 1], *decoded;
   @   ensures CONVERTS(Decodes, BASE, decoded);
@@ -249,9 +276,10 @@ de_status de_decoder_most(de_number number, const de_decoder *decoder, size_t le
 /*@ requires chosen;
   @ requires in_bytes(input, input_len) && out_bytes(output, output_len);
   @ requires VALUE(decoder) && VALUE(written);
-  @ CALL_UNLESS(decoder == \null || missing(input, input_len) ||
+  @ CONVERT_UNLESS(decoder == \null || missing(input, input_len) ||
   @     missing(output, output_len) || written == \null)
-  @   requires \separated(SPAN(input, input_len), SPAN(output, output_len), decoder, written);
+  @   requires \separated(SPAN(input, input_len), decoder, written);
+  @   requires \separated(SPAN(output, output_len), decoder, written);
   @   assigns ((byte *)output)[0 .. output_len - 1], *decoder, *written;
   @   ensures READS(ReadsPieceByNumber, number, decoder);
   @ CASES
@@ -279,9 +307,9 @@ de_status de_encoding_decoder_most(const de_encoding *encoding, const de_decoder
 /*@ requires chosen;
   @ requires in_bytes(input, input_len) && out_bytes(output, output_len);
   @ requires VALUE(decoder) && VALUE(written);
-  @ CALL_IF_MADE(decoder == \null || missing(input, input_len) ||
+  @ CONVERT_IF_MADE(decoder == \null || missing(input, input_len) ||
   @     missing(output, output_len) || written == \null)
-  @   requires \separated(SPAN(input, input_len), SPAN(output, output_len), decoder, written);
+  @   requires \separated(SPAN(input, input_len), decoder, written);
   @   requires \separated(encoding, SPAN(output, output_len), decoder, written);
   @   assigns ((byte *)output)[0 .. output_len - 1], *decoder, *written;
   @   ensures READS(ReadsPieceByCustom, TABLES, decoder);
@@ -381,9 +409,10 @@ de_status de_encoder_most(de_number number, const de_encoder *encoder, size_t le
 /*@ requires chosen;
   @ requires in_bytes(input, input_len) && out_bytes(output, output_len);
   @ requires VALUE(encoder) && VALUE(written);
-  @ CALL_UNLESS(encoder == \null || missing(input, input_len) ||
+  @ CONVERT_UNLESS(encoder == \null || missing(input, input_len) ||
   @     missing(output, output_len) || written == \null)
-  @   requires \separated(SPAN(input, input_len), SPAN(output, output_len), encoder, written);
+  @   requires \separated(SPAN(input, input_len), encoder, written);
+  @   requires \separated(SPAN(output, output_len), encoder, written);
   @   assigns ((byte *)output)[0 .. output_len - 1], *encoder, *written;
   @   ensures READS(EncodesPieceByNumber, number, encoder);
   @ CASES
@@ -411,9 +440,9 @@ de_status de_encoding_encoder_most(const de_encoding *encoding, const de_encoder
 /*@ requires chosen;
   @ requires in_bytes(input, input_len) && out_bytes(output, output_len);
   @ requires VALUE(encoder) && VALUE(written);
-  @ CALL_IF_MADE(encoder == \null || missing(input, input_len) ||
+  @ CONVERT_IF_MADE(encoder == \null || missing(input, input_len) ||
   @     missing(output, output_len) || written == \null)
-  @   requires \separated(SPAN(input, input_len), SPAN(output, output_len), encoder, written);
+  @   requires \separated(SPAN(input, input_len), encoder, written);
   @   requires \separated(encoding, SPAN(output, output_len), encoder, written);
   @   assigns ((byte *)output)[0 .. output_len - 1], *encoder, *written;
   @   ensures READS(EncodesPieceByCustom, TABLES, encoder);

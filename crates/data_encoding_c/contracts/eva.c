@@ -121,11 +121,17 @@ int main(void) {
     choose();
 #endif
     (void)de_version();
+    (void)de_is_supported();
     (void)de_status_text((de_status)any);
     // Every pointer, and bytes of any length.
     calls(data, up_to(MOST), room, up_to(MOST), &size, &other, &decoded_room, &answer_room,
           &found_room, &encoding_room, &decoder_room, &encoder_room, &asked_room, &given_room,
           texts_room, up_to(DE_TEXTS_LIMIT));
+    // An output that is the input.
+    size_t bytes = up_to(MOST - 1) + 1;
+    calls(data, bytes, data, bytes, &size, &other, &decoded_room, &answer_room, &found_room,
+          &encoding_room, &decoder_room, &encoder_room, &asked_room, &given_room, texts_room,
+          up_to(DE_TEXTS_LIMIT));
     // No bytes.
     calls(NULL, 0, NULL, 0, &size, NULL, &decoded_room, &answer_room, &found_room, &encoding_room,
           &decoder_room, &encoder_room, &asked_room, &given_room, NULL, 0);

@@ -18,6 +18,11 @@ static const byte *in(const void *bytes, size_t len);
   @ ensures bytes == \null ==> \result == \null || \result == &no_room[0];
   @*/
 static byte *out(void *bytes, size_t len);
+/*@ terminates \true; exits \false;
+  @ assigns \result \from from, from_len, to, to_len;
+  @ ensures \result <==> overlaps(from, from_len, to, to_len);
+  @*/
+static bool overlap(const byte *from, size_t from_len, const byte *to, size_t to_len);
 /*@ requires \valid_read(encoding);
   @ terminates \true; exits \false;
   @ assigns \result \from encoding->made[0 .. 7];

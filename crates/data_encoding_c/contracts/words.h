@@ -54,6 +54,13 @@
   @ predicate slice{L}(byte *p, integer n) = p != \null && \valid_read(p + (0 .. n - 1));
   @ predicate slice_mut{L}(byte *p, integer n) = p != \null && \valid(p + (0 .. n - 1));
   @
+  @ // The addresses of the bytes at p and of those at q have one in common. More than
+  @ // DE_ENCODE_LIMIT bytes at p are not compared.
+  @ logic integer address(void *p) = (uintptr_t)p;
+  @ predicate overlaps(void *p, integer n, void *q, integer m) =
+  @   0 < n <= DE_ENCODE_LIMIT && 0 < m &&
+  @   (address(p) <= address(q) < address(p) + n || address(q) <= address(p) < address(q) + m);
+  @
   @ predicate marked{L}(de_encoding *encoding) =
   @   \forall integer i; 0 <= i < 8 ==> encoding->made[i] == made_mark[i];
   @ // What the header asks of a de_encoding: one with the mark was made by a call.
@@ -61,10 +68,23 @@
   @   encoding != \null ==> \valid_read(encoding) &&
   @   (marked(encoding) ==> KeepsRules(bytes_at(&encoding->tables[0], DE_TABLES)));
   @*/
+/* Bytes without a common address are separate memory. Assumed: WP does not know addresses. */
+/*@ axiomatic Addresses {
+  @   axiom apart{L}: \forall byte *p, *q, integer n, m;
+  @     \valid_read(p + (0 .. n - 1)) && \valid(q + (0 .. m - 1)) && n <= DE_ENCODE_LIMIT &&
+  @     !overlaps(p, n, q, m) ==> \separated(p + (0 .. n - 1), q + (0 .. m - 1));
+  @ }
+  @*/
 #ifdef DE_WIDE
 /*@ predicate chosen{L} = is_wide ==> has_v3(0); */
 #else
 /*@ predicate chosen{L} = \true; */
+#endif
+
+#ifdef __x86_64__
+/*@ predicate has_v2 = has_leaf(1) && (leaf_c(1) & V2) == V2; */
+#else
+/*@ predicate has_v2 = \true; */
 #endif
 
 /* Abbreviations. */

@@ -111,7 +111,8 @@ enum {
      * length that its data needs. */
     DE_SHORT_BUFFER = 4,
 
-    /* The output overlaps the input. The calls that encode, decode or read a piece check this. */
+    /* The output overlaps the input. The calls that encode, decode or read a piece check this, for an
+     * input of at most DE_ENCODE_LIMIT bytes. */
     DE_OVERLAP = 5,
 
     /* No valid text has this length. */
