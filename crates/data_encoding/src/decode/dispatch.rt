@@ -64,7 +64,6 @@ impl EncodingRef<'_> {
 
     /// Decodes the bytes of a text after those read, up to the first fault, and returns whether
     /// there is none.
-    #[inline(always)]
     pub(crate) fn decode_by_order(&self, input: &[u8], output: &mut [u8], stop: &mut Stop) -> bool
         requires at { HasReachedTo self.now input.now stop.old.read stop.old.written output.old }
         ensures { HasEnded self.now input.now output.new stop.new result }
@@ -80,7 +79,6 @@ impl EncodingRef<'_> {
     }
 
     /// Makes the width and the sizes of a group constants.
-    #[inline(always)]
     fn decode_by_width<O: ConstantOrder>(
         &self,
         input: &[u8],
