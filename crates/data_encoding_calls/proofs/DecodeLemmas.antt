@@ -67,6 +67,12 @@ status-short fault len room is misses =
     sym (ap (λ (found : Option DecodeError). status_by_room found len room) is
     ∙ ap (λ (short : Bool). if short then short_buffer else ok) (lt-ltb room len misses))
 
+pub status-fits : (fault : Option DecodeError) (len room : ℕ) → fault ≡ None → len ≤ room
+    → ok ≡ status_by_room fault len room
+status-fits fault len room is fits =
+    sym (ap (λ (found : Option DecodeError). status_by_room found len room) is
+    ∙ ap (λ (short : Bool). if short then short_buffer else ok) (le-ltb room len fits))
+
 div-grows : (k m n : ℕ) → m ≤ n → m / k ≤ n / k
 div-grows zero m n few = omega (arith, div-zero m, div-zero n)
 div-grows (suc k) m n few =

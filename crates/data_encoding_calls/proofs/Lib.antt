@@ -1,5 +1,6 @@
 mod DecodeLemmas
 mod FitLemmas
+mod TwoTextLemmas
 pub mod NumberLemmas
 mod NameLemmas
 pub mod DecoderStateLemmas

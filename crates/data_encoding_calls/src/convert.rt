@@ -10,7 +10,7 @@ ghost use Rattle.data_encoding.specs.Partial.{partial_of};
 ghost use Rattle.data_encoding.specs.Text.{text_of};
 ghost use Rattle.data_encoding_calls.specs.Calls.{decode_len_status, decode_status, encode_len_status, encode_status, over, status_by_room, StopsAtFault};
 
-use crate::short_output::decode_and_count;
+use crate::short_output::{decode_and_count, decode_in_two};
 use crate::status::{OK, SHORT_BUFFER, TOO_LONG, status_of_kind};
 use data_encoding::laws::sound_text;
 use data_encoding::{DECODE_LIMIT, DecodeError, DecodePartial, ENCODE_LIMIT, EncodingRef};
@@ -202,6 +202,14 @@ fn decode_to_fit(
     ensures len { length output.new ≡ length output.old }
 {
     sound_text();
+    if let Some(written) = decode_in_two(encoding, input, output) {
+        *decoded = Decoded {
+            read: input.len(),
+            written,
+            position: input.len(),
+        };
+        return OK;
+    }
     let (needed, verdict) = decode_and_count(encoding, input, output);
     let (read, written, position, status) = match verdict {
         Ok(()) if needed <= output.len() => (input.len(), needed, input.len(), OK),

@@ -1,9 +1,10 @@
 //! Decoding to an output that may be too short.
 
-ghost use Rattle.std.specs.Prelude.{◌≡◌, ◌+◌, ◌≤◌, ◌++◌, length, take};
+ghost use Rattle.std.specs.Prelude.{◌≡◌, ◌+◌, ◌≤◌, ◌++◌, length, take, IfSome, IsSome};
 ghost use Rattle.data_encoding.specs.declared.decode.TheConstants.{DECODE_LIMIT};
 ghost use Rattle.data_encoding.specs.Fault.{fault_of, sound_bytes};
 ghost use Rattle.data_encoding.specs.Fields.{IsSpecified};
+ghost use Rattle.data_encoding.specs.Grammar.{Means};
 ghost use Rattle.encoding_stream.specs.BufferDecoder.{verdict_of};
 
 use data_encoding::{DECODE_LIMIT, DecodeError, EncodingRef};
@@ -16,6 +17,12 @@ const PIECE: usize = 512;
 
 /// The room for the data of a piece: at most seven bytes more.
 const ROOM: usize = PIECE + 8;
+
+/// The greatest length of the last part of a text: whole groups of every width.
+const END: usize = 16;
+
+/// The room for the data of the last part: each symbol has at most six bits.
+const END_ROOM: usize = 12;
 
 /// Decodes the text `input` to the start of `output`, if the data fits.
 ///
@@ -49,6 +56,50 @@ pub(crate) fn decode_and_count(
     let (count, verdict) = decoder.finish(&mut buffer);
     write_if_fits(output, needed, &buffer[..count]);
     (needed + count, verdict)
+}
+
+/// Decodes the text `input` to the start of `output` in two parts, and returns the length of the
+/// data.
+///
+/// Returns `None` if a part has a fault, if the first has padding, if the data does not fit, or if
+/// the encoding ignores bytes. `output` is then unspecified.
+// Two calls of `decode_mut` take less time than a `BufferDecoder`. Each needs an output of exactly
+// the length that its text may mean, and only at the end of a text is the data shorter.
+pub(crate) fn decode_in_two(
+    encoding: &EncodingRef<'_>,
+    input: &[u8],
+    output: &mut [u8],
+) -> Option<usize>
+    requires limit { length input.now ≤ DECODE_LIMIT }
+    ensures means { IfSome result (λ written. Means encoding.now input.now
+        (take written output.new)) }
+    ensures fits { IfSome result (λ written. written ≤ length output.new) }
+    ensures specified { IsSome result → IsSpecified encoding.now }
+    ensures len { length output.new ≡ length output.old }
+{
+    if encoding.ignores_bytes() {
+        return None;
+    }
+    let (front, end) = input.split_at(input.len().saturating_sub(1) / END * END);
+    let (Ok(start), Ok(most)) = (encoding.decode_len(front.len()), encoding.decode_len(end.len()))
+    else {
+        return None;
+    };
+    if output.len() < start {
+        return None;
+    }
+    let Ok(written) = encoding.decode_mut(front, &mut output[..start]) else {
+        return None;
+    };
+    let mut buffer = [0; END_ROOM];
+    let Ok(count) = encoding.decode_mut(end, &mut buffer[..most]) else {
+        return None;
+    };
+    if written < start || output.len() - start < count {
+        return None;
+    }
+    write_if_fits(output, start, &buffer[..count]);
+    Some(start + count)
 }
 
 /// Writes `bytes` to `output` from index `start` on, if they fit.
