@@ -1,5 +1,4 @@
 -- The steps of a decoding.
-pub mod TrailingBitLemmas
 pub mod OutputLemmas
 pub mod StepLemmas
 pub mod ReadGroupLemmas

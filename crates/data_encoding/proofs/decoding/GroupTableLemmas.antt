@@ -1,10 +1,12 @@
 -- The results of judging a group by a table: its symbols, its fault, or its bytes.
-use Rattle.std.proofs.Common.{◌≡◌, ℕ, zero, suc, ◌-◌, ◌+◌, ◌*◌, ◌/◌, ◌<◌, ◌≤◌, ◌==◌, ◌≢◌, nat_lt, Bool, true, false, not, ◌&&◌, List, [], ◌∷◌, ◌++◌, length, map, take, drop, replicate, slice_index, None, refl, sym, ap, subst, ◌∙◌, arith, length-take-le, take-append-drop, ⊎_elim}
+use Rattle.std.proofs.Common.{◌≡◌, ℕ, zero, suc, ◌-◌, ◌+◌, ◌*◌, ◌/◌, ◌<◌, ◌≤◌, ◌==◌, ◌≢◌, nat_lt, Some, Bool, true, false, not, ◌&&◌, List, [], ◌∷◌, ◌++◌, length, map, take, drop, replicate, slice_index, None, refl, sym, ap, subst, ◌∙◌, arith, length-take-le, take-append-drop, ⊎_elim}
 use Rattle.std.proofs.lemmas.Bool.{cases_lt}
 use Rattle.std.proofs.lemmas.Bool.Decides.{nat_tests}
 use Rattle.std.proofs.lemmas.List.{drop-map, drop_all, get_or-drop, length-drop, length-map, take-map}
 use Rattle.std.proofs.lemmas.List.Folds.{list_any-append}
-use Rattle.std.specs.List.{filter_map, list_any, position}
+use Rattle.std.proofs.lemmas.List.Sums.{position_or_len_is}
+use Rattle.std.proofs.Math.ListN.{get_or-map}
+use Rattle.std.specs.List.{filter_map, list_any, position, prefix_len}
 use Rattle.data_encoding_meaning.specs.declared.encoding.Character.{Character}
 use Rattle.data_encoding_meaning.specs.declared.encoding.Character.TheVariants.{Symbol, Ignored, Invalid, Padding as PaddingCharacter}
 use Rattle.data_encoding_meaning.specs.declared.error.DecodeKind.TheVariants.{Symbol as SymbolFault, Trailing as TrailingFault}
@@ -17,8 +19,42 @@ use Rattle.data_encoding_meaning.proofs.lists.EndLemmas.{AllSo, count_before_end
 use Rattle.data_encoding_meaning.proofs.lists.ListLemmas.{list_any-none}
 use Rattle.data_encoding_meaning.proofs.grammar.GroupLemmas.{all_padding, any_padding, bytes_before_padding, symbols_alone}
 use Rattle.data_encoding_meaning.proofs.grammar.UnpaddedGroupLemmas.{are_symbols}
-use Rattle.data_encoding.proofs.decoding.TrailingBitLemmas.{no_symbol-none, no_symbol-some}
 use Rattle.data_encoding_meaning.proofs.decoding.GroupJudgementLemmas.{HasFault-own, part_bytes}
+
+-- The first byte that is not a symbol.
+module _ (base : Base) (values : List ℕ) (holds : HoldsValues base values) where
+  -- This many bytes are symbols, and the next, if there is one, is not.
+  record StopsAfter (group : List ℕ) (index : ℕ) : Type 0 where
+    pub are_bytes : (k : ℕ) → slice_index group k < 256
+    pub before : (k : ℕ) → k < index → slice_index values (slice_index group k) < 128
+    pub inside : index ≤ length group
+    pub there : index < length group → 128 ≤ slice_index values (slice_index group index)
+
+  symbols_len : (group : List ℕ) (index : ℕ) → StopsAfter group index
+      → prefix_len (λ m. not (not (is_symbol m))) (map (meaning base) group) ≡ index
+  symbols_len group index s =
+      position_or_len_is (λ m. not (is_symbol m)) (map (meaning base) group) index (meaning base 0)
+      (rw (length-map group (meaning base)) s.inside)
+      (λ k less. rw (get_or-map (meaning base) group k 0)
+      (ap (λ m. not (is_symbol m))
+      (holds.symbols (slice_index group k) (s.are_bytes k) (s.before k less))))
+      (λ inside. rw (get_or-map (meaning base) group index 0)
+      (ap not (holds.others (slice_index group index) (s.are_bytes index)
+      (s.there (rw (length-map group (meaning base)) at inside)))))
+
+  module _ (group : List ℕ) where
+    -- if each byte is a symbol none is found
+    no_symbol-none : StopsAfter group (length group)
+        → position (λ m. not (is_symbol m)) (map (meaning base) group) ≡ None
+    no_symbol-none s =
+        rw (symbols_len group (length group) s, length-map group (meaning base))
+        (grind (arith, nat_tests))
+
+    -- or else the first that is none
+    no_symbol-some : (index : ℕ) → StopsAfter group index → index < length group
+        → position (λ m. not (is_symbol m)) (map (meaning base) group) ≡ Some index
+    no_symbol-some index s h =
+        rw (symbols_len group index s, length-map group (meaning base)) (grind (arith, nat_tests))
 
 -- where the padding of a group starts, by its table
 pub count-before : (base : Base) (values : List ℕ) → HoldsValues base values → (group : List ℕ)
@@ -118,7 +154,7 @@ module _ (base : Base) (values : List ℕ) (holds : HoldsValues base values) (gr
       subst (λ m. IsFront base group m bytes)
       (omega (arith, enough, front-few n within front.are_symbols)) front
 
-  -- the first that is no symbol is the fault
+  -- the first that is not a symbol is the fault
   pub symbol-fault : (index : ℕ) → index < length symbols
       → ((k : ℕ) → k < index → slice_index values (slice_index symbols k) < 128)
       → 128 ≤ slice_index values (slice_index symbols index)

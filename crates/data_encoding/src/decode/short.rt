@@ -241,7 +241,7 @@ impl EncodingRef<'_> {
         ensures { IsTrue result → kept self.now rest.now ≡ [] }
     {
         for index in 0..rest.len() {
-            // The table is read at a byte that is no symbol only, so no address depends on a symbol.
+            // The table is read only at a byte that is not a symbol, so no address depends on a symbol.
             let is_other = (others >> index) % 2 == 1;
             if !is_other || self.fields.values.entries[rest[index] as usize] != IGNORED {
                 return false;
