@@ -3,7 +3,7 @@ pub mod OutputLemmas
 pub mod StepLemmas
 pub mod ReadGroupLemmas
 pub mod PlacingLemmas
-pub mod GroupTableLemmas
+pub mod JudgedGroupLemmas
 pub mod FrontLemmas
 pub mod ShortLemmas
 pub mod LastGroupLemmas

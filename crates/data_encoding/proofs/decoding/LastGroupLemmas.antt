@@ -33,11 +33,12 @@ use Rattle.data_encoding_kernel.specs.declared.simd.decode.last_symbols.Front.{F
 use Rattle.data_encoding.specs.Endings.{EndsAfter, HasBegun, HasReachedTo, IsFrontOf, IsPaddedBy}
 use Rattle.data_encoding.specs.Groups.{NoneIgnored}
 use Rattle.data_encoding.proofs.decoding.FrontLemmas.{AreSymbols, all_symbols, first-few, front-bytes, front-run, front-trailing}
+use Rattle.data_encoding.proofs.decoding.JudgedGroupLemmas.{symbols-bytes, symbols-sound}
 use Rattle.data_encoding.proofs.decoding.ReadGroupLemmas.{plain-at, plain-bytes, plain-sound}
 use Rattle.data_encoding.proofs.decoding.ShortLemmas.{run-reached}
 use Rattle.data_encoding.proofs.decoding.StepLemmas.{IsUnderWay, decoded, decoded-all, room-group_of, under_way}
 
--- a symbol is no padding
+-- a symbol is not padding
 symbol-plain : (m : Character) → is_symbol m ≡ true → is_padding m ≡ false
 symbol-plain (Symbol value) h = refl
 symbol-plain PaddingCharacter h = cc
@@ -208,41 +209,6 @@ begun-reached {base} width {text} {read = read} at index kind true all =
     at.exact at.so_far)
     (omega (arith, eqb-true (length text - read) 0 all))
 begun-reached width at index kind false more = at
-
--- A group with this many symbols, each of which is one.
-module _ (base : Base) (group : List ℕ) (count : ℕ) (has : HasSymbols base group count)
-    (symbols : AreSymbols (map (meaning base) (take count group))) where
-  abbrev judged : List Character
-  judged = map (meaning base) (take count group)
-
-  abbrev all : List Character
-  all = map (meaning base) group
-
-  no_symbol : position (λ m. not (is_symbol m)) judged ≡ None
-  no_symbol = position-none (λ m. not (is_symbol m)) judged symbols
-
-  -- it has no fault if its trailing bits are zeros, or not checked
-  pub symbols-sound : (base.checks_trailing_bits
-      && list_any (λ bit. not (bit == 0)) (trailing_bits base judged)) ≡ false
-      → group_fault base group ≡ None
-  symbols-sound quiet = has.fault_is ∙ rw (no_symbol, quiet) refl
-
-  rest_pads : AllSo is_padding (drop count all)
-  rest_pads = by (is_padded base) refl where
-    by : (b : Bool) → is_padded base ≡ b → AllSo is_padding (drop count all)
-    by true is = rw (has.count_is, is) (end-passes is_padding all)
-    by false is =
-        let few : length all ≤ length group = omega (arith, length-map group (meaning base)) in
-        rw (has.count_is, is, drop_all (length group) all few) tt
-
-  later : all ≡ judged ++ replicate (length (drop count all)) PaddingCharacter
-  later =
-      sym (take-append-drop count all)
-      ∙ (λ i. take-map (meaning base) count group i ++ all_padding (drop count all) rest_pads i)
-
-  -- the padding means no bytes
-  pub symbols-bytes : symbol_bytes base all ≡ symbol_bytes base judged
-  symbols-bytes = rw later (bytes_before_padding base judged (length (drop count all)))
 
 module _ {base : Base} (width : IsWidth base.width) {text output : List ℕ} {read written : ℕ}
     (at : HasReachedTo base text read written output) {front : Front}
