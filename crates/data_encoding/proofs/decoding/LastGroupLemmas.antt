@@ -1,12 +1,12 @@
 -- The end of a text: the last symbols, the padding of their group, and ignored bytes.
-use Rattle.std.proofs.Common.{◌≡◌, ℕ, suc, ◌+◌, ◌-◌, ◌*◌, ◌/◌, ◌%◌, ◌<◌, ◌≤◌, ◌==◌, ◌&&◌, ◌⊎◌, Bool, not, nat_lt, true, false, List, [], ◌∷◌, ◌++◌, length, map, take, drop, get_or, replicate, slice_index, None, refl, sym, ap, ◌∙◌, arith, subst, inl, inr, length-take-le, take-append-drop, ⊎_elim}
+use Rattle.std.proofs.Common.{◌≡◌, ℕ, suc, ◌+◌, ◌-◌, ◌*◌, ◌/◌, ◌%◌, ◌<◌, ◌≤◌, ◌==◌, ◌&&◌, ◌⊎◌, Bool, not, nat_lt, true, false, List, [], ◌∷◌, ◌++◌, length, map, take, drop, get_or, replicate, slice_index, None, refl, sym, ap, ◌∙◌, arith, subst, inl, inr, length-take-le, ⊎_elim}
 use Rattle.std.proofs.Math.Nat.{mul-le-mul_left}
 use Rattle.std.proofs.Math.Seq.{take-append-add}
 use Rattle.std.proofs.lemmas.Bool.{cases_lt, eqb-true, false≢true}
 use Rattle.std.proofs.lemmas.Bool.Decides.{nat_tests}
-use Rattle.std.proofs.lemmas.List.{append-nil, append_assoc, drop-drop, drop_all, get_or-drop, get_or-take, length-drop, length-map, take-append-le, take-map, take-take, take_at}
+use Rattle.std.proofs.lemmas.List.{append-nil, append_assoc, drop-drop, drop_all, get_or-drop, get_or-take, length-drop, length-map, take-append-le, take-take, take_at}
 use Rattle.std.proofs.lemmas.Nat.{div-add-mod', mul-le}
-use Rattle.std.specs.List.{list_any, position}
+use Rattle.std.specs.List.{list_any}
 use Rattle.data_encoding_meaning.specs.declared.encoding.Character.{Character}
 use Rattle.data_encoding_meaning.specs.declared.encoding.Character.TheVariants.{Symbol, Padding as PaddingCharacter, Ignored, Invalid}
 use Rattle.data_encoding_meaning.specs.declared.error.DecodeKind.{DecodeKind}
@@ -21,13 +21,11 @@ use Rattle.data_encoding_meaning.proofs.decoding.IgnoredFrontLemmas.{nothing-kep
 use Rattle.data_encoding_meaning.proofs.decoding.ProgressLemmas.{after-group}
 use Rattle.data_encoding_meaning.proofs.decoding.WholeLengthLemmas.{whole_bytes}
 use Rattle.data_encoding_meaning.proofs.digits.WidthLemmas.{by_width, group_symbols-pos}
-use Rattle.data_encoding_meaning.proofs.grammar.GroupLemmas.{all_padding, bytes_before_padding}
 use Rattle.data_encoding_meaning.proofs.grammar.JoinFaultLemmas.{valid_after}
 use Rattle.data_encoding_meaning.proofs.grammar.LengthLemmas.{decoded_len-counted, is_valid_length-by, length_fault-valid, whole_bits}
 use Rattle.data_encoding_meaning.proofs.grammar.PositionLemmas.{filter-plain, length-kept_plain, length-positioned_from}
 use Rattle.data_encoding_meaning.proofs.grammar.KeptLemmas.{kept-split}
-use Rattle.data_encoding_meaning.proofs.lists.EndLemmas.{AllSo, count_before_end-at, count_before_end-map, end-passes}
-use Rattle.data_encoding_meaning.proofs.lists.ListLemmas.{position-none}
+use Rattle.data_encoding_meaning.proofs.lists.EndLemmas.{count_before_end-at, count_before_end-map}
 use Rattle.data_encoding_kernel.specs.Fronts.{IsFront}
 use Rattle.data_encoding_kernel.specs.declared.simd.decode.last_symbols.Front.{Front}
 use Rattle.data_encoding.specs.Endings.{EndsAfter, HasBegun, HasReachedTo, IsFrontOf, IsPaddedBy}
@@ -360,8 +358,14 @@ module _ {base : Base} (width : IsWidth base.width) {text output : List ℕ} {re
       group-symbols =
           all_symbols base (take left group)
           (λ k less.
-          let inside : k < left = omega (arith, less, length-take-le left group (omega (arith,
-          group_len))) in
+          let inside : k < left = omega (
+            arith,
+            less,
+            length-take-le left group (omega (
+              arith,
+              group_len,
+            )),
+          ) in
           subst (λ byte. is_symbol (meaning base byte) ≡ true)
           (sym (get_or-take left group k 0 inside)) (symbol-at k inside))
 

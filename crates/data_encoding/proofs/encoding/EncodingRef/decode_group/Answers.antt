@@ -1,5 +1,4 @@
-use Rattle.std.proofs.Common.{◌≡◌, ℕ, ◌*◌, ◌/◌, ◌<◌, ◌≤◌, ◌==◌, false, not, length, map, take, slice_index, refl, sym, ap, ◌∙◌, subst, arith, length-take-le}
-use Rattle.std.proofs.lemmas.List.{get_or-take}
+use Rattle.std.proofs.Common.{◌≡◌, ℕ, ◌*◌, ◌/◌, ◌<◌, ◌==◌, false, not, map, take, slice_index, sym, ap, ◌∙◌, arith}
 use Rattle.std.specs.List.{list_any}
 use Rattle.data_encoding_kernel.specs.Fronts.{IsFront}
 use Rattle.data_encoding_meaning.specs.decoding.Fault.{trailing_bits}
