@@ -1,10 +1,9 @@
 -- The steps of a decoding.
-pub mod TrailingBitLemmas
 pub mod OutputLemmas
 pub mod StepLemmas
 pub mod ReadGroupLemmas
 pub mod PlacingLemmas
-pub mod GroupTableLemmas
+pub mod JudgedGroupLemmas
 pub mod FrontLemmas
 pub mod ShortLemmas
 pub mod LastGroupLemmas

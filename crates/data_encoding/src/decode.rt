@@ -10,14 +10,14 @@ pub(crate) mod packed;
 pub(crate) mod short;
 
 ghost use Rattle.std.specs.Prelude.{◌≡◌, true, ◌-◌, ◌<◌, ◌≤◌, length, take, drop, Ok};
-ghost use Rattle.data_encoding_meaning.specs.decoding.Decoding.{HasRoom, IsStop};
-ghost use Rattle.data_encoding.specs.Calls.{DecodesText, DecodesWhole};
-ghost use Rattle.data_encoding.specs.Endings.{HasReachedTo};
 ghost use Rattle.data_encoding_meaning.specs.text.Base.{IsWidth};
-ghost use Rattle.data_encoding.specs.Steps.{DecodesLastRun, fault_of_stop};
 ghost use Rattle.data_encoding_meaning.specs.text.Grammar.{kept};
 ghost use Rattle.data_encoding_meaning.specs.text.Lengths.{decoded_len};
+ghost use Rattle.data_encoding_meaning.specs.decoding.Decoding.{HasRoom, IsStop};
 ghost use Rattle.data_encoding_meaning.specs.decoding.Partial.{is_length_fault};
+ghost use Rattle.data_encoding.specs.Calls.{DecodesText, DecodesWhole};
+ghost use Rattle.data_encoding.specs.Endings.{HasReachedTo};
+ghost use Rattle.data_encoding.specs.Steps.{DecodesLastRun, fault_of_stop};
 
 use crate::decode::groups::Entries;
 use crate::encoding::{Encoding, EncodingRef};

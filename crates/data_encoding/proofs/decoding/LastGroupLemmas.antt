@@ -1,12 +1,12 @@
 -- The end of a text: the last symbols, the padding of their group, and ignored bytes.
-use Rattle.std.proofs.Common.{◌≡◌, ℕ, suc, ◌+◌, ◌-◌, ◌*◌, ◌/◌, ◌%◌, ◌<◌, ◌≤◌, ◌==◌, ◌&&◌, ◌⊎◌, Bool, not, nat_lt, true, false, List, [], ◌∷◌, ◌++◌, length, map, take, drop, get_or, replicate, slice_index, None, refl, sym, ap, ◌∙◌, arith, subst, inl, inr, length-take-le, take-append-drop, ⊎_elim}
+use Rattle.std.proofs.Common.{◌≡◌, ℕ, suc, ◌+◌, ◌-◌, ◌*◌, ◌/◌, ◌%◌, ◌<◌, ◌≤◌, ◌==◌, ◌&&◌, ◌⊎◌, Bool, not, nat_lt, true, false, List, [], ◌∷◌, ◌++◌, length, map, take, drop, get_or, replicate, slice_index, None, refl, sym, ap, ◌∙◌, arith, subst, inl, inr, length-take-le, ⊎_elim}
 use Rattle.std.proofs.Math.Nat.{mul-le-mul_left}
 use Rattle.std.proofs.Math.Seq.{take-append-add}
 use Rattle.std.proofs.lemmas.Bool.{cases_lt, eqb-true, false≢true}
 use Rattle.std.proofs.lemmas.Bool.Decides.{nat_tests}
-use Rattle.std.proofs.lemmas.List.{append-nil, append_assoc, drop-drop, drop_all, get_or-drop, get_or-take, length-drop, length-map, take-append-le, take-map, take-take, take_at}
+use Rattle.std.proofs.lemmas.List.{append-nil, append_assoc, drop-drop, drop_all, get_or-drop, get_or-take, length-drop, length-map, take-append-le, take-take, take_at}
 use Rattle.std.proofs.lemmas.Nat.{div-add-mod', mul-le}
-use Rattle.std.specs.List.{list_any, position}
+use Rattle.std.specs.List.{list_any}
 use Rattle.data_encoding_meaning.specs.declared.encoding.Character.{Character}
 use Rattle.data_encoding_meaning.specs.declared.encoding.Character.TheVariants.{Symbol, Padding as PaddingCharacter, Ignored, Invalid}
 use Rattle.data_encoding_meaning.specs.declared.error.DecodeKind.{DecodeKind}
@@ -21,23 +21,22 @@ use Rattle.data_encoding_meaning.proofs.decoding.IgnoredFrontLemmas.{nothing-kep
 use Rattle.data_encoding_meaning.proofs.decoding.ProgressLemmas.{after-group}
 use Rattle.data_encoding_meaning.proofs.decoding.WholeLengthLemmas.{whole_bytes}
 use Rattle.data_encoding_meaning.proofs.digits.WidthLemmas.{by_width, group_symbols-pos}
-use Rattle.data_encoding_meaning.proofs.grammar.GroupLemmas.{all_padding, bytes_before_padding}
 use Rattle.data_encoding_meaning.proofs.grammar.JoinFaultLemmas.{valid_after}
 use Rattle.data_encoding_meaning.proofs.grammar.LengthLemmas.{decoded_len-counted, is_valid_length-by, length_fault-valid, whole_bits}
 use Rattle.data_encoding_meaning.proofs.grammar.PositionLemmas.{filter-plain, length-kept_plain, length-positioned_from}
 use Rattle.data_encoding_meaning.proofs.grammar.KeptLemmas.{kept-split}
-use Rattle.data_encoding_meaning.proofs.lists.EndLemmas.{AllSo, count_before_end-at, count_before_end-map, end-passes}
-use Rattle.data_encoding_meaning.proofs.lists.ListLemmas.{position-none}
+use Rattle.data_encoding_meaning.proofs.lists.EndLemmas.{count_before_end-at, count_before_end-map}
 use Rattle.data_encoding_kernel.specs.Fronts.{IsFront}
 use Rattle.data_encoding_kernel.specs.declared.simd.decode.last_symbols.Front.{Front}
 use Rattle.data_encoding.specs.Endings.{EndsAfter, HasBegun, HasReachedTo, IsFrontOf, IsPaddedBy}
 use Rattle.data_encoding.specs.Groups.{NoneIgnored}
 use Rattle.data_encoding.proofs.decoding.FrontLemmas.{AreSymbols, all_symbols, first-few, front-bytes, front-run, front-trailing}
+use Rattle.data_encoding.proofs.decoding.JudgedGroupLemmas.{symbols-bytes, symbols-sound}
 use Rattle.data_encoding.proofs.decoding.ReadGroupLemmas.{plain-at, plain-bytes, plain-sound}
 use Rattle.data_encoding.proofs.decoding.ShortLemmas.{run-reached}
 use Rattle.data_encoding.proofs.decoding.StepLemmas.{IsUnderWay, decoded, decoded-all, room-group_of, under_way}
 
--- a symbol is no padding
+-- a symbol is not padding
 symbol-plain : (m : Character) → is_symbol m ≡ true → is_padding m ≡ false
 symbol-plain (Symbol value) h = refl
 symbol-plain PaddingCharacter h = cc
@@ -209,41 +208,6 @@ begun-reached {base} width {text} {read = read} at index kind true all =
     (omega (arith, eqb-true (length text - read) 0 all))
 begun-reached width at index kind false more = at
 
--- A group with this many symbols, each of which is one.
-module _ (base : Base) (group : List ℕ) (count : ℕ) (has : HasSymbols base group count)
-    (symbols : AreSymbols (map (meaning base) (take count group))) where
-  abbrev judged : List Character
-  judged = map (meaning base) (take count group)
-
-  abbrev all : List Character
-  all = map (meaning base) group
-
-  no_symbol : position (λ m. not (is_symbol m)) judged ≡ None
-  no_symbol = position-none (λ m. not (is_symbol m)) judged symbols
-
-  -- it has no fault if its trailing bits are zeros, or not checked
-  pub symbols-sound : (base.checks_trailing_bits
-      && list_any (λ bit. not (bit == 0)) (trailing_bits base judged)) ≡ false
-      → group_fault base group ≡ None
-  symbols-sound quiet = has.fault_is ∙ rw (no_symbol, quiet) refl
-
-  rest_pads : AllSo is_padding (drop count all)
-  rest_pads = by (is_padded base) refl where
-    by : (b : Bool) → is_padded base ≡ b → AllSo is_padding (drop count all)
-    by true is = rw (has.count_is, is) (end-passes is_padding all)
-    by false is =
-        let few : length all ≤ length group = omega (arith, length-map group (meaning base)) in
-        rw (has.count_is, is, drop_all (length group) all few) tt
-
-  later : all ≡ judged ++ replicate (length (drop count all)) PaddingCharacter
-  later =
-      sym (take-append-drop count all)
-      ∙ (λ i. take-map (meaning base) count group i ++ all_padding (drop count all) rest_pads i)
-
-  -- the padding means no bytes
-  pub symbols-bytes : symbol_bytes base all ≡ symbol_bytes base judged
-  symbols-bytes = rw later (bytes_before_padding base judged (length (drop count all)))
-
 module _ {base : Base} (width : IsWidth base.width) {text output : List ℕ} {read written : ℕ}
     (at : HasReachedTo base text read written output) {front : Front}
     (is : IsFrontOf base (drop read text) front) {padding : ℕ}
@@ -394,8 +358,14 @@ module _ {base : Base} (width : IsWidth base.width) {text output : List ℕ} {re
       group-symbols =
           all_symbols base (take left group)
           (λ k less.
-          let inside : k < left = omega (arith, less, length-take-le left group (omega (arith,
-          group_len))) in
+          let inside : k < left = omega (
+            arith,
+            less,
+            length-take-le left group (omega (
+              arith,
+              group_len,
+            )),
+          ) in
           subst (λ byte. is_symbol (meaning base byte) ≡ true)
           (sym (get_or-take left group k 0 inside)) (symbol-at k inside))
 

@@ -167,8 +167,12 @@ module _ {base : Base} (width : IsWidth base.width) {text output : List ℕ} {re
           let w = 2 * base.width in
           let whole : groups * dec + 0 ≡ 16 = omega (arith, both.0) in
           let long : 16 ≤ length part =
-          omega (arith, ap length is, length-take-le 16 (drop read text)
-          (omega (arith, enough, length-drop read text))) in
+          omega (
+            arith,
+            ap length is,
+            length-take-le 16 (drop read text)
+                (omega (arith, enough, length-drop read text)),
+          ) in
           ap (λ m. take m new) both.1
           ∙ ap (take w) is_new
           ∙ take_at (take w bytes) (drop w room) w taken

@@ -241,7 +241,7 @@ impl EncodingRef<'_> {
         ensures { IsTrue result → kept self.now rest.now ≡ [] }
     {
         for index in 0..rest.len() {
-            // The table is read at a byte that is no symbol only, so no address depends on a symbol.
+            // The table is read only at a byte that is not a symbol, so no address depends on a symbol.
             let is_other = (others >> index) % 2 == 1;
             if !is_other || self.fields.values.entries[rest[index] as usize] != IGNORED {
                 return false;
@@ -262,32 +262,18 @@ impl EncodingRef<'_> {
     {
         match self.fields.order() {
             BitOrder::MostSignificantFirst => {
-                self.decode_iterations_in_order::<L, MostSignificantFirst>(look_up, input, output)
+                call_by_width!(
+                    self.fields.width,
+                    self.decode_iterations_of::<L, MostSignificantFirst>(look_up, input, output)
+                )
             }
             BitOrder::LeastSignificantFirst => {
-                self.decode_iterations_in_order::<L, LeastSignificantFirst>(look_up, input, output)
+                call_by_width!(
+                    self.fields.width,
+                    self.decode_iterations_of::<L, LeastSignificantFirst>(look_up, input, output)
+                )
             }
         }
-    }
-
-    /// Like [`decode_iterations`](EncodingRef::decode_iterations), with the bit order as a constant.
-    #[inline(always)]
-    fn decode_iterations_in_order<L: LookUp, O: ConstantOrder>(
-        &self,
-        look_up: &L,
-        input: &[u8],
-        output: &mut [u8],
-    ) -> usize
-        requires finds { FindsSymbols L.holds self.now look_up.now }
-        requires order { self.now.order ≡ O.ORDER }
-        requires room { length input.now / group_symbols self.now.width
-            * group_bytes self.now.width ≤ length output.old }
-        ensures run { IsRun self.now input.now result output.old output.new }
-    {
-        call_by_width!(
-            self.fields.width,
-            self.decode_iterations_of::<L, O>(look_up, input, output)
-        )
     }
 
     /// Like [`decode_iterations`](EncodingRef::decode_iterations), with the order and the width as

@@ -1,6 +1,6 @@
 use Rattle.std.proofs.Common.{◌≡◌, ◌-◌, length, arith}
 use Rattle.std.specs.Int.{bit_at}
-use Rattle.data_encoding.proofs.decoding.GroupTableLemmas.{count-before}
+use Rattle.data_encoding.proofs.decoding.JudgedGroupLemmas.{count-before}
 use Rattle.data_encoding.proofs.decode.group.before_padding.Goals as goal
 use Rattle.data_encoding.proofs.decode.group.before_padding.Goals.{then-not-is_other-via-then-not-is_other, then-not-is_other-via-else-not-is_other+then-values-group}
 

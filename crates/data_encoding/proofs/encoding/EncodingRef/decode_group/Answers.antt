@@ -1,11 +1,10 @@
-use Rattle.std.proofs.Common.{◌≡◌, ℕ, ◌*◌, ◌/◌, ◌<◌, ◌≤◌, ◌==◌, false, not, length, map, take, slice_index, refl, sym, ap, ◌∙◌, subst, arith, length-take-le}
-use Rattle.std.proofs.lemmas.List.{get_or-take}
+use Rattle.std.proofs.Common.{◌≡◌, ℕ, ◌*◌, ◌/◌, ◌<◌, ◌==◌, false, not, map, take, slice_index, sym, ap, ◌∙◌, arith}
 use Rattle.std.specs.List.{list_any}
 use Rattle.data_encoding_kernel.specs.Fronts.{IsFront}
 use Rattle.data_encoding_meaning.specs.decoding.Fault.{trailing_bits}
 use Rattle.data_encoding_meaning.specs.text.Base.{meaning}
 use Rattle.data_encoding_meaning.proofs.decoding.GroupJudgementLemmas.{few-bits, room-symbols}
-use Rattle.data_encoding.proofs.decoding.GroupTableLemmas.{front-is, group-sound, set-byte, some-trailing, symbol-fault, symbols-low, trailing-fault}
+use Rattle.data_encoding.proofs.decoding.JudgedGroupLemmas.{front-is, front-symbols, group-sound, set-byte, some-trailing, symbol-fault, trailing-fault}
 use Rattle.data_encoding_meaning.proofs.digits.WidthLemmas.{group_symbols-few}
 use Rattle.data_encoding.proofs.encoding.EncodingRef.decode_group.Given.{Over}
 use Rattle.data_encoding.proofs.encoding.EncodingRef.decode_group.Goals.{Else-front-count, else-self-via-then-self+else-front-written-ne0, else-self-via-else-self}
@@ -28,23 +27,15 @@ returns-then-front-count-clause-fault g c =
     let found = c.front_of_group-front in
     let holds = c.requires.entries.reads.holds in
     let fits : (k : ℕ) → slice_index group k < 256 = λ k. (c.type_inv.group k).fits in
-    let len = length-take-le count group c.in-Ok.ensures.symbols.within in
-    let here : (k : ℕ) → k < count → slice_index (take count group) k ≡ slice_index group k =
-    λ k less. get_or-take count group k 0 less in
     rw c.faulty.ensures
-    (symbol-fault c.args.self.now values holds group fits count c.in-Ok.ensures.symbols
-    found.result.symbols (omega (arith, len, c.if-front-count.true))
-    (λ k less.
-    subst (λ byte. slice_index values byte < 128)
-    (sym (here k (omega (arith, less, c.if-front-count.true))))
-    (symbols-low c.args.self.now values holds group fits k
-    ((found.ensures.front c.args.self.now (record {
+    (symbol-fault c.args.self.now group count c.in-Ok.ensures.symbols found.result.symbols
+    c.if-front-count.true
+    (found.ensures.front c.args.self.now (record {
       width_is = c.requires.entries.reads.width_is ∙ sym c.requires.entries.width_is;
       order_is = c.requires.entries.reads.order_is;
       holds = holds;
-    })).are_symbols k less)))
-    (subst (λ byte. 128 ≤ slice_index values byte)
-    (sym (here found.result.symbols c.if-front-count.true))
+    })).are_symbols
+    (holds.others (slice_index group found.result.symbols) (fits found.result.symbols)
     (found.ensures.stop (omega (arith, c.if-front-count.true, c.in-Ok.ensures.symbols.within)))))
 
 pub overflow_mul-written : goal.overflow_mul-written
@@ -76,29 +67,14 @@ front : (g : Over) (c : Else-front-count g)
 front g c =
     let found = c.front_of_group-front in
     let holds = c.requires.entries.reads.holds in
-    front-is c.args.self.now c.args.entries.values.now holds c.args.group.now
-    (λ k. (c.type_inv.group k).fits) c.in-Ok.count c.in-Ok.ensures.symbols found.result.symbols
+    front-is c.args.self.now c.args.group.now c.in-Ok.count c.in-Ok.ensures.symbols
+    found.result.symbols
     found.result.bytes found.ensures.few c.if-front-count.false
     (found.ensures.front c.args.self.now (record {
       width_is = c.requires.entries.reads.width_is ∙ sym c.requires.entries.width_is;
       order_is = c.requires.entries.reads.order_is;
       holds = holds;
     }))
-
--- each of them is in the table
-low : (g : Over) (c : Else-front-count g) (k : ℕ)
-    → k < length (take c.in-Ok.count c.args.group.now)
-    → slice_index c.args.entries.values.now
-    (slice_index (take c.in-Ok.count c.args.group.now) k) < 128
-low g c k h =
-    let group = c.args.group.now in
-    let count = c.in-Ok.count in
-    let inside : k < count =
-    omega (arith, h, length-take-le count group c.in-Ok.ensures.symbols.within) in
-    subst (λ byte. slice_index c.args.entries.values.now byte < 128)
-    (sym (get_or-take count group k 0 inside))
-    (symbols-low c.args.self.now c.args.entries.values.now c.requires.entries.reads.holds group
-    (λ j. (c.type_inv.group j).fits) k ((front g c).are_symbols k inside))
 
 pub overflow_sub-count : goal.overflow_sub-count
 overflow_sub-count g c =
@@ -123,11 +99,11 @@ returns-then-front-written-ne0-clause-fault g c =
     λ none. c.if-front-written-ne0.true (ap (λ m. slice_index bytes m) (sym bits) ∙ none) in
     let begun = some-trailing seen group count bytes (front g before) other in
     rw c.faulty-then-front-written-ne0.ensures
-    (trailing-fault seen c.args.entries.values.now c.requires.entries.reads.holds group
-    (λ k. (c.type_inv.group k).fits) count c.in-Ok.ensures.symbols (low g before)
+    (trailing-fault seen group count c.in-Ok.ensures.symbols
+    (front-symbols seen group count c.in-Ok.ensures.symbols bytes (front g before))
     (rw (← c.self.view_is) c.if-self.true)
     ((front g before).next ∙ set-byte (slice_index bytes (seen.width * count / 8)) other)
-    (omega (arith, begun, length-take-le count group c.in-Ok.ensures.symbols.within)))
+    begun)
 
 pub returns-clause-sound : goal.returns-clause-sound
 returns-clause-sound g c =
@@ -138,8 +114,8 @@ returns-clause-sound g c =
     let bytes = c.front_of_group-front.result.bytes in
     let bits : seen.width * count / 8 ≡ c.WIDTH.result * count / 8 =
     ap (λ w. w * count / 8) (c.requires.entries.reads.width_is ∙ sym c.WIDTH.ensures) in
-    group-sound seen c.args.entries.values.now c.requires.entries.reads.holds group
-    (λ k. (c.type_inv.group k).fits) count c.in-Ok.ensures.symbols (low g before)
+    group-sound seen group count c.in-Ok.ensures.symbols
+    (front-symbols seen group count c.in-Ok.ensures.symbols bytes (front g before))
     (elim c.else-self.branch [
       | else-self-via-then-self+else-front-written-ne0 w ↦
           let none : list_any (λ bit. not (bit == 0))

@@ -16,9 +16,9 @@ pub decode_windows-at-requires-clause-start : goal.decode_windows-at-requires-cl
 decode_windows-at-requires-clause-start g c =
     elim c.if-input-group_symbols.branch [
       | then-input-group_symbols+else-left-eq0+else-left-group_symbols w ↦ rw (w.at-is, w.output-is)
-      w.decode_eights-at.ensures.reached
+          w.decode_eights-at.ensures.reached
       | else-input-group_symbols w ↦ rw (w.at-is, w.output-is)
-      (start-reached c.join-join.ensures.width c.requires.exact)
+          (start-reached c.join-join.ensures.width c.requires.exact)
     ]
 
 pub decode_last-requires-clause-front : goal.decode_last-requires-clause-front

@@ -41,16 +41,16 @@ returns-then-is_padded_by c =
     let valid : is_valid_length base (count + padding) ≡ true =
     elim c.if-is_valid_length.branch [
       | then-is_valid_length+then-padding-eq0 w ↦ sym c.is_valid_length.ensures
-      ∙ w.if-is_valid_length.true
+          ∙ w.if-is_valid_length.true
       | then-is_valid_length+else-padding-eq0 w ↦ sym c.is_valid_length.ensures
-      ∙ w.if-is_valid_length.true
+          ∙ w.if-is_valid_length.true
       | else-is_valid_length w ↦ cc (w.value-is, c.if-is_padded_by.true)
     ] in
     let how : (padding ≡ 0) ⊎ IsPaddedBy base c.args.front.now padding =
     elim c.if-is_valid_length.branch [
       | then-is_valid_length+then-padding-eq0 w ↦ inl w.if-padding-eq0.true
       | then-is_valid_length+else-padding-eq0 w ↦ inr (w.is_padded_by-else-padding-eq0.ensures
-      (subst IsTrue (sym (sym w.value-is ∙ c.if-is_padded_by.true)) refl))
+          (subst IsTrue (sym (sym w.value-is ∙ c.if-is_padded_by.true)) refl))
       | else-is_valid_length w ↦ cc (w.value-is, c.if-is_padded_by.true)
     ] in (
       padding,

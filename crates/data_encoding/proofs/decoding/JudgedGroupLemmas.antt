@@ -1,10 +1,12 @@
--- The results of judging a group by a table: its symbols, its fault, or its bytes.
-use Rattle.std.proofs.Common.{◌≡◌, ℕ, zero, suc, ◌-◌, ◌+◌, ◌*◌, ◌/◌, ◌<◌, ◌≤◌, ◌==◌, ◌≢◌, nat_lt, Bool, true, false, not, ◌&&◌, List, [], ◌∷◌, ◌++◌, length, map, take, drop, replicate, slice_index, None, refl, sym, ap, subst, ◌∙◌, arith, length-take-le, take-append-drop, ⊎_elim}
+-- The judgement of a group: where its padding starts, its fault, or its bytes.
+use Rattle.std.proofs.Common.{◌≡◌, ℕ, zero, suc, ◌-◌, ◌*◌, ◌/◌, ◌<◌, ◌≤◌, ◌==◌, ◌≢◌, nat_lt, Some, Bool, true, false, not, ◌&&◌, List, [], ◌∷◌, ◌++◌, length, map, take, drop, replicate, slice_index, None, refl, sym, ap, subst, ◌∙◌, arith, length-take-le, take-append-drop, ⊎_elim}
 use Rattle.std.proofs.lemmas.Bool.{cases_lt}
 use Rattle.std.proofs.lemmas.Bool.Decides.{nat_tests}
-use Rattle.std.proofs.lemmas.List.{drop-map, drop_all, get_or-drop, length-drop, length-map, take-map}
+use Rattle.std.proofs.lemmas.List.{get_or-take, drop-map, drop_all, get_or-drop, length-drop, length-map, take-map}
 use Rattle.std.proofs.lemmas.List.Folds.{list_any-append}
-use Rattle.std.specs.List.{filter_map, list_any, position}
+use Rattle.std.proofs.lemmas.List.Sums.{position_or_len_is}
+use Rattle.std.proofs.Math.ListN.{get_or-map}
+use Rattle.std.specs.List.{filter_map, list_any, position, prefix_len}
 use Rattle.data_encoding_meaning.specs.declared.encoding.Character.{Character}
 use Rattle.data_encoding_meaning.specs.declared.encoding.Character.TheVariants.{Symbol, Ignored, Invalid, Padding as PaddingCharacter}
 use Rattle.data_encoding_meaning.specs.declared.error.DecodeKind.TheVariants.{Symbol as SymbolFault, Trailing as TrailingFault}
@@ -14,11 +16,24 @@ use Rattle.data_encoding_meaning.specs.decoding.Fault.{count_before_padding, gro
 use Rattle.data_encoding_kernel.specs.Fronts.{IsFront}
 use Rattle.data_encoding_kernel.specs.Tables.{HoldsValues}
 use Rattle.data_encoding_meaning.proofs.lists.EndLemmas.{AllSo, count_before_end-at, count_before_end-map, end-passes}
-use Rattle.data_encoding_meaning.proofs.lists.ListLemmas.{list_any-none}
+use Rattle.data_encoding_meaning.proofs.lists.ListLemmas.{list_any-none, position-none}
 use Rattle.data_encoding_meaning.proofs.grammar.GroupLemmas.{all_padding, any_padding, bytes_before_padding, symbols_alone}
 use Rattle.data_encoding_meaning.proofs.grammar.UnpaddedGroupLemmas.{are_symbols}
-use Rattle.data_encoding.proofs.decoding.TrailingBitLemmas.{no_symbol-none, no_symbol-some}
-use Rattle.data_encoding_meaning.proofs.decoding.GroupJudgementLemmas.{HasFault-own, part_bytes}
+use Rattle.data_encoding_meaning.proofs.decoding.GroupJudgementLemmas.{HasFault-own}
+use Rattle.data_encoding.proofs.decoding.FrontLemmas.{AreSymbols, all_symbols}
+
+-- the first byte that is not a symbol
+first-other : (base : Base) (group : List ℕ) (index : ℕ) → index < length group
+    → ((k : ℕ) → k < index → is_symbol (meaning base (slice_index group k)) ≡ true)
+    → is_symbol (meaning base (slice_index group index)) ≡ false
+    → position (λ m. not (is_symbol m)) (map (meaning base) group) ≡ Some index
+first-other base group index inside before there =
+    let len : prefix_len (λ m. not (not (is_symbol m))) (map (meaning base) group) ≡ index =
+    position_or_len_is (λ m. not (is_symbol m)) (map (meaning base) group) index (meaning base 0)
+    (omega (arith, length-map group (meaning base), inside))
+    (λ k less. rw (get_or-map (meaning base) group k 0) (ap not (before k less)))
+    (λ _. rw (get_or-map (meaning base) group index 0) (ap not there)) in
+    rw (len, length-map group (meaning base)) (grind (arith, nat_tests))
 
 -- where the padding of a group starts, by its table
 pub count-before : (base : Base) (values : List ℕ) → HoldsValues base values → (group : List ℕ)
@@ -36,18 +51,6 @@ count-before base values holds group are_bytes count within all stops =
     ∙ count_before_end-at pads group 0 count within
     (λ k from inside. at k ∙ rw (all k from inside))
     (λ some. let other = stops some in at (count - 1) ∙ grind (arith, nat_tests)))
-
--- the entry of a symbol
-pub symbols-low : (base : Base) (values : List ℕ) → HoldsValues base values → (group : List ℕ)
-    → ((k : ℕ) → slice_index group k < 256) → (k : ℕ)
-    → is_symbol (meaning base (slice_index group k)) ≡ true
-    → slice_index values (slice_index group k) < 128
-symbols-low base values holds group fits k is =
-    let byte = slice_index group k in
-    ⊎_elim (λ (low : slice_index values byte < 128). low)
-    (λ (high : 128 ≤ slice_index values byte).
-    absurd (cc (sym is ∙ holds.others byte (fits k) high)))
-    (cases_lt (slice_index values byte) 128)
 
 -- padding is not a symbol
 not-both : (m : Character) → is_padding m ≡ true → is_symbol m ≡ true → ⊥
@@ -75,10 +78,8 @@ some-trailing base group zero bytes front other =
     absurd (other (grind (arith, nat_tests, front.next)))
 some-trailing base group (suc n) bytes front other = omega arith
 
--- A group with this many symbols, as a table says.
-module _ (base : Base) (values : List ℕ) (holds : HoldsValues base values) (group : List ℕ)
-    (are_bytes : (k : ℕ) → slice_index group k < 256) (count : ℕ)
-    (has : HasSymbols base group count) where
+-- A group with this many bytes that must be symbols.
+module _ (base : Base) (group : List ℕ) (count : ℕ) (has : HasSymbols base group count) where
   abbrev symbols : List ℕ
   symbols = take count group
 
@@ -118,30 +119,31 @@ module _ (base : Base) (values : List ℕ) (holds : HoldsValues base values) (gr
       subst (λ m. IsFront base group m bytes)
       (omega (arith, enough, front-few n within front.are_symbols)) front
 
-  -- the first that is no symbol is the fault
-  pub symbol-fault : (index : ℕ) → index < length symbols
-      → ((k : ℕ) → k < index → slice_index values (slice_index symbols k) < 128)
-      → 128 ≤ slice_index values (slice_index symbols index)
+  -- the first that is not a symbol is the fault
+  pub symbol-fault : (index : ℕ) → index < count
+      → ((k : ℕ) → k < index → is_symbol (meaning base (slice_index group k)) ≡ true)
+      → is_symbol (meaning base (slice_index group index)) ≡ false
       → HasFault base false group (record { index = index; kind = SymbolFault })
   symbol-fault index inside before there =
-      HasFault-own (omega (arith, inside, few, has.within))
-      (has.fault_is ∙ rw (no_symbol-some base values holds symbols index (record {
-        are_bytes = part_bytes group are_bytes count;
-        before = before;
-        inside = omega (arith, inside);
-        there = λ _. there;
-      }) inside))
+      let here : (k : ℕ) → k < count → slice_index symbols k ≡ slice_index group k =
+      λ k less. get_or-take count group k 0 less in
+      HasFault-own (omega (arith, inside, has.within))
+      (has.fault_is ∙ rw (first-other base symbols index (omega (arith, inside, few))
+      (λ k less. ap (λ byte. is_symbol (meaning base byte)) (here k (omega (arith, less, inside)))
+      ∙ before k less)
+      (ap (λ byte. is_symbol (meaning base byte)) (here index inside) ∙ there)))
 
-  module _ (low : (k : ℕ) → k < length symbols
-      → slice_index values (slice_index symbols k) < 128) where
+  -- symbols at the start of the group
+  pub front-symbols : (bytes : List ℕ) → IsFront base group count bytes → AreSymbols judged
+  front-symbols bytes front =
+      all_symbols base symbols (λ k less.
+      let inside : k < count = omega (arith, less, few) in
+      ap (λ byte. is_symbol (meaning base byte)) (get_or-take count group k 0 inside)
+      ∙ front.are_symbols k inside)
+
+  module _ (are : AreSymbols judged) where
     no_symbol : position (λ m. not (is_symbol m)) judged ≡ None
-    no_symbol =
-        no_symbol-none base values holds symbols (record {
-          are_bytes = part_bytes group are_bytes count;
-          before = low;
-          inside = omega arith;
-          there = λ h. absurd (omega (arith, h));
-        })
+    no_symbol = position-none (λ m. not (is_symbol m)) judged are
 
     fault-symbols : group_fault base group ≡ trailing_fault base judged
     fault-symbols = has.fault_is ∙ rw no_symbol
@@ -149,10 +151,10 @@ module _ (base : Base) (values : List ℕ) (holds : HoldsValues base values) (gr
     -- or else the trailing bits
     pub trailing-fault : base.checks_trailing_bits ≡ true
         → list_any (λ bit. not (bit == 0)) (trailing_bits base judged) ≡ true
-        → 0 < length symbols
+        → 0 < count
         → HasFault base false group (record { index = count - 1; kind = TrailingFault })
     trailing-fault checks some begun =
-        HasFault-own (omega (arith, begun, few, has.within))
+        HasFault-own (omega (arith, begun, has.within))
         (fault-symbols ∙ rw (checks, some, length-map symbols (meaning base), few))
 
     later : all ≡ judged ++ replicate (length (drop count all)) PaddingCharacter
@@ -170,14 +172,23 @@ module _ (base : Base) (values : List ℕ) (holds : HoldsValues base values) (gr
         ap (list_any is_padding) later
         ∙ rw (list_any-append, none, any_padding padding, length-drop, length-map, some)
 
-    -- and if there are none, the group is sound
-    pub group-sound : (base.checks_trailing_bits
-        && list_any (λ bit. not (bit == 0)) (trailing_bits base judged)) ≡ false
-        → (new : List ℕ) → take (base.width * count / 8) new ≡ symbol_bytes base judged
-        → IsDecodedGroup base group count new
-    group-sound quiet new bytes = record {
-      within = has.within;
-      sound = fault-symbols ∙ rw quiet;
-      final = has_padding;
-      bytes = bytes ∙ rw later (sym (bytes_before_padding base judged (length (drop count all))));
-    }
+    -- the padding means no bytes
+    pub symbols-bytes : symbol_bytes base all ≡ symbol_bytes base judged
+    symbols-bytes = rw later (bytes_before_padding base judged (length (drop count all)))
+
+    module _ (quiet : (base.checks_trailing_bits
+        && list_any (λ bit. not (bit == 0)) (trailing_bits base judged)) ≡ false) where
+      -- without trailing bits there is no fault
+      pub symbols-sound : group_fault base group ≡ None
+      symbols-sound = fault-symbols ∙ rw quiet refl
+
+      -- and the group is decoded
+      pub group-sound : (new : List ℕ)
+          → take (base.width * count / 8) new ≡ symbol_bytes base judged
+          → IsDecodedGroup base group count new
+      group-sound new bytes = record {
+        within = has.within;
+        sound = symbols-sound;
+        final = has_padding;
+        bytes = bytes ∙ sym symbols-bytes;
+      }
