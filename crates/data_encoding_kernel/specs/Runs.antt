@@ -1,5 +1,5 @@
 -- Runs: consecutive whole groups of symbols only.
-use Rattle.std.specs.Prelude.{◌≡◌, ℕ, ◌+◌, ◌*◌, ◌/◌, ◌<◌, ◌≤◌, true, false, List, length, take, slice_index}
+use Rattle.std.specs.Prelude.{◌≡◌, ℕ, ◌*◌, ◌<◌, ◌≤◌, true, List, length, take, slice_index}
 use Rattle.data_encoding_meaning.specs.declared.encoding.BitOrder.{BitOrder}
 use Rattle.data_encoding_meaning.specs.text.Base.{Base, meaning, is_symbol, group_bytes, group_symbols}
 use Rattle.data_encoding_kernel.specs.Tables.{Reads}
@@ -13,21 +13,7 @@ pub record IsRun (base : Base) (part : List ℕ) (count : ℕ) (old new : List �
   pub bytes : take (count * group_bytes base.width) new
       ≡ run_bytes base (take (count * group_symbols base.width) part)
 
--- The run is the longest: it has all whole groups, or the next group has a byte that is not a
--- symbol.
-abbrev pub IsLongest : Base → List ℕ → ℕ → Type 0
-IsLongest base part count =
-    count < length part / group_symbols base.width
-    → ((k : ℕ) → k < group_symbols base.width
-    → is_symbol (meaning base (slice_index part (count * group_symbols base.width + k))) ≡ true)
-    → false ≡ true
-
 -- The run is one for each base that decodes with the given table, width and order.
 abbrev pub IsRunBy : List ℕ → ℕ → BitOrder → List ℕ → ℕ → List ℕ → List ℕ → Type 0
 IsRunBy values width order part count old new =
     (base : Base) → Reads base values width order → IsRun base part count old new
-
--- The run is the longest for each base that decodes with the given table, width and order.
-abbrev pub IsLongestBy : List ℕ → ℕ → BitOrder → List ℕ → ℕ → Type 0
-IsLongestBy values width order part count =
-    (base : Base) → Reads base values width order → IsLongest base part count

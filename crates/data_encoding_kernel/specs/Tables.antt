@@ -1,5 +1,5 @@
 -- The look-up tables of a base.
-use Rattle.std.specs.Prelude.{◌≡◌, ℕ, ◌%◌, ◌^◌, ◌<◌, ◌≤◌, ◌==◌, false, List, length, slice_index}
+use Rattle.std.specs.Prelude.{◌≡◌, ℕ, ◌%◌, ◌^◌, ◌<◌, ◌≤◌, ◌==◌, false, List, slice_index}
 use Rattle.data_encoding_meaning.specs.declared.encoding.Character.TheVariants.{Symbol}
 use Rattle.data_encoding_meaning.specs.declared.encoding.BitOrder.{BitOrder}
 use Rattle.data_encoding_meaning.specs.text.Base.{Base, IsWidth, meaning, symbol, is_symbol, is_padding, is_ignored}
@@ -37,14 +37,6 @@ pub record Reads (base : Base) (values : List ℕ) (width : ℕ) (order : BitOrd
   pub width_is : base.width ≡ width
   pub order_is : base.order ≡ order
   pub holds : HoldsValues base values
-
--- The values of the symbols by the table.
-pub record AreValuesOf (table symbols values : List ℕ) : Type 0 where
-  pub len : length values ≡ length symbols
-  pub bytes : (k : ℕ) → slice_index symbols k < 256
-  pub same : (k : ℕ) → k < length symbols
-      → slice_index values k ≡ slice_index table (slice_index symbols k)
-  pub below : (k : ℕ) → k < length symbols → slice_index values k < 128
 
 -- The output is the text of the input, without padding and lines, for each base that encodes with
 -- the given table, width and order.

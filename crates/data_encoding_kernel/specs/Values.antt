@@ -42,12 +42,6 @@ AreExact values bytes found =
     (k : ℕ) → k < length bytes
     → IsExact (slice_index found k) (slice_index values (slice_index bytes k))
 
--- Each entry below 128 that was found is the entry of the table for its byte.
-abbrev pub AreEntries : List ℕ → List ℕ → List ℕ → Type 0
-AreEntries values bytes found =
-    (k : ℕ) → k < length bytes → slice_index found k < 128
-    → slice_index found k ≡ slice_index values (slice_index bytes k)
-
 -- Each entry of the table below 128 is the value of a symbol of `width` bits.
 abbrev pub AreValues : List ℕ → ℕ → Type 0
 AreValues values width =

@@ -1,7 +1,7 @@
 //! Packing of the bytes of a text that are not ignored, sixteen at a time.
 
 ghost use Rattle.std.specs.Prelude.{◌≡◌, ℕ, ◌+◌, ◌-◌, ◌*◌, ◌^◌, ◌<◌, ◌≤◌, ◌==◌, ◌++◌, ◌∷◌, Bool, true, false, not, List, length, map, slice_index, take, drop, filter};
-ghost use Rattle.std.specs.List.{AllByRecursion, range_with_len};
+ghost use Rattle.std.specs.List.{range_with_len};
 ghost use Rattle.std.specs.Simd.Lanes.{mask_l};
 ghost use Rattle.data_encoding_meaning.specs.text.Base.{Base, is_ignored, meaning};
 ghost use Rattle.data_encoding_meaning.specs.text.Grammar.{bytes_in, kept};

@@ -1,9 +1,9 @@
 -- The whole groups at the start of some symbols.
-use Rattle.std.proofs.Common.{◌≡◌, ℕ, zero, suc, ◌+◌, ◌-◌, false, ◌*◌, ◌/◌, ◌%◌, ◌<◌, ◌≤◌, true, List, [], ◌∷◌, ◌++◌, append-nil, length, length-append, length-take-le, map, take, drop, take-append-drop, slice_index, Some, None, refl, sym, ap, subst, ◌∙◌, arith, flat_map, take-add}
+use Rattle.std.proofs.Common.{◌≡◌, ℕ, zero, suc, ◌+◌, ◌-◌, false, ◌*◌, ◌/◌, ◌%◌, ◌<◌, ◌≤◌, true, List, [], ◌∷◌, ◌++◌, length, length-append, length-take-le, map, take, drop, take-append-drop, slice_index, refl, sym, ap, ◌∙◌, arith, flat_map, take-add}
 use Rattle.std.proofs.lemmas.Grind.{flat_map-append}
-use Rattle.std.proofs.lemmas.List.{drop-map, get_or-drop, get_or-take, length-drop, length-map, map-append, take-map, take-take, take_all}
+use Rattle.std.proofs.lemmas.List.{get_or-drop, get_or-take, length-drop, length-map, map-append, take-take, take_all}
 use Rattle.std.proofs.lemmas.List.Elements.{filter_map-append}
-use Rattle.std.proofs.Math.Nat.{mul-le-mul_right, mul-mod_left, zero-mul}
+use Rattle.std.proofs.Math.Nat.{mul-le-mul_right, zero-mul}
 use Rattle.std.proofs.Math.Seq.{take-append-add}
 use Rattle.std.specs.List.{filter_map}
 use Rattle.data_encoding_meaning.specs.declared.encoding.Character.{Character}

@@ -1,11 +1,9 @@
 -- Groups of symbols that are decoded together.
-use Rattle.std.proofs.Common.{le-div_iff_mul-le, min, ⊎_elim, ◌≡◌, ℕ, zero, suc, ◌+◌, ◌-◌, ◌*◌, ◌/◌, ◌%◌, ◌^◌, ◌<◌, ◌≤◌, List, [], ◌∷◌, ◌++◌, length, length-take-le, map, take, drop, slice_index, refl, sym, ap, ◌∙◌, subst, arith, flat_map}
+use Rattle.std.proofs.Common.{◌≡◌, ℕ, zero, suc, ◌+◌, ◌*◌, ◌/◌, ◌^◌, ◌<◌, ◌≤◌, List, [], ◌∷◌, ◌++◌, length, length-take-le, map, take, drop, slice_index, refl, sym, ap, ◌∙◌, subst, arith, flat_map}
 use Rattle.std.proofs.lemmas.List.{drop-map, ext_get_or, get_or-drop, get_or-map, get_or-take, length-drop, length-map, nil_from_length, take-map, take_all}
 use Rattle.std.proofs.lemmas.List.Elements.{All-from_get_or, recursion_from_All}
 use Rattle.std.proofs.lemmas.List.FromFn.{length-map-range_with_len}
-use Rattle.std.proofs.Math.Nat.{add-mul, zero-mul, mul-le-mul_right}
-use Rattle.std.proofs.lemmas.Bool.{cases_lt}
-use Rattle.std.proofs.lemmas.Nat.{div-add-mod'}
+use Rattle.std.proofs.Math.Nat.{zero-mul, mul-le-mul_right}
 use Rattle.std.proofs.Math.Seq.{take-append-add}
 use Rattle.std.specs.List.{AllByRecursion, range_with_len}
 use Rattle.std.specs.Simd.{first_chunks}
@@ -22,7 +20,7 @@ use Rattle.data_encoding_kernel.proofs.digits.GatherRowLemmas.{none-exact}
 use Rattle.data_encoding_kernel.proofs.digits.GatherStoreLemmas.{bytes_of_words}
 use Rattle.data_encoding_kernel.proofs.digits.FrontWordLemmas.{groups-front}
 use Rattle.data_encoding_kernel.proofs.digits.KernelLemmas.{symbol_bytes-word}
-use Rattle.data_encoding_kernel.proofs.decoding.SymbolRunLemmas.{groups-at_most, groups-of_product, run-front}
+use Rattle.data_encoding_kernel.proofs.decoding.SymbolRunLemmas.{groups-at_most, run-front}
 use Rattle.data_encoding_meaning.proofs.digits.WidthLemmas.{by_width}
 use Rattle.data_encoding_meaning.proofs.decoding.GroupJudgementLemmas.{part_bytes}
 use Rattle.data_encoding_meaning.proofs.lists.PartLemmas.{IsWhole, IsWhole-group, groups-within}
@@ -292,75 +290,3 @@ module _ {width bytes symbols : ℕ} (group : IsGroup width bytes symbols) where
       rw (group.has_symbols, group.has_bytes)
       (by_width (λ w. 16 / group_symbols w * group_bytes w ≤ 16) (omega arith) (omega arith)
       (omega arith) (omega arith) (omega arith) (omega arith) width group.is_width)
-
--- sixteen symbols within the whole groups of `n` bytes, from the end of a group on
-pub record IsBlock (symbols n read : ℕ) : Type 0 where
-  pub index : ℕ
-  pub start : read ≡ index * symbols
-  pub before : index + 16 / symbols ≤ n / symbols
-
--- they start at the end of the groups so far, or so that they end with the last whole group
-pub block-at : {width bytes symbols size : ℕ} → IsGroup width bytes symbols → size ≡ symbols
-    → (n at read : ℕ) → 16 ≤ n → at % symbols ≡ 0 → at < n / size * size
-    → read ≡ min at (n / size * size - 16) → IsBlock symbols n read
-block-at {width} {bytes} {symbols} group same n at read =
-    rw same (λ enough whole before is.
-    let some = (IsWhole-group width bytes symbols group).some_symbols in
-    let sixteen = sixteen-symbols group in
-    let all = groups-within n symbols in
-    let count = 16 / symbols in
-    ⊎_elim {C = IsBlock symbols n read}
-    (λ (less : at < n / symbols * symbols - 16). record {
-      index = at / symbols;
-      start = omega (arith, is, less, whole, div-add-mod' at symbols);
-      before = (le-div_iff_mul-le some).1
-          (omega (
-            arith,
-            add-mul (at / symbols) count symbols,
-            sixteen,
-            all,
-            less,
-            whole,
-            div-add-mod' at symbols,
-          ));
-    })
-    (λ (past : n / symbols * symbols - 16 ≤ at).
-    let index = n / symbols - count in
-    let most : count ≤ n / symbols = (le-div_iff_mul-le some).1 (omega (arith, sixteen, enough)) in
-    let sum : n / symbols ≡ index + count = omega (arith, most) in
-    record {
-      index = index;
-      start = omega (
-        arith,
-        is,
-        past,
-        ap (λ m. m * symbols) sum,
-        add-mul index count symbols,
-        sixteen,
-      );
-      before = omega (arith, sum);
-    })
-    (cases_lt at (n / symbols * symbols - 16)))
-
--- within these groups, and the room of their bytes
-module _ {symbols size : ℕ} (some : 0 < symbols) (same : size ≡ symbols) {n read : ℕ}
-    (block : IsBlock symbols n read) where
-  pub block-end : 16 / symbols * symbols ≡ 16 → read + 16 ≤ n / size * size
-  block-end sixteen =
-      rw (same, block.start) (omega (
-        arith,
-        add-mul block.index (16 / symbols) symbols,
-        sixteen,
-        mul-le-mul_right symbols block.before,
-      ))
-
-  pub block-room : {bytes count : ℕ} → count ≡ bytes → (m : ℕ) → n / symbols * bytes ≤ m
-      → read / size * count + 16 / size * count ≤ m
-  block-room {bytes} same_bytes m =
-      rw (same, same_bytes, block.start, groups-of_product block.index symbols refl some)
-      (λ room. omega (
-        arith,
-        add-mul block.index (16 / symbols) bytes,
-        mul-le-mul_right bytes block.before,
-        room,
-      ))

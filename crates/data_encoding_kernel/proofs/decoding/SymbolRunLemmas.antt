@@ -1,16 +1,16 @@
 -- Runs of whole groups of symbols, one after another.
-use Rattle.std.proofs.Common.{le-div_iff_mul-le, ◌≡◌, ℕ, ◌+◌, ◌-◌, ◌*◌, ◌/◌, ◌%◌, ◌<◌, ◌≤◌, true, false, List, ◌++◌, length, take, drop, slice_index, refl, sym, ap, ◌∙◌, arith, length-take-le, ⊎_elim, map, take-add}
-use Rattle.std.proofs.Math.Nat.{add-mul, add-mul-div_left, div-lt_iff_lt-mul, zero-div, mul_comm, mod-lt, mul-le-mul_right, mul-mod_left, zero-mul}
+use Rattle.std.proofs.Common.{le-div_iff_mul-le, ◌≡◌, ℕ, ◌+◌, ◌-◌, ◌*◌, ◌/◌, ◌%◌, ◌<◌, ◌≤◌, true, List, ◌++◌, length, take, drop, slice_index, refl, sym, ap, ◌∙◌, arith, length-take-le, ⊎_elim, map, take-add}
+use Rattle.std.proofs.Math.Nat.{add-mul, add-mul-div_left, div-lt_iff_lt-mul, zero-div, mul_comm, mul-le-mul_right, mul-mod_left, zero-mul}
 use Rattle.std.proofs.lemmas.Bool.{cases_lt}
 use Rattle.std.proofs.lemmas.List.{append-nil, get_or-take, get_or-drop, length-drop, length-take, take-append-le, take-take, take_all, take_at, length-map, map-append}
 use Rattle.std.proofs.Math.Seq.{take-append-add}
-use Rattle.std.proofs.lemmas.Nat.{div-add-mod', div-mul-add}
+use Rattle.std.proofs.lemmas.Nat.{div-mul-add}
 use Rattle.std.proofs.lemmas.List.Concat.{flat_map-append}
 use Rattle.std.proofs.lemmas.Slice.{take-put_mid}
 use borrow.Rule.Slice.PartMut.{put_mid}
 use Rattle.data_encoding_meaning.specs.declared.encoding.Character.{Character}
 use Rattle.data_encoding_meaning.specs.text.Base.{Base, IsWidth, meaning, is_symbol, group_bytes, group_symbols, IsGroup}
-use Rattle.data_encoding_kernel.specs.Runs.{IsLongest, IsRun}
+use Rattle.data_encoding_kernel.specs.Runs.{IsRun}
 use Rattle.data_encoding_meaning.specs.decoding.Decoding.{run_bytes}
 use Rattle.data_encoding_meaning.specs.decoding.Fault.{symbol_bytes}
 use Rattle.data_encoding_kernel.specs.Tables.{HoldsValues}
@@ -248,24 +248,6 @@ module _ (base : Base) (width : IsWidth base.width) (w bytes symbols : ℕ)
             (sym (take-take (m * group_symbols base.width) reach part few));
       })
 
-  -- a run of a longer part, with its output copied
-  pub run-copied : (part more old made later before shown rest : List ℕ) (m : ℕ)
-      → m * symbols ≤ length part → m * bytes ≤ length made
-      → shown ≡ take (m * bytes) (made ++ later)
-      → IsRun base (part ++ more) m old made → IsRun base part m before (shown ++ rest)
-  run-copied part more old made later before shown rest m few enough shown_is run =
-      let cut = rw (take_at part more (length part) refl) at
-      (run-cut (part ++ more) old made m (length part) few run) in
-      record {
-        within = cut.within;
-        are_symbols = cut.are_symbols;
-        bytes = rw same_bytes
-            (let front = shown_is ∙ take-append-le (m * bytes) made later enough in
-            take_at shown rest (m * bytes)
-            (ap length front ∙ length-take-le (m * bytes) made enough)
-            ∙ front ∙ (rw same_bytes at cut.bytes));
-      }
-
   -- a group of symbols after a run
   pub group-next : (values part old output piece : List ℕ) (i k stop : ℕ)
       → stop ≡ i * symbols + symbols → stop ≤ length part → i * bytes ≤ length output
@@ -292,46 +274,6 @@ module _ (base : Base) (width : IsWidth base.width) (w bytes symbols : ℕ)
       (rw (here, get_or-drop (i * symbols) part j 0) (bytes_fit (i * symbols + j)))
       (entries j h)))
       (len ∙ sym same_bytes) is_bytes)
-
-  -- a group that is not symbols only ends the longest run
-  pub longest-at_group : (values part : List ℕ) (i stop : ℕ) → stop ≡ i * symbols + symbols
-      → HoldsValues base values → ((j : ℕ) → slice_index part j < 256)
-      → (((j : ℕ) → j < length (between (i * symbols) stop part)
-      → slice_index values (slice_index (between (i * symbols) stop part) j) < 128)
-      → false ≡ true)
-      → IsLongest base part i
-  longest-at_group values part i stop stop_is holds bytes_fit stopped = λ before all.
-      stopped
-      (λ j h.
-      let few = length-take (stop - i * symbols) (drop (i * symbols) part) in
-      let inside : j < symbols = omega (arith, h, few, stop_is) in
-      let byte = slice_index part (i * symbols + j) in
-      let is : is_symbol (meaning base byte) ≡ true = (rw same_symbols at all) j inside in
-      let other = holds.others byte (bytes_fit (i * symbols + j)) in
-      let here = get_or-take (stop - i * symbols) (drop (i * symbols) part) j 0
-      (omega (arith, inside, stop_is)) in
-      rw (here, get_or-drop (i * symbols) part j 0) (grind (arith, is, other)))
-
-  -- a byte that is not a symbol ends it too
-  pub longest-at_byte : (values part : List ℕ) (at : ℕ) → 0 < symbols → HoldsValues base values
-      → slice_index part at < 256 → 128 ≤ slice_index values (slice_index part at)
-      → IsLongest base part (at / symbols)
-  longest-at_byte values part at some holds fits entry = λ before all.
-      let size = group_symbols base.width in
-      let place : at / symbols * size + at % symbols ≡ at =
-      omega (arith, div-add-mod' at symbols, ap (λ n. at / symbols * n) same_symbols) in
-      let inside : at % symbols < size = omega (arith, mod-lt at some, same_symbols) in
-      sym (holds.others (slice_index part at) fits entry)
-      ∙ ap (λ n. is_symbol (meaning base (slice_index part n))) (sym place)
-      ∙ all (at % symbols) inside
-
-  -- so does the last whole group
-  pub longest-all : (part : List ℕ) (len : ℕ) → length part ≡ len
-      → IsLongest base part (len / symbols)
-  longest-all part len long = λ before all.
-      let same : length part / group_symbols base.width ≡ len / symbols =
-      (λ i. long i / same_symbols i) in
-      absurd (omega (arith, before, same))
 
 -- and no more than a turn has
 pub groups-at_most : {s : ℕ} (found number : ℕ) → 0 < s → found ≤ number * s → found / s ≤ number

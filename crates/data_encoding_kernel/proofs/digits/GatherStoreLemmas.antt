@@ -12,7 +12,7 @@ use Rattle.data_encoding_meaning.specs.declared.encoding.BitOrder.{BitOrder}
 use Rattle.data_encoding_meaning.specs.declared.encoding.BitOrder.TheVariants.{MostSignificantFirst, LeastSignificantFirst}
 use Rattle.data_encoding_kernel.specs.Lanes.{digits_of}
 use Rattle.data_encoding_kernel.specs.Words.{digit}
-use Rattle.data_encoding_kernel.proofs.digits.LaneLemmas.{by_eight, by_four, by_two, bytes-of-lanes, digits_of-below, map-same}
+use Rattle.data_encoding_kernel.proofs.digits.LaneLemmas.{by_eight, bytes-of-lanes, digits_of-below, map-same}
 use Rattle.data_encoding_kernel.proofs.digits.GatherWordLemmas.{number-of-digits}
 
 -- narrower lanes hold them
@@ -116,32 +116,6 @@ threes-picked LeastSignificantFirst =
     four-bytes (λ word. refl)
     (by_eight (Picks LeastSignificantFirst 3 4 16 8) (λ a b c d e f g h. refl))
 
-pub four-threes-picked : (order : BitOrder) (words : List ℕ) → length words ≡ 4
-    → AllByRecursion (λ word. word < 2 ^ 32) words
-    → picked-words order 3 4 8 4 (digits_l 256 16 (number_l 4294967296 words))
-    ≡ bytes_of_words order 3 words
-four-threes-picked MostSignificantFirst =
-    words-picked MostSignificantFirst 3 4 8 4 4294967296 (2 ^ 32) refl (omega arith)
-    four-bytes (λ word. refl)
-    (by_four (Picks MostSignificantFirst 3 4 8 4) (λ a b c d. refl))
-four-threes-picked LeastSignificantFirst =
-    words-picked LeastSignificantFirst 3 4 8 4 4294967296 (2 ^ 32) refl (omega arith)
-    four-bytes (λ word. refl)
-    (by_four (Picks LeastSignificantFirst 3 4 8 4) (λ a b c d. refl))
-
-pub two-threes-picked : (order : BitOrder) (words : List ℕ) → length words ≡ 2
-    → AllByRecursion (λ word. word < 2 ^ 64) words
-    → picked-words order 3 8 4 2 (digits_l 256 16 (number_l 18446744073709551616 words))
-    ≡ bytes_of_words order 3 words
-two-threes-picked MostSignificantFirst =
-    words-picked MostSignificantFirst 3 8 4 2 18446744073709551616 (2 ^ 64) refl (omega arith)
-    eight-bytes (λ word. refl)
-    (by_two (Picks MostSignificantFirst 3 8 4 2) (λ a b. refl))
-two-threes-picked LeastSignificantFirst =
-    words-picked LeastSignificantFirst 3 8 4 2 18446744073709551616 (2 ^ 64) refl (omega arith)
-    eight-bytes (λ word. refl)
-    (by_two (Picks LeastSignificantFirst 3 8 4 2) (λ a b. refl))
-
 pub fives-picked : (order : BitOrder) (words : List ℕ) → length words ≡ 8
     → AllByRecursion (λ word. word < 2 ^ 64) words
     → picked-words order 5 8 32 8 (digits_l 256 64 (number_l 18446744073709551616 words))
@@ -154,19 +128,6 @@ fives-picked LeastSignificantFirst =
     words-picked LeastSignificantFirst 5 8 32 8 18446744073709551616 (2 ^ 64) refl (omega arith)
     eight-bytes (λ word. refl)
     (by_eight (Picks LeastSignificantFirst 5 8 32 8) (λ a b c d e f g h. refl))
-
-pub two-fives-picked : (order : BitOrder) (words : List ℕ) → length words ≡ 2
-    → AllByRecursion (λ word. word < 2 ^ 64) words
-    → picked-words order 5 8 8 2 (digits_l 256 16 (number_l 18446744073709551616 words))
-    ≡ bytes_of_words order 5 words
-two-fives-picked MostSignificantFirst =
-    words-picked MostSignificantFirst 5 8 8 2 18446744073709551616 (2 ^ 64) refl (omega arith)
-    eight-bytes (λ word. refl)
-    (by_two (Picks MostSignificantFirst 5 8 8 2) (λ a b. refl))
-two-fives-picked LeastSignificantFirst =
-    words-picked LeastSignificantFirst 5 8 8 2 18446744073709551616 (2 ^ 64) refl (omega arith)
-    eight-bytes (λ word. refl)
-    (by_two (Picks LeastSignificantFirst 5 8 8 2) (λ a b. refl))
 
 -- words of one byte are their bytes
 one-byte : (order : BitOrder) (w : ℕ) → w < 256

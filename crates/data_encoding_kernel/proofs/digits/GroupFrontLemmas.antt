@@ -6,7 +6,7 @@ use Rattle.std.proofs.Math.Nat.{mul_comm}
 use Rattle.std.specs.List.{filter_map, list_any, range_with_len}
 use Rattle.std.specs.Simd.{first_chunks}
 use Rattle.data_encoding_meaning.specs.declared.encoding.BitOrder.{BitOrder}
-use Rattle.data_encoding_meaning.specs.text.Base.{Base, IsWidth, is_symbol, meaning, value_of}
+use Rattle.data_encoding_meaning.specs.text.Base.{Base, is_symbol, meaning, value_of}
 use Rattle.data_encoding_meaning.specs.text.Bits.{bits_of, number_of}
 use Rattle.data_encoding_meaning.specs.decoding.Fault.{symbol_bytes, trailing_bits}
 use Rattle.data_encoding_meaning.proofs.decoding.GroupJudgementLemmas.{part_bytes}

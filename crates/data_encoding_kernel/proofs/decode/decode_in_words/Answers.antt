@@ -1,8 +1,6 @@
-use Rattle.std.proofs.Common.{◌≡◌, ℕ, List, ◌+◌, ◌*◌, ◌/◌, ◌<◌, ◌≤◌, length, length-take-le, take, refl, sym, ap, ◌∙◌, subst, arith}
-use Rattle.data_encoding_meaning.proofs.decoding.GroupJudgementLemmas.{part_bytes}
-use Rattle.std.proofs.Math.Nat.{mul-le-mul_right}
+use Rattle.std.proofs.Common.{◌≡◌, ◌*◌, ◌/◌, ◌≤◌, length, refl, sym, ap, ◌∙◌, subst, arith}
 use Rattle.data_encoding_meaning.proofs.digits.SizeLemmas.{IsGroup-same}
-use Rattle.data_encoding_kernel.proofs.decoding.SymbolRunLemmas.{group-next, longest-all, run-kept, longest-at_group}
+use Rattle.data_encoding_kernel.proofs.decoding.SymbolRunLemmas.{group-next, run-kept}
 use Rattle.data_encoding_meaning.proofs.lists.PartLemmas.{IsWhole-same, group-before, group-room, groups-within, length-part}
 use Rattle.data_encoding_kernel.proofs.decode.decode_in_words.Goals as goal
 

@@ -2,7 +2,7 @@ use Rattle.std.proofs.Common.{◌≡◌, ◌∷◌, [], ◌++◌, ◌/◌, ◌%�
 use Rattle.std.proofs.lemmas.List.{take_all, take_more_set, length-set}
 use Rattle.std.proofs.lemmas.List.FromFn.{map-range_with_len_more}
 use Rattle.std.specs.List.{range_with_len}
-use Rattle.data_encoding_kernel.specs.Words.{weight, digit}
+use Rattle.data_encoding_kernel.specs.Words.{digit}
 use Rattle.data_encoding_kernel.proofs.words.bytes_of_word.Goals as goal
 
 pub loop-index-preserved : goal.loop-index-preserved

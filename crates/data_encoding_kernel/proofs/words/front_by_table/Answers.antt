@@ -1,9 +1,9 @@
-use Rattle.std.proofs.Common.{◌≡◌, ℕ, ◌-◌, ◌*◌, ◌^◌, ◌<◌, ◌≤◌, ◌++◌, ◌∙◌, length, length-take-le, map, take, drop, replicate, slice_index, w64, refl, sym, ap, subst, arith}
+use Rattle.std.proofs.Common.{ℕ, ◌<◌, ◌++◌, ◌∙◌, length, length-take-le, map, take, replicate, slice_index, w64, sym, arith}
 use Rattle.std.proofs.lemmas.List.{drop-replicate, get_or-take, length-map}
 use Rattle.std.specs.Int.{trailing_zeros}
 use Rattle.std.specs.List.{range_with_len}
 use Rattle.data_encoding_meaning.proofs.decoding.GroupJudgementLemmas.{part_bytes}
-use Rattle.data_encoding_kernel.specs.Words.{digit, word_of}
+use Rattle.data_encoding_kernel.specs.Words.{digit}
 use Rattle.data_encoding_kernel.proofs.digits.GroupFrontLemmas.{joined-group, word-joined}
 use Rattle.data_encoding_kernel.proofs.digits.KernelLemmas.{entries_below}
 use Rattle.data_encoding_kernel.proofs.digits.OtherMaskLemmas.{before-end}

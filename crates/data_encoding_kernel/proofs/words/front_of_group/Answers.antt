@@ -1,4 +1,4 @@
-use Rattle.std.proofs.Common.{◌≡◌, ℕ, ◌-◌, ◌<◌, ◌≤◌, length, replicate, slice_index, take, ap, ◌∙◌, subst, arith}
+use Rattle.std.proofs.Common.{◌≡◌, ℕ, ◌-◌, ◌<◌, ◌≤◌, length, replicate, slice_index, take, ap, ◌∙◌, subst}
 use Rattle.std.proofs.lemmas.List.{get_or_append_left, take-append-le}
 use Rattle.data_encoding_kernel.proofs.digits.GroupFrontLemmas.{front-same}
 use Rattle.data_encoding_kernel.proofs.words.front_of_group.Goals as goal

@@ -1,4 +1,4 @@
-use Rattle.std.proofs.Common.{◌≡◌, ℕ, ◌+◌, ◌*◌, ◌%◌, ◌^◌, ◌<◌, ◌≤◌, length, slice_index, w64, sym, ap, ◌∙◌, arith}
+use Rattle.std.proofs.Common.{◌≡◌, ℕ, ◌<◌, ◌≤◌, length, slice_index, w64, sym, ap, ◌∙◌, arith}
 use Rattle.std.proofs.lemmas.Nat.{one_shl}
 use Rattle.std.proofs.lemmas.Nat.Bits.{bit_at-pow_other, bit_at-pow_same, bit_at_set_other, bit_at_set_same}
 use Rattle.std.specs.Int.{bit_at}
@@ -44,8 +44,7 @@ loop-index-preserved c =
             clear = λ k from h. other k (λ same. omega (arith, from, same))
                 ∙ before.clear k (omega (arith, from)) h;
             so_far = below_more (λ k. (bit_at new k ≡ 0 → entry k < 128) × (bit_at new k ≡ 1 → 128 ≤ entry k)) index
-                (λ k h. kept k (other k (λ same. omega (arith, h, same))) h)
-                (
+                (λ k h. kept k (other k (λ same. omega (arith, h, same))) h) (
                   λ z. absurd (omega (arith, z, here)),
                   λ _. omega (arith, w.if-entry_of-ge128.true, c.entry_of.ensures),
                 );
@@ -57,8 +56,7 @@ loop-index-preserved c =
             end = same (length group) ∙ before.end;
             clear = λ k from h. same k ∙ before.clear k (omega (arith, from)) h;
             so_far = below_more (λ k. (bit_at new k ≡ 0 → entry k < 128) × (bit_at new k ≡ 1 → 128 ≤ entry k)) index
-                (λ k h. kept k (same k) h)
-                (
+                (λ k h. kept k (same k) h) (
                   λ _. omega (arith, w.if-entry_of-ge128.false, c.entry_of.ensures),
                   λ one. absurd
                       (omega (arith, one, same index ∙ before.clear index (omega arith) inside)),

@@ -1,6 +1,6 @@
 //! The entries of bytes, from a table that is affine in each row of sixteen bytes.
 
-ghost use Rattle.std.specs.Prelude.{◌≡◌, ℕ, ◌+◌, ◌*◌, ◌%◌, ◌/◌, ◌<◌, List, length, map, slice_index, IsTrue, IfSome};
+ghost use Rattle.std.specs.Prelude.{◌≡◌, ℕ, ◌+◌, ◌*◌, ◌%◌, ◌/◌, ◌<◌, List, map, slice_index, IsTrue, IfSome};
 ghost use Rattle.std.specs.List.{range_with_len};
 ghost use Rattle.data_encoding_kernel.specs.Affine.{AgreesWith, HoldsAffine, affine_entry, agrees, bits_of_rows, form_of};
 ghost use Rattle.data_encoding_kernel.specs.Values.{AreExact, IsExact, in_row};

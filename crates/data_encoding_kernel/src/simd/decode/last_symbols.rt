@@ -26,7 +26,7 @@ pub struct Join {
     places: [u8; 16],
     /// The bits of two values.
     pair: u32,
-    /// Four values of an odd width are no whole bytes: then two lanes of four values are moved up by
+    /// Four values of an odd width are not whole bytes: then two lanes of four values are moved up by
     /// these and added.
     first_up: u64,
     second_up: u64,
@@ -311,7 +311,7 @@ fn first_lanes(count: usize, lanes: u8x16) -> u8x16
     lanes & u8x16::from_slice(&KEPT_LANES[16 - count..32 - count])
 }
 
-/// Returns the bytes that sixteen symbols mean, or `None` if one of the bytes is no symbol.
+/// Returns the bytes that sixteen symbols mean, or `None` if one of the bytes is not a symbol.
 #[inline(always)]
 pub fn decode_whole<L: LookUp>(look_up: &L, join: &Join, bytes: u8x16) -> Option<[u8; 16]>
     requires { IsJoin join.now }
@@ -332,9 +332,9 @@ pub fn decode_whole<L: LookUp>(look_up: &L, join: &Join, bytes: u8x16) -> Option
 /// What the symbols at the start of a vector mean.
 #[derive(Clone, Copy, Drop)]
 pub struct Front {
-    /// The number of symbols before the first byte that is none.
+    /// The number of symbols before the first byte that is not a symbol.
     pub symbols: usize,
-    /// Has the bit of each byte that is no symbol, and the bit after the last byte.
+    /// Has the bit of each byte that is not a symbol, and the bit after the last byte.
     pub others: u64,
     /// The bytes that these symbols mean, then a byte of their trailing bits, and zeros.
     pub bytes: u8x16,
@@ -394,7 +394,7 @@ pub fn decode_front<L: LookUp>(look_up: &L, join: &Join, len: usize, bytes: u8x1
     }
 }
 
-/// Returns the bits of the bytes that are no symbols, and the bit after the first `len` bytes.
+/// Returns the bits of the bytes that are not symbols, and the bit after the first `len` bytes.
 #[inline(always)]
 fn others_of(entries: u8x16, len: usize) -> u64
     requires { len ≤ 16 }
@@ -406,7 +406,7 @@ fn others_of(entries: u8x16, len: usize) -> u64
     entries.simd_ge(u8x16::splat(128)).to_bitmask() | 1 << len
 }
 
-/// Returns the number of bytes before the first that is no symbol, of the first `len` bytes.
+/// Returns the number of bytes before the first that is not a symbol, of the first `len` bytes.
 #[inline(always)]
 fn symbols_of(others: u64, len: usize) -> usize
     requires few { len ≤ 16 }

@@ -22,10 +22,6 @@ pub trait LookUp: Copy {
     // States that the look-up is for a table of values.
     ghost holds: { List ℕ → Self → Type 0 };
 
-    /// Returns `true` if `table` has such a look-up.
-    fn is_for(table: &ValueTable) -> bool
-        ensures { IsTrue result → serves table.now.form };
-
     /// Returns the look-up for `table`.
     fn of(table: &ValueTable) -> Self
         requires form { serves table.now.form }
@@ -55,11 +51,6 @@ impl LookUp for Rows {
     ghost holds = { λ values rows. HoldsRows values rows };
 
     #[inline(always)]
-    fn is_for(_table: &ValueTable) -> bool {
-        true
-    }
-
-    #[inline(always)]
     fn of(table: &ValueTable) -> Rows {
         rows_of(&table.entries)
     }
@@ -84,11 +75,6 @@ impl LookUp for Affine {
     ghost serves = { λ form. form.is_affine ≡ true };
 
     ghost holds = { λ values affine. HoldsAffine values affine };
-
-    #[inline(always)]
-    fn is_for(table: &ValueTable) -> bool {
-        table.is_affine()
-    }
 
     #[inline(always)]
     fn of(table: &ValueTable) -> Affine {

@@ -2,7 +2,6 @@
 
 ghost use Rattle.std.specs.Prelude.{◌≡◌, ℕ, ◌+◌, ◌*◌, ◌^◌, ◌<◌, ◌≤◌, List, ◌++◌, length, map, take, flat_map};
 ghost use Rattle.std.specs.List.{AllByRecursion};
-ghost use Rattle.data_encoding_meaning.specs.text.Base.{IsWidth, group_bytes, group_symbols};
 ghost use Rattle.data_encoding_kernel.specs.Lanes.{group_words, digits_of, spread_word, halved_lane};
 
 use crate::group_size::GroupSize;
