@@ -8,7 +8,6 @@ pub(crate) mod plain_encoding;
 ghost use Rattle.std.specs.Prelude.{◌≡◌, ◌<◌, ◌≤◌, ◌-◌, ◌==◌, ◌||◌, length};
 ghost use Rattle.data_encoding.specs.Calls.{IsBitWidth, IsGroupBytes, IsGroupLen};
 ghost use Rattle.data_encoding_meaning.specs.text.Base.{IsWidth, group_bytes, group_symbols, ignores_some, is_padded, meaning};
-ghost use Rattle.data_encoding_meaning.specs.specification.Fields.{IsSpecified};
 ghost use Rattle.data_encoding_meaning.specs.text.Lengths.{most_bytes};
 
 use crate::encoding::plain_encoding::PlainFields;

@@ -1,9 +1,9 @@
 //! Encoding to a writer or a formatter.
 
-ghost use Rattle.std.specs.Prelude.{◌≡◌, ◌⊎◌, ◌%◌, ◌<◌, ◌≤◌, ℕ, List, length, Some, IsOk, OnOk};
+ghost use Rattle.std.specs.Prelude.{◌≡◌, ◌⊎◌, ◌%◌, ◌<◌, ◌≤◌, length, Some, IsOk, OnOk};
 ghost use Rattle.std.specs.Fmt.{DisplaysOnOk, WritesInCalls};
 ghost use Rattle.data_encoding_meaning.specs.specification.Fields.{IsSpecified};
-ghost use Rattle.data_encoding_meaning.specs.text.Lengths.{IsBlockLength, alignment};
+ghost use Rattle.data_encoding_meaning.specs.text.Lengths.{IsBlockLength};
 ghost use Rattle.data_encoding.specs.Calls.{IsPieceLen};
 ghost use Rattle.data_encoding.specs.Shown.{shown_data, shown_text};
 ghost use Rattle.data_encoding_meaning.specs.text.Text.{text_of};

@@ -109,7 +109,7 @@ fn before_padding(values: &[u8; 256], others: u64, group: &[u8]) -> usize
 {
     for padding in 0..group.len() {
         let count = group.len() - padding;
-        // The table is read at a byte that is not a symbol only, so no address depends on a symbol.
+        // The table is read only at a byte that is not a symbol, so no address depends on a symbol.
         let is_other = (others >> (count - 1)) % 2 == 1;
         if !is_other || values[group[count - 1] as usize] != PADDING {
             return count;

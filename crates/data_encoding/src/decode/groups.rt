@@ -1,6 +1,6 @@
 //! Decoding of consecutive whole groups, without ignored bytes.
 
-ghost use Rattle.std.specs.Prelude.{◌≡◌, ℕ, true, ◌+◌, ◌*◌, ◌/◌, ◌≤◌, length, take, IsTrue};
+ghost use Rattle.std.specs.Prelude.{◌≡◌, true, ◌+◌, ◌*◌, ◌/◌, ◌≤◌, length, take, IsTrue};
 ghost use Rattle.data_encoding.specs.Groups.{HasReadGroups};
 ghost use Rattle.data_encoding.specs.Progress.{ReadsBy};
 ghost use Rattle.data_encoding_meaning.specs.text.Base.{Base};

@@ -1,7 +1,7 @@
 //! The construction of an encoding from a specification. It gives the bytes their meanings one
 //! after another.
 
-ghost use Rattle.std.specs.Prelude.{◌≡◌, ◌/◌, ◌%◌, ◌^◌, ◌==◌, ◌||◌, ◌<◌, [], length, replicate, take, if◌then◌else◌, is_none, IfOk, IfErr, IfSome, IsTrue, Ok, Err, Some, None};
+ghost use Rattle.std.specs.Prelude.{◌≡◌, ◌/◌, ◌%◌, ◌^◌, ◌==◌, ◌||◌, ◌<◌, [], length, replicate, if◌then◌else◌, is_none, IfOk, IfErr, IfSome, IsTrue, Ok, Err, Some, None};
 ghost use Rattle.std.specs.List.{concat};
 ghost use Rattle.data_encoding_meaning.specs.text.Base.{IsWidth};
 ghost use Rattle.data_encoding_meaning.specs.specification.Fields.{Fields, base_of, base_by, judgements, meanings_of, width_of, wraps};

@@ -1,6 +1,6 @@
 //! An encoding as bytes, and back.
 
-ghost use Rattle.std.specs.Prelude.{◌≡◌, ◌+◌, ◌/◌, ◌%◌, ◌==◌, ◌<◌, ◌≤◌, ◌++◌, length, drop, slice_index, if◌then◌else◌, nat_lt, Some, None, unwrap_or, IfSome, IsSome};
+ghost use Rattle.std.specs.Prelude.{◌≡◌, ◌+◌, ◌/◌, ◌%◌, ◌==◌, ◌<◌, ◌≤◌, ◌++◌, length, drop, slice_index, if◌then◌else◌, Some, None, IfSome, IsSome};
 ghost use Rattle.arrayvec.specs.ArrayVec.{array_vec_len};
 ghost use Rattle.data_encoding_meaning.specs.declared.encoding.BitOrder.TheVariants.{MostSignificantFirst, LeastSignificantFirst};
 ghost use Rattle.data_encoding_meaning.specs.text.Base.{Base};
