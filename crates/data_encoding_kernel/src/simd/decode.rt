@@ -21,7 +21,7 @@ use std::simd::prelude::*;
 
 /// Returns the two halves of each lane, each a digit of `size` bits, as one number.
 #[inline(always)]
-pub fn halves_16<const N: usize>(order: BitOrder, size: usize, lanes: Simd<u16, N>) -> Simd<u16, N>
+fn halves_16<const N: usize>(order: BitOrder, size: usize, lanes: Simd<u16, N>) -> Simd<u16, N>
     requires { size ≤ 8 }
     ensures { result ≡ map (joined order 8 size) lanes.entry }
 {
@@ -34,7 +34,7 @@ pub fn halves_16<const N: usize>(order: BitOrder, size: usize, lanes: Simd<u16, 
 
 /// Like [`halves_16`], for lanes of 32 bits.
 #[inline(always)]
-pub fn halves_32<const N: usize>(order: BitOrder, size: usize, lanes: Simd<u32, N>) -> Simd<u32, N>
+fn halves_32<const N: usize>(order: BitOrder, size: usize, lanes: Simd<u32, N>) -> Simd<u32, N>
     requires { size ≤ 16 }
     ensures { result ≡ map (joined order 16 size) lanes.entry }
 {
@@ -47,7 +47,7 @@ pub fn halves_32<const N: usize>(order: BitOrder, size: usize, lanes: Simd<u32, 
 
 /// Like [`halves_16`], for lanes of 64 bits.
 #[inline(always)]
-pub fn halves_64<const N: usize>(order: BitOrder, size: usize, lanes: Simd<u64, N>) -> Simd<u64, N>
+fn halves_64<const N: usize>(order: BitOrder, size: usize, lanes: Simd<u64, N>) -> Simd<u64, N>
     requires { size ≤ 32 }
     ensures { result ≡ map (joined order 32 size) lanes.entry }
 {
@@ -146,7 +146,7 @@ fn words_of_groups<L: LookUp, G: GroupSize>(
 
 /// Returns the lowest `count` bits of each word.
 #[inline(always)]
-pub fn low_bits<const N: usize>(count: usize, words: Simd<u64, N>) -> Simd<u64, N>
+fn low_bits<const N: usize>(count: usize, words: Simd<u64, N>) -> Simd<u64, N>
     requires { count < 64 }
     ensures { result ≡ map (λ word. word % 2 ^ count) words.entry }
 {

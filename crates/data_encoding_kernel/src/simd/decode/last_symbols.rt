@@ -279,7 +279,7 @@ impl Join {
 
     /// Returns the bytes that sixteen values mean. Zeros stand for missing values.
     #[inline(always)]
-    pub fn bytes_of(&self, values: u8x16) -> u8x16
+    fn bytes_of(&self, values: u8x16) -> u8x16
         requires { IsJoin self.now }
         ensures { (n : ℕ) → n ≤ 16
             → AllByRecursion (λ value. value < 2 ^ self.now.width) (take n values)
