@@ -239,8 +239,8 @@ de_status de_decode_len(de_number number, size_t len, size_t *most);
  * unspecified. If de_decode_len refuses the length, nothing is read and output is unchanged.
  *
  * Within the length of de_decode_len, output after the decoded->written bytes is unspecified. After
- * DE_SHORT_BUFFER all of output is. A text of which bytes are ignored is decoded faster to an output
- * of the length that de_decode_len writes. DE_TOO_LONG. */
+ * DE_SHORT_BUFFER all of output is. If the encoding ignores bytes, a text is decoded faster to an
+ * output of the length that de_decode_len writes. DE_TOO_LONG. */
 DE_EXPORT DE_NODISCARD DE_NONNULL(6)
 de_status de_decode(de_number number, const char *input, size_t input_len, void *output,
                     size_t output_len, de_decoded *decoded);

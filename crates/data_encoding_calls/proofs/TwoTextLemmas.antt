@@ -1,5 +1,5 @@
 -- A text of whole groups without padding, followed by another text.
-use Rattle.std.proofs.Common.{◌≡◌, ℕ, ◌+◌, ◌*◌, ◌/◌, ◌%◌, ◌<◌, ◌≤◌, Bool, false, true, not, List, [], ◌∷◌, ◌++◌, length, map, Ok, sym, ap, ◌∙◌, arith, append_assoc}
+use Rattle.std.proofs.Common.{◌≡◌, ℕ, ◌+◌, ◌*◌, ◌%◌, ◌<◌, ◌≤◌, false, not, List, [], ◌∷◌, ◌++◌, length, map, Ok, sym, ap, ◌∙◌, arith, append_assoc}
 use Rattle.std.proofs.Math.Bool.{and-false}
 use Rattle.std.proofs.Math.Nat.{suc-mul}
 use Rattle.std.proofs.lemmas.Bool.Decides.{nat_tests}
@@ -57,7 +57,7 @@ module _ (base : Base) (width : IsWidth base.width) where
         λ full. (
           rw (
             GroupMeans-padding base group means.0 means.3,
-            one.1 (omega (arith, len, product, one.0, others.0, full))
+            one.1 (omega (arith, len, product, one.0, others.0, full)),
           ) (and-false (not base.concatenates)),
           others.1 (omega (arith, len, product, one.0, others.0, full)),
         ),

@@ -81,8 +81,10 @@ pub(crate) fn decode_in_two(
         return None;
     }
     let (front, end) = input.split_at(input.len().saturating_sub(1) / END * END);
-    let (Ok(start), Ok(most)) = (encoding.decode_len(front.len()), encoding.decode_len(end.len()))
-    else {
+    let (Ok(start), Ok(most)) = (
+        encoding.decode_len(front.len()),
+        encoding.decode_len(end.len()),
+    ) else {
         return None;
     };
     if output.len() < start {
