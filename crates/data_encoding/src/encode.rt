@@ -7,7 +7,6 @@ pub(crate) mod lines;
 ghost use Rattle.std.specs.Prelude.{◌≡◌, All, ℕ, ◌<◌, ◌+◌, ◌-◌, ◌*◌, ◌/◌, ◌≤◌, List, ◌++◌, length, drop, IfOk, IsOk};
 ghost use Rattle.std.specs.String.{string_bytes};
 ghost use Rattle.data_encoding.specs.Calls.{IsEncodeLen};
-ghost use Rattle.data_encoding.specs.Texts.{FitsText};
 ghost use Rattle.data_encoding_meaning.specs.text.Base.{IsWidth, group_bytes, group_symbols};
 ghost use Rattle.data_encoding_meaning.specs.specification.Fields.{IsSpecified};
 ghost use Rattle.data_encoding_meaning.specs.text.Lengths.{alignment};
@@ -15,9 +14,7 @@ ghost use Rattle.data_encoding_meaning.specs.text.Text.{padded_text, plain_text,
 
 use crate::encoding::{Encoding, EncodingRef, group_bytes};
 use crate::memory::zeros;
-use data_encoding_kernel::call_by_width;
 use data_encoding_kernel::encode::encode_plain;
-use data_encoding_kernel::group_size::GroupSize;
 use data_encoding_meaning::limits;
 use std::alloc::{AllocError, Global};
 
@@ -75,7 +72,11 @@ impl EncodingRef<'_> {
         ensures text { output.new ≡ text_of self.now input.now }
         ensures ascii { All (λ byte. byte < 128) output.new }
     {
-        call_by_width!(self.fields.width, self.encode_by_width::<>(input, output))
+        if self.fields.column == 0 {
+            self.encode_padded(input, output);
+        } else {
+            self.encode_lines(input, output);
+        }
     }
 
     /// Like [`Encoding::encode_mut_str`].
@@ -99,30 +100,17 @@ impl EncodingRef<'_> {
         Ok(unsafe { String::from_utf8_unchecked(output) })
     }
 
-    /// Makes the width a constant.
-    #[inline(always)]
-    fn encode_by_width<G: GroupSize>(&self, input: &[u8], output: &mut [u8])
-        requires fits { FitsText self.now G.WIDTH input.now output.old }
-        ensures { output.new ≡ text_of self.now input.now }
-    {
-        if self.fields.column == 0 {
-            self.encode_padded::<G>(input, output);
-        } else {
-            self.encode_lines::<G>(input, output);
-        }
-    }
-
     /// Writes the symbols and the padding.
     #[inline(always)]
-    fn encode_padded<G: GroupSize>(&self, input: &[u8], output: &mut [u8])
-        requires width { self.now.width ≡ G.WIDTH }
+    fn encode_padded(&self, input: &[u8], output: &mut [u8])
         requires limit { length input.now ≤ ENCODE_LIMIT }
         requires exact { length output.old ≡ length (padded_text self.now input.now) }
         ensures { output.new ≡ padded_text self.now input.now }
     {
-        let count = self.pad::<G>(input, output);
-        encode_plain::<G>(
+        let count = self.pad(input, output);
+        encode_plain(
             &self.fields.symbols,
+            self.fields.width,
             self.fields.order(),
             input,
             &mut output[..count],
@@ -132,11 +120,10 @@ impl EncodingRef<'_> {
     /// Writes the padding of the text to the end of `output`, and returns the number of symbols
     /// before it.
     #[inline(always)]
-    fn pad<G: GroupSize>(&self, input: &[u8], output: &mut [u8]) -> usize
-        requires width { self.now.width ≡ G.WIDTH }
+    fn pad(&self, input: &[u8], output: &mut [u8]) -> usize
         requires limit { length input.now ≤ ENCODE_LIMIT }
         requires exact { length output.old ≡ length (padded_text self.now input.now) }
-        ensures count { result ≡ (8 * length input.now + (G.WIDTH - 1)) / G.WIDTH }
+        ensures count { result ≡ (8 * length input.now + (self.now.width - 1)) / self.now.width }
         ensures inside { result ≤ length output.new }
         ensures padding { padded_text self.now input.now
             ≡ plain_text self.now input.now ++ drop result output.new }
@@ -144,15 +131,14 @@ impl EncodingRef<'_> {
         let Some(character) = self.fields.padding_character() else {
             return output.len();
         };
-        let count = symbol_count(G::WIDTH as u8, input.len());
-        let symbols = G::SYMBOLS;
-        if output.len() >= symbols && output.len() - symbols <= count {
-            // Fills the whole last group, since its length is a constant. The symbols are written
-            // over its start later.
-            let start = output.len() - symbols;
-            output[start..].fill(character);
-        } else {
-            output[count..].fill(character);
+        let count = symbol_count(self.fields.width, input.len());
+        // Fills a constant number of characters, which takes fewer instructions. The symbols are
+        // written over the first of them later.
+        let len = output.len();
+        if len >= 8 {
+            output[len - 8..].fill(character);
+        } else if len >= 4 {
+            output[len - 4..].fill(character);
         }
         count
     }

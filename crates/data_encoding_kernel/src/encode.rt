@@ -1,10 +1,12 @@
 //! Encoding of data, group after group.
 
 ghost use Rattle.std.specs.Prelude.{◌≡◌, ℕ, ◌+◌, ◌-◌, ◌*◌, ◌/◌, ◌<◌, ◌≤◌, List, length, take, IsTrue};
+ghost use Rattle.data_encoding_meaning.specs.text.Base.{IsWidth};
 ghost use Rattle.data_encoding_kernel.specs.OffsetAlphabet.{has_sums};
 ghost use Rattle.data_encoding_kernel.specs.Tables.{IsTextBy};
 
 use crate::bit_order::{ConstantOrder, LeastSignificantFirst, MostSignificantFirst};
+use crate::call_by_width;
 use crate::group_size::GroupSize;
 use crate::platform::has_simd;
 use crate::simd::encode::offset_alphabet::OffsetAlphabet;
@@ -16,23 +18,41 @@ use data_encoding_meaning::limits::ENCODE_LIMIT;
 
 /// Writes the symbols of `input`, without padding.
 #[inline(always)]
-pub fn encode_plain<G: GroupSize>(
+pub fn encode_plain(
     table: &SymbolTable,
+    width: u8,
     order: BitOrder,
     input: &[u8],
     output: &mut [u8],
 )
+    requires width { IsWidth width }
     requires agrees { IsTrue (has_sums table.now.entries table.now.form) }
     requires limit { length input.now ≤ ENCODE_LIMIT }
-    requires exact { length output.old ≡ (8 * length input.now + (G.WIDTH - 1)) / G.WIDTH }
-    ensures { IsTextBy table.now.entries G.WIDTH order input.now output.new }
+    requires exact { length output.old ≡ (8 * length input.now + (width - 1)) / width }
+    ensures { IsTextBy table.now.entries width order input.now output.new }
 {
-    match order {
-        BitOrder::MostSignificantFirst => {
-            encode_by_order::<MostSignificantFirst, G>(table, input, output)
-        }
-        BitOrder::LeastSignificantFirst => {
-            encode_by_order::<LeastSignificantFirst, G>(table, input, output)
+    call_by_width!(width, table.encode_by_width::<>(input, output, order))
+}
+
+impl SymbolTable {
+    /// Writes the symbols of `input`, with the width as a constant.
+    ///
+    /// The order is the last argument, so that no other changes its register.
+    // Not inlined, so that each width has the loops once.
+    #[inline(never)]
+    fn encode_by_width<G: GroupSize>(&self, input: &[u8], output: &mut [u8], order: BitOrder)
+        requires agrees { IsTrue (has_sums self.now.entries self.now.form) }
+        requires limit { length input.now ≤ ENCODE_LIMIT }
+        requires exact { length output.old ≡ (8 * length input.now + (G.WIDTH - 1)) / G.WIDTH }
+        ensures { IsTextBy self.now.entries G.WIDTH order input.now output.new }
+    {
+        match order {
+            BitOrder::MostSignificantFirst => {
+                encode_by_order::<MostSignificantFirst, G>(self, input, output)
+            }
+            BitOrder::LeastSignificantFirst => {
+                encode_by_order::<LeastSignificantFirst, G>(self, input, output)
+            }
         }
     }
 }

@@ -8,7 +8,6 @@ ghost use Rattle.data_encoding_meaning.specs.text.Text.{padded_text, text_of};
 
 use crate::encoding::EncodingRef;
 use data_encoding_kernel::copy::copy_short;
-use data_encoding_kernel::group_size::GroupSize;
 
 // The greatest length of a block of lines, without their separators. A block has at least four
 // lines.
@@ -19,15 +18,15 @@ impl EncodingRef<'_> {
     /// are encoded in blocks.
     // Not inlined, so that texts without lines do not pay for it.
     #[inline(never)]
-    pub(super) fn encode_lines<G: GroupSize>(&self, input: &[u8], output: &mut [u8])
-        requires fits { FitsText self.now G.WIDTH input.now output.old }
+    pub(super) fn encode_lines(&self, input: &[u8], output: &mut [u8])
+        requires fits { FitsText self.now input.now output.old }
         requires lines { IsSome self.now.wrapping }
         ensures { output.new ≡ text_of self.now input.now }
     {
         if !input.is_empty() && input.len() <= self.encode_align() {
-            self.encode_line::<G>(input, output);
+            self.encode_line(input, output);
         } else {
-            self.encode_blocks::<G>(input, output);
+            self.encode_blocks(input, output);
         }
     }
 
@@ -36,8 +35,8 @@ impl EncodingRef<'_> {
     /// The text of a block is written without separators, so that most of its groups are encoded
     /// with SIMD, and is then copied line by line.
     #[inline(always)]
-    fn encode_blocks<G: GroupSize>(&self, input: &[u8], output: &mut [u8])
-        requires fits { FitsText self.now G.WIDTH input.now output.old }
+    fn encode_blocks(&self, input: &[u8], output: &mut [u8])
+        requires fits { FitsText self.now input.now output.old }
         requires lines { IsSome self.now.wrapping }
         ensures { output.new ≡ text_of self.now input.now }
     {
@@ -50,7 +49,7 @@ impl EncodingRef<'_> {
             let read_end = input.len().min(read + block_bytes);
             let written = index * block_len;
             let written_end = output.len().min(written + block_len);
-            self.encode_block::<G>(
+            self.encode_block(
                 &input[read..read_end],
                 &mut symbols,
                 &mut output[written..written_end],
@@ -61,19 +60,14 @@ impl EncodingRef<'_> {
     /// Writes the text of a block in lines. `symbols` has room for its characters without
     /// separators.
     #[inline(always)]
-    fn encode_block<G: GroupSize>(
-        &self,
-        input: &[u8],
-        symbols: &mut [u8; BLOCK_LEN],
-        output: &mut [u8],
-    )
-        requires fits { FitsText self.now G.WIDTH input.now output.old }
+    fn encode_block(&self, input: &[u8], symbols: &mut [u8; BLOCK_LEN], output: &mut [u8])
+        requires fits { FitsText self.now input.now output.old }
         requires lines { IsSome self.now.wrapping }
         requires room { length (padded_text self.now input.now) ≤ BLOCK_LEN }
         ensures { output.new ≡ text_of self.now input.now }
     {
         let count = self.padded_len(input.len());
-        self.encode_padded::<G>(input, &mut symbols[..count]);
+        self.encode_padded(input, &mut symbols[..count]);
         wrap(
             self.fields.column as usize,
             self.separator,
@@ -84,14 +78,14 @@ impl EncodingRef<'_> {
 
     /// Writes the text of at most one line, and the separator.
     #[inline(always)]
-    fn encode_line<G: GroupSize>(&self, input: &[u8], output: &mut [u8])
-        requires fits { FitsText self.now G.WIDTH input.now output.old }
+    fn encode_line(&self, input: &[u8], output: &mut [u8])
+        requires fits { FitsText self.now input.now output.old }
         requires some { 0 < length input.now }
         requires line { length input.now ≤ alignment self.now }
         ensures { output.new ≡ text_of self.now input.now }
     {
         let end = output.len() - self.separator.len();
-        self.encode_padded::<G>(input, &mut output[..end]);
+        self.encode_padded(input, &mut output[..end]);
         write_separator(self.separator, &mut output[end..]);
     }
 }

@@ -10,13 +10,13 @@ front-is : {n : ℕ} {shown padded : List ℕ} (rest : List ℕ) → shown ≡ p
 front-is {n} {shown} rest is len = take_at shown rest n (ap length is ∙ len) ∙ is
 
 pub wrap-requires-clause-some : goal.wrap-requires-clause-some
-wrap-requires-clause-some g c = columns-some c.self.invariant c.self.view_is c.requires.lines
+wrap-requires-clause-some c = columns-some c.self.invariant c.self.view_is c.requires.lines
 
 pub wrap-requires-clause-short : goal.wrap-requires-clause-short
-wrap-requires-clause-short g c = separator-short _ c.self.invariant
+wrap-requires-clause-short c = separator-short _ c.self.invariant
 
 pub wrap-requires-clause-exact : goal.wrap-requires-clause-exact
-wrap-requires-clause-exact g c =
+wrap-requires-clause-exact c =
     c.requires.fits.exact
     ∙ ap length
     (text-wrapped c.self.invariant c.self.view_is c.requires.lines
@@ -25,7 +25,7 @@ wrap-requires-clause-exact g c =
     (c.padded_len-count.ensures.length c.args.input.now refl)))
 
 pub returns : goal.returns
-returns g c =
+returns c =
     c.wrap.ensures
     ∙ sym (text-wrapped c.self.invariant c.self.view_is c.requires.lines
     c.args.input.now refl

@@ -5,7 +5,7 @@ use Rattle.data_encoding.proofs.text.LinePieceLemmas.{IsByPieces-text, columns-s
 use Rattle.data_encoding.proofs.encoding.EncodingRef.encode_blocks.Goals as goal
 
 pub nonzero_div-lines : goal.nonzero_div-lines
-nonzero_div-lines g c = columns-some c.self.invariant c.self.view_is c.requires.lines
+nonzero_div-lines c = columns-some c.self.invariant c.self.view_is c.requires.lines
 
 -- the text of a block is short
 block-few : (count column ends : ℕ) → count ≤ 1024 → column + ends ≤ 510
@@ -13,7 +13,7 @@ block-few : (count column ends : ℕ) → count ≤ 1024 → column + ends ≤ 5
 block-few count column ends lines line = mul-le count (column + ends) 1024 510 lines line
 
 pub overflow_mul-block_len : goal.overflow_mul-block_len
-overflow_mul-block_len g c =
+overflow_mul-block_len c =
     record {
       fits = omega (
         arith,
@@ -23,13 +23,13 @@ overflow_mul-block_len g c =
     }
 
 pub div_ceil-index-end-requires : goal.div_ceil-index-end-requires
-div_ceil-index-end-requires g c =
+div_ceil-index-end-requires c =
     (IsByPieces-text c.self.invariant c.self.view_is c.requires.lines
     (lines-some c.self.invariant c.self.view_is c.requires.lines 1024 (omega arith))
     c.encode_align.ensures.value refl).some
 
 pub loop-index-init : goal.loop-index-init
-loop-index-init g c =
+loop-index-init c =
     written-first
     (IsByPieces-text c.self.invariant c.self.view_is c.requires.lines
     (lines-some c.self.invariant c.self.view_is c.requires.lines 1024 (omega arith))
@@ -37,7 +37,7 @@ loop-index-init g c =
     c.requires.fits.exact
 
 pub overflow_mul-read : goal.overflow_mul-read
-overflow_mul-read g c =
+overflow_mul-read c =
     record {
       fits = omega (
         arith,
@@ -47,7 +47,7 @@ overflow_mul-read g c =
     }
 
 pub overflow_add-read : goal.overflow_add-read
-overflow_add-read g c =
+overflow_add-read c =
     record {
       fits = omega (
         arith,
@@ -60,7 +60,7 @@ overflow_add-read g c =
     }
 
 pub overflow_mul-written : goal.overflow_mul-written
-overflow_mul-written g c =
+overflow_mul-written c =
     record {
       fits = omega (
         arith,
@@ -71,7 +71,7 @@ overflow_mul-written g c =
     }
 
 pub overflow_add-written : goal.overflow_add-written
-overflow_add-written g c =
+overflow_add-written c =
     record {
       fits = omega (
         arith,
@@ -84,7 +84,7 @@ overflow_add-written g c =
     }
 
 pub slice_bounds-encode_block-count : goal.slice_bounds-encode_block-count
-slice_bounds-encode_block-count g c =
+slice_bounds-encode_block-count c =
     omega (
       arith,
       c.min-read_end.ensures,
@@ -92,41 +92,40 @@ slice_bounds-encode_block-count g c =
     )
 
 pub slice_bounds-encode_block-start : goal.slice_bounds-encode_block-start
-slice_bounds-encode_block-start g c = slice_bounds-encode_block-count g c
+slice_bounds-encode_block-start c = slice_bounds-encode_block-count c
 
 pub slice_bounds-encode_block-count-in-loop-index :
     goal.slice_bounds-encode_block-count-in-loop-index
-slice_bounds-encode_block-count-in-loop-index g c =
+slice_bounds-encode_block-count-in-loop-index c =
     part-begins c.loop-index.invariant c.div_ceil-index-end.ensures c.loop-index-test.true
     c.min-read_end.ensures c.min-written_end.ensures
 
 pub slice_bounds-encode_block-start-in-loop-index :
     goal.slice_bounds-encode_block-start-in-loop-index
-slice_bounds-encode_block-start-in-loop-index g c =
-    slice_bounds-encode_block-count-in-loop-index g c
+slice_bounds-encode_block-start-in-loop-index c =
+    slice_bounds-encode_block-count-in-loop-index c
 
 pub encode_block-requires-clause-room : goal.encode_block-requires-clause-room
-encode_block-requires-clause-room g c =
+encode_block-requires-clause-room c =
     lines-fit c.self.invariant c.self.view_is c.requires.lines 1024 _
     c.encode_align.ensures.value
     (piece-few c.loop-index.invariant c.div_ceil-index-end.ensures c.loop-index-test.true
     c.min-read_end.ensures)
 
 pub encode_block-requires-clause-fits : goal.encode_block-requires-clause-fits
-encode_block-requires-clause-fits g c = record {
-  width_is = c.requires.fits.width_is;
+encode_block-requires-clause-fits c = record {
   limit = search rules;
   exact = length-part c.loop-index.invariant c.div_ceil-index-end.ensures c.loop-index-test.true
       c.min-read_end.ensures c.min-written_end.ensures;
 }
 
 pub loop-index-preserved : goal.loop-index-preserved
-loop-index-preserved g c =
+loop-index-preserved c =
     piece-next c.loop-index.invariant c.div_ceil-index-end.ensures c.loop-index-test.true
     c.min-read_end.ensures c.min-written_end.ensures c.encode_block.ensures
 
 pub returns : goal.returns
-returns g c =
+returns c =
     piece-last c.loop-index.invariant
     (omega (arith, c.loop-index-test.false, c.loop-index.auto.index-end)
     ∙ c.div_ceil-index-end.ensures)

@@ -64,7 +64,7 @@ module _ (e : EncodingTables) (rules : KeepsRules e) (seen : Base) (is : base_of
       ∙ ap (λ l. padded_text seen input ++ l) (separator-seen e rules seen is)
 
 pub overflow_sub-end : goal.overflow_sub-end
-overflow_sub-end g c =
+overflow_sub-end c =
     let seen = c.args.self.now in
     let input = c.args.input.now in
     inside (text_of seen input) (padded_text seen input) _
@@ -74,7 +74,7 @@ overflow_sub-end g c =
     c.requires.fits.exact (length c.self.inside.separator.now) refl
 
 pub encode_padded-requires-clause-exact : goal.encode_padded-requires-clause-exact
-encode_padded-requires-clause-exact g c =
+encode_padded-requires-clause-exact c =
     let seen = c.args.self.now in
     let input = c.args.input.now in
     front (text_of seen input) (padded_text seen input) _
@@ -84,7 +84,7 @@ encode_padded-requires-clause-exact g c =
     c.requires.fits.exact (length c.self.inside.separator.now) refl
 
 pub write_separator-requires : goal.write_separator-requires
-write_separator-requires g c =
+write_separator-requires c =
     let seen = c.args.self.now in
     let input = c.args.input.now in
     room (text_of seen input) (padded_text seen input) _
@@ -96,7 +96,7 @@ write_separator-requires g c =
     c.self.inside.separator.now c.encode_padded.ensures refl
 
 pub returns : goal.returns
-returns g c =
+returns c =
     let seen = c.args.self.now in
     let input = c.args.input.now in
     written (text_of seen input) (padded_text seen input) _
