@@ -13,7 +13,6 @@ pub mod Steps
 pub mod Progress
 pub mod Endings
 pub mod Groups
-pub mod Texts
 pub use Rattle.data_encoding_meaning.specs.text.Base
 pub use Rattle.data_encoding_meaning.specs.text.Bits
 pub use Rattle.data_encoding_meaning.specs.text.Text

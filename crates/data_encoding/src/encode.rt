@@ -124,7 +124,7 @@ impl EncodingRef<'_> {
         requires limit { length input.now ≤ ENCODE_LIMIT }
         requires exact { length output.old ≡ length (padded_text self.now input.now) }
         ensures count { result ≡ (8 * length input.now + (self.now.width - 1)) / self.now.width }
-        ensures inside { result ≤ length output.new }
+        ensures inside { result ≤ length output.old }
         ensures padding { padded_text self.now input.now
             ≡ plain_text self.now input.now ++ drop result output.new }
     {

@@ -72,19 +72,18 @@ fn encode_by_order<O: ConstantOrder, G: GroupSize>(
     ensures { IsTextBy table.now.entries G.WIDTH O.ORDER input.now output.new }
 {
     if !has_simd() {
-        return encode_turns::<EncodeOne, O, G>(&EncodeOne, table, input, output);
+        return encode_turns::<_, O, G>(&EncodeOne, table, input, output);
     }
     // The rest of longer data is encoded by the same function.
     if input.len() < 10 * G::BYTES - 2 {
         return encode_short::<O, G>(table, input, output);
     }
-    if G::WIDTH == 6 {
-        if let Some(look_up) = table.offsets() {
-            let turn = EncodeEight { look_up };
-            return encode_turns::<EncodeEight<OffsetAlphabet>, O, G>(&turn, table, input, output);
-        }
+    if G::WIDTH == 6
+        && let Some(look_up) = table.offsets()
+    {
+        return encode_turns::<_, O, G>(&EncodeEight(look_up), table, input, output);
     }
-    encode_turns::<EncodeEight<SymbolRows>, O, G>(&BY_ROWS, table, input, output);
+    encode_turns::<_, O, G>(&EncodeEight(SymbolRows), table, input, output);
 }
 
 /// Encodes fewer bytes than an iteration of eight groups loads.
@@ -100,13 +99,12 @@ fn encode_short<O: ConstantOrder, G: GroupSize>(
     requires exact { length output.old ≡ (8 * length input.now + (G.WIDTH - 1)) / G.WIDTH }
     ensures { IsTextBy table.now.entries G.WIDTH O.ORDER input.now output.new }
 {
-    if G::WIDTH == 6 {
-        if let Some(look_up) = table.offsets() {
-            let turn = EncodeSixteen { look_up };
-            return encode_turns::<EncodeSixteen<OffsetAlphabet>, O, G>(&turn, table, input, output);
-        }
+    if G::WIDTH == 6
+        && let Some(look_up) = table.offsets()
+    {
+        return encode_turns::<_, O, G>(&EncodeSixteen(look_up), table, input, output);
     }
-    encode_turns::<EncodeSixteen<SymbolRows>, O, G>(&SIXTEEN_BY_ROWS, table, input, output);
+    encode_turns::<_, O, G>(&EncodeSixteen(SymbolRows), table, input, output);
 }
 
 /// Encodes one iteration after another, while the input has the bytes that it loads, and then the
@@ -181,24 +179,16 @@ trait EncodeTurn<G: GroupSize> {
         ensures { IsTextBy table.now.entries G.WIDTH O.ORDER input.now output.new };
 }
 
-/// Encodes eight groups with SIMD.
+/// Encodes eight groups with SIMD, by a look-up of symbols.
 #[derive(Clone, Copy, Drop)]
-struct EncodeEight<S> {
-    /// The look-up of symbols.
-    look_up: S,
-}
-
-/// Encodes eight groups, with the look-up in rows.
-const BY_ROWS: EncodeEight<SymbolRows> = EncodeEight {
-    look_up: SymbolRows,
-};
+struct EncodeEight<S>(S);
 
 impl<S: SymbolLookUp, G: GroupSize> EncodeTurn<G> for EncodeEight<S> {
     ghost GROUPS = { 8 };
 
     ghost AHEAD = { 2 * (G.BYTES - 1) };
 
-    ghost holds = { λ symbols turn. S.holds symbols turn.look_up };
+    ghost holds = { λ symbols turn. S.holds symbols turn.0 };
 
     const GROUPS: usize = 8;
 
@@ -206,7 +196,7 @@ impl<S: SymbolLookUp, G: GroupSize> EncodeTurn<G> for EncodeEight<S> {
 
     #[inline(always)]
     fn encode<O: ConstantOrder>(&self, symbols: &[u8; 256], input: &[u8], output: &mut [u8]) {
-        encode_eight::<S, G>(&self.look_up, symbols, O::ORDER, input, output);
+        encode_eight::<S, G>(&self.0, symbols, O::ORDER, input, output);
     }
 
     #[inline(always)]
@@ -215,24 +205,16 @@ impl<S: SymbolLookUp, G: GroupSize> EncodeTurn<G> for EncodeEight<S> {
     }
 }
 
-/// Encodes the groups of sixteen symbols with SIMD.
+/// Encodes the groups of sixteen symbols with SIMD, by a look-up of symbols.
 #[derive(Clone, Copy, Drop)]
-struct EncodeSixteen<S> {
-    /// The look-up of symbols.
-    look_up: S,
-}
-
-/// Encodes the groups of sixteen symbols, with the look-up in rows.
-const SIXTEEN_BY_ROWS: EncodeSixteen<SymbolRows> = EncodeSixteen {
-    look_up: SymbolRows,
-};
+struct EncodeSixteen<S>(S);
 
 impl<S: SymbolLookUp, G: GroupSize> EncodeTurn<G> for EncodeSixteen<S> {
     ghost GROUPS = { 16 / G.SYMBOLS };
 
     ghost AHEAD = { 0 };
 
-    ghost holds = { λ symbols turn. S.holds symbols turn.look_up };
+    ghost holds = { λ symbols turn. S.holds symbols turn.0 };
 
     const GROUPS: usize = 16 / G::SYMBOLS;
 
@@ -240,12 +222,12 @@ impl<S: SymbolLookUp, G: GroupSize> EncodeTurn<G> for EncodeSixteen<S> {
 
     #[inline(always)]
     fn encode<O: ConstantOrder>(&self, symbols: &[u8; 256], input: &[u8], output: &mut [u8]) {
-        encode_sixteen::<S, G>(&self.look_up, symbols, O::ORDER, input, output);
+        encode_sixteen::<S, G>(&self.0, symbols, O::ORDER, input, output);
     }
 
     #[inline(always)]
     fn encode_rest<O: ConstantOrder>(&self, table: &SymbolTable, input: &[u8], output: &mut [u8]) {
-        encode_sixteen::<S, G>(&self.look_up, &table.entries, O::ORDER, input, output);
+        encode_sixteen::<S, G>(&self.0, &table.entries, O::ORDER, input, output);
     }
 }
 

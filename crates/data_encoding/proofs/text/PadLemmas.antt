@@ -1,6 +1,6 @@
 -- What is written after the symbols, by the tables of an encoding.
 use Rattle.std.proofs.Common.{◌≡◌, ℕ, ◌+◌, ◌-◌, ◌*◌, ◌<◌, ◌≤◌, Some, is_some, List, ◌++◌, length, take, drop, replicate, sym, ap, ◌∙◌, arith}
-use Rattle.std.proofs.lemmas.List.{drop-drop, drop-replicate, drop_all, length-replicate}
+use Rattle.std.proofs.lemmas.List.{drop-drop, drop-replicate, drop_all}
 use borrow.Rule.Slice.PartMut.{put_mid}
 use Rattle.data_encoding.specs.Encoding.{EncodingTables, base_of_tables, KeepsRules}
 use Rattle.data_encoding_meaning.specs.text.Base.{Base, IsWidth, group_bytes, group_symbols}
@@ -9,7 +9,7 @@ use Rattle.data_encoding_meaning.proofs.grammar.LengthLemmas.{widths}
 use Rattle.data_encoding_meaning.proofs.lists.PartLemmas.{length-rest}
 use Rattle.data_encoding_meaning.proofs.lists.RunLemmas.{run_count}
 use Rattle.data_encoding.proofs.tables.TableLemmas.{IsWidth-seen}
-use Rattle.data_encoding_meaning.proofs.lists.WriteLemmas.{drop-put_mid_at, length-put_mid}
+use Rattle.data_encoding_meaning.proofs.lists.WriteLemmas.{drop-put_mid_at}
 use Rattle.data_encoding_meaning.proofs.text.PaddedTextLemmas.{length-padded, padded_text-some, symbols-first}
 
 -- few characters fill the last group of a text of `size` characters, `count` of them symbols
@@ -27,75 +27,66 @@ module _ (width : ℕ) (is : IsWidth width) (len count size : ℕ)
 
 module _ {e : EncodingTables} (rules : KeepsRules e) {seen : Base} (is : base_of_tables e ≡ seen)
     (input output : List ℕ) (exact : length output ≡ length (padded_text seen input))
-    (count : ℕ) (by_table : count ≡ run_count e.width (8 * length input))
-    (character : ℕ) (some : e.padding ≡ Some character) where
+    (count : ℕ) (by_table : count ≡ run_count e.width (8 * length input)) where
   width : IsWidth seen.width
   width = IsWidth-seen e rules seen is
 
   counted : count ≡ run_count seen.width (8 * length input)
   counted = by_table ∙ ap (λ b. run_count b.width (8 * length input)) is
 
-  padded : seen.padding ≡ Some character
-  padded = ap (λ b. b.padding) (sym is) ∙ some
-
-  sized : length output
-      ≡ run_count (group_bytes seen.width) (length input) * group_symbols seen.width
-  sized = exact ∙ length-padded seen input width (ap is_some padded)
-
   pub symbols-inside : count ≤ length output
   symbols-inside = symbols-first seen input width count (length output) counted exact
 
-  text-is : padded_text seen input
-      ≡ plain_text seen input ++ replicate (length output - count) character
-  text-is = padded_text-some seen input width count (length output) counted exact character padded
+  module _ (character : ℕ) (some : e.padding ≡ Some character) where
+    padded : seen.padding ≡ Some character
+    padded = ap (λ b. b.padding) (sym is) ∙ some
 
-  pub before_eight : length output - 8 ≤ count
-  before_eight =
-      omega (arith, fewer-than_eight seen.width width (length input) count _ counted sized)
+    sized : length output
+        ≡ run_count (group_bytes seen.width) (length input) * group_symbols seen.width
+    sized = exact ∙ length-padded seen input width (ap is_some padded)
 
-  pub before_four : length output < 8 → length output - 4 ≤ count
-  before_four short =
-      omega (arith, four-at_most seen.width width (length input) count _ counted sized short)
+    text-is : padded_text seen input
+        ≡ plain_text seen input ++ replicate (length output - count) character
+    text-is = padded_text-some seen input width count (length output) counted exact character padded
 
-  -- a text of fewer characters has no padding
-  pub padding-none : length output < 4
-      → padded_text seen input ≡ plain_text seen input ++ drop count output
-  padding-none short =
-      let none : length output ≤ count =
-      none-below_four seen.width width (length input) count _ counted sized short in
-      let zero : length output - count ≡ 0 = omega (arith, none) in
-      text-is
-      ∙ ap (λ l. plain_text seen input ++ l)
-      (ap (λ n. replicate n character) zero ∙ sym (drop_all count output none))
+    pub before_eight : length output - 8 ≤ count
+    before_eight =
+        omega (arith, fewer-than_eight seen.width width (length input) count _ counted sized)
 
-  -- padding may be written from before the last symbols on
-  module _ (start : ℕ) (before : start ≤ count) (filled : List ℕ)
-      (is_padding : filled
-      ≡ replicate (length (take (length output - start) (drop start output))) character) where
-    abbrev written : List ℕ
-    written = put_mid start (length output - start) output filled
+    pub before_four : length output < 8 → length output - 4 ≤ count
+    before_four short =
+        omega (arith, four-at_most seen.width width (length input) count _ counted sized short)
 
-    within : start ≤ length output
-    within = omega (arith, symbols-inside)
+    -- a text of fewer characters has no padding
+    pub padding-none : length output < 4
+        → padded_text seen input ≡ plain_text seen input ++ drop count output
+    padding-none short =
+        let none : length output ≤ count =
+        none-below_four seen.width width (length input) count _ counted sized short in
+        let zero : length output - count ≡ 0 = omega (arith, none) in
+        text-is
+        ∙ ap (λ l. plain_text seen input ++ l)
+        (ap (λ n. replicate n character) zero ∙ sym (drop_all count output none))
 
-    pub inside-written : count ≤ length written
-    inside-written =
-        omega (
-          arith,
-          length-put_mid start (length output - start) output filled (omega (arith, within))
-              (ap length is_padding ∙ length-replicate _ character ∙ length-rest start output),
-          symbols-inside,
-        )
+    -- padding may be written from before the last symbols on
+    module _ (start : ℕ) (before : start ≤ count) (filled : List ℕ)
+        (is_padding : filled
+        ≡ replicate (length (take (length output - start) (drop start output))) character) where
+      abbrev written : List ℕ
+      written = put_mid start (length output - start) output filled
 
-    rest : drop count written ≡ replicate (length output - count) character
-    rest =
-        let apart : start + (count - start) ≡ count = omega arith in
-        ap (λ n. drop n written) (sym apart)
-        ∙ sym (drop-drop (count - start) start written)
-        ∙ ap (drop (count - start)) (drop-put_mid_at start output filled within
-        ∙ is_padding ∙ ap (λ n. replicate n character) (length-rest start output))
-        ∙ drop-replicate (count - start) (length output - start) character
-        ∙ ap (λ n. replicate n character) (omega (arith, within))
+      within : start ≤ length output
+      within = omega (arith, symbols-inside)
 
-    pub padding-written : padded_text seen input ≡ plain_text seen input ++ drop count written
-    padding-written = text-is ∙ ap (λ l. plain_text seen input ++ l) (sym rest)
+      rest : drop count written ≡ replicate (length output - count) character
+      rest =
+          let apart : start + (count - start) ≡ count = omega arith in
+          ap (λ n. drop n written) (sym apart)
+          ∙ sym (drop-drop (count - start) start written)
+          ∙ ap (drop (count - start)) (drop-put_mid_at start output filled within
+          ∙ is_padding ∙ ap (λ n. replicate n character) (length-rest start output))
+          ∙ drop-replicate (count - start) (length output - start) character
+          ∙ ap (λ n. replicate n character) (omega (arith, within))
+
+      pub padding-written : padded_text seen input ≡ plain_text seen input ++ drop count written
+      padding-written = text-is ∙ ap (λ l. plain_text seen input ++ l) (sym rest)

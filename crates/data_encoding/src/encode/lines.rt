@@ -1,11 +1,11 @@
 //! Encoding in lines.
 
 ghost use Rattle.std.specs.Prelude.{◌≡◌, ◌+◌, ◌*◌, ◌<◌, ◌≤◌, ◌++◌, length, flat_map, IsSome};
-ghost use Rattle.data_encoding.specs.Texts.{FitsText};
 ghost use Rattle.data_encoding_meaning.specs.text.Bits.{runs};
 ghost use Rattle.data_encoding_meaning.specs.text.Lengths.{alignment};
 ghost use Rattle.data_encoding_meaning.specs.text.Text.{padded_text, text_of};
 
+use crate::encode::ENCODE_LIMIT;
 use crate::encoding::EncodingRef;
 use data_encoding_kernel::copy::copy_short;
 
@@ -19,7 +19,8 @@ impl EncodingRef<'_> {
     // Not inlined, so that texts without lines do not pay for it.
     #[inline(never)]
     pub(super) fn encode_lines(&self, input: &[u8], output: &mut [u8])
-        requires fits { FitsText self.now input.now output.old }
+        requires limit { length input.now ≤ ENCODE_LIMIT }
+        requires exact { length output.old ≡ length (text_of self.now input.now) }
         requires lines { IsSome self.now.wrapping }
         ensures { output.new ≡ text_of self.now input.now }
     {
@@ -36,7 +37,8 @@ impl EncodingRef<'_> {
     /// with SIMD, and is then copied line by line.
     #[inline(always)]
     fn encode_blocks(&self, input: &[u8], output: &mut [u8])
-        requires fits { FitsText self.now input.now output.old }
+        requires limit { length input.now ≤ ENCODE_LIMIT }
+        requires exact { length output.old ≡ length (text_of self.now input.now) }
         requires lines { IsSome self.now.wrapping }
         ensures { output.new ≡ text_of self.now input.now }
     {
@@ -61,7 +63,8 @@ impl EncodingRef<'_> {
     /// separators.
     #[inline(always)]
     fn encode_block(&self, input: &[u8], symbols: &mut [u8; BLOCK_LEN], output: &mut [u8])
-        requires fits { FitsText self.now input.now output.old }
+        requires limit { length input.now ≤ ENCODE_LIMIT }
+        requires exact { length output.old ≡ length (text_of self.now input.now) }
         requires lines { IsSome self.now.wrapping }
         requires room { length (padded_text self.now input.now) ≤ BLOCK_LEN }
         ensures { output.new ≡ text_of self.now input.now }
@@ -79,7 +82,8 @@ impl EncodingRef<'_> {
     /// Writes the text of at most one line, and the separator.
     #[inline(always)]
     fn encode_line(&self, input: &[u8], output: &mut [u8])
-        requires fits { FitsText self.now input.now output.old }
+        requires limit { length input.now ≤ ENCODE_LIMIT }
+        requires exact { length output.old ≡ length (text_of self.now input.now) }
         requires some { 0 < length input.now }
         requires line { length input.now ≤ alignment self.now }
         ensures { output.new ≡ text_of self.now input.now }

@@ -17,7 +17,7 @@ wrap-requires-clause-short c = separator-short _ c.self.invariant
 
 pub wrap-requires-clause-exact : goal.wrap-requires-clause-exact
 wrap-requires-clause-exact c =
-    c.requires.fits.exact
+    c.requires.exact
     ∙ ap length
     (text-wrapped c.self.invariant c.self.view_is c.requires.lines
     c.args.input.now refl

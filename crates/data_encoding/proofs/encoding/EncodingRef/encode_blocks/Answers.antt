@@ -1,4 +1,4 @@
-use Rattle.std.proofs.Common.{rules, ◌≤◌, ℕ, ◌*◌, ◌+◌, ◌/◌, ◌∙◌, arith, refl}
+use Rattle.std.proofs.Common.{◌≤◌, ℕ, ◌*◌, ◌+◌, ◌/◌, ◌∙◌, arith, refl}
 use Rattle.std.proofs.lemmas.Nat.{mul-le}
 use Rattle.data_encoding_meaning.proofs.lists.PieceLemmas.{before, length-part, part-begins, piece-begins, piece-few, piece-last, piece-next, written-first}
 use Rattle.data_encoding.proofs.text.LinePieceLemmas.{IsByPieces-text, columns-some, line-few, lines-few, lines-fit, lines-some, text-few}
@@ -34,7 +34,7 @@ loop-index-init c =
     (IsByPieces-text c.self.invariant c.self.view_is c.requires.lines
     (lines-some c.self.invariant c.self.view_is c.requires.lines 1024 (omega arith))
     c.encode_align.ensures.value refl)
-    c.requires.fits.exact
+    c.requires.exact
 
 pub overflow_mul-read : goal.overflow_mul-read
 overflow_mul-read c =
@@ -42,7 +42,7 @@ overflow_mul-read c =
       fits = omega (
         arith,
         before c.loop-index.invariant c.div_ceil-index-end.ensures c.loop-index-test.true,
-        c.requires.fits.limit,
+        c.requires.limit,
       );
     }
 
@@ -55,7 +55,7 @@ overflow_add-read c =
         mul-le (1024 / c.self.inside.fields.now.column) c.encode_align.result 1024 189
             (lines-few c.self.invariant c.self.view_is c.requires.lines 1024)
             c.encode_align.ensures.most,
-        c.requires.fits.limit,
+        c.requires.limit,
       );
     }
 
@@ -66,7 +66,7 @@ overflow_mul-written c =
         arith,
         piece-begins c.loop-index.invariant c.div_ceil-index-end.ensures c.loop-index-test.true,
         text-few c.self.invariant c.self.view_is c.requires.lines c.args.input.now,
-        c.requires.fits.limit,
+        c.requires.limit,
       );
     }
 
@@ -79,7 +79,7 @@ overflow_add-written c =
         text-few c.self.invariant c.self.view_is c.requires.lines c.args.input.now,
         block-few _ _ _ (lines-few c.self.invariant c.self.view_is c.requires.lines 1024)
             (line-few c.self.invariant c.self.view_is c.requires.lines refl),
-        c.requires.fits.limit,
+        c.requires.limit,
       );
     }
 
@@ -112,12 +112,10 @@ encode_block-requires-clause-room c =
     (piece-few c.loop-index.invariant c.div_ceil-index-end.ensures c.loop-index-test.true
     c.min-read_end.ensures)
 
-pub encode_block-requires-clause-fits : goal.encode_block-requires-clause-fits
-encode_block-requires-clause-fits c = record {
-  limit = search rules;
-  exact = length-part c.loop-index.invariant c.div_ceil-index-end.ensures c.loop-index-test.true
-      c.min-read_end.ensures c.min-written_end.ensures;
-}
+pub encode_block-requires-clause-exact : goal.encode_block-requires-clause-exact
+encode_block-requires-clause-exact c =
+    length-part c.loop-index.invariant c.div_ceil-index-end.ensures c.loop-index-test.true
+    c.min-read_end.ensures c.min-written_end.ensures
 
 pub loop-index-preserved : goal.loop-index-preserved
 loop-index-preserved c =

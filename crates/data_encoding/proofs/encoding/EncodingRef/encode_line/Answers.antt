@@ -71,7 +71,7 @@ overflow_sub-end c =
     c.args.output.now
     (text-is _ c.self.invariant seen c.self.view_is input c.requires.some
     c.requires.line)
-    c.requires.fits.exact (length c.self.inside.separator.now) refl
+    c.requires.exact (length c.self.inside.separator.now) refl
 
 pub encode_padded-requires-clause-exact : goal.encode_padded-requires-clause-exact
 encode_padded-requires-clause-exact c =
@@ -81,7 +81,7 @@ encode_padded-requires-clause-exact c =
     c.args.output.now
     (text-is _ c.self.invariant seen c.self.view_is input c.requires.some
     c.requires.line)
-    c.requires.fits.exact (length c.self.inside.separator.now) refl
+    c.requires.exact (length c.self.inside.separator.now) refl
 
 pub write_separator-requires : goal.write_separator-requires
 write_separator-requires c =
@@ -91,7 +91,7 @@ write_separator-requires c =
     c.args.output.now
     (text-is _ c.self.invariant seen c.self.view_is input c.requires.some
     c.requires.line)
-    c.requires.fits.exact (length c.self.inside.separator.now) refl
+    c.requires.exact (length c.self.inside.separator.now) refl
     c.encode_padded.new.output
     c.self.inside.separator.now c.encode_padded.ensures refl
 
@@ -103,7 +103,7 @@ returns c =
     c.args.output.now
     (text-is _ c.self.invariant seen c.self.view_is input c.requires.some
     c.requires.line)
-    c.requires.fits.exact (length c.self.inside.separator.now) refl
+    c.requires.exact (length c.self.inside.separator.now) refl
     c.encode_padded.new.output
     c.write_separator.new.output c.encode_padded.ensures
     c.write_separator.ensures

@@ -1,12 +1,9 @@
-use Rattle.std.proofs.Common.{◌-◌, ◌*◌, ◌++◌, is_some, length, sym, ap, ◌∙◌, arith, append-nil}
+use Rattle.std.proofs.Common.{◌-◌, ◌++◌, is_some, length, sym, ap, ◌∙◌, arith, append-nil}
 use Rattle.std.proofs.lemmas.List.{drop_all}
 use Rattle.data_encoding_meaning.specs.text.Base.{is_padded}
 use Rattle.data_encoding_meaning.specs.text.Text.{plain_text}
-use Rattle.data_encoding_meaning.proofs.lists.PartLemmas.{length-rest}
-use Rattle.data_encoding_meaning.proofs.lists.RunLemmas.{run_count}
 use Rattle.data_encoding.proofs.tables.TableLemmas.{IsWidth-seen}
-use Rattle.data_encoding_meaning.proofs.lists.WriteLemmas.{length-put_mid}
-use Rattle.data_encoding.proofs.text.PadLemmas.{before_eight, before_four, inside-written, padding-none, padding-written, symbols-inside}
+use Rattle.data_encoding.proofs.text.PadLemmas.{before_eight, before_four, padding-none, padding-written, symbols-inside}
 use Rattle.data_encoding_meaning.proofs.text.PaddedTextLemmas.{length-unpadded, padded_text-unpadded}
 use Rattle.data_encoding.proofs.encoding.EncodingRef.pad.Goals as goal
 
@@ -33,14 +30,8 @@ returns-in_default-clause-padding c =
 
 pub returns-then-len-ge8-clause-inside : goal.returns-then-len-ge8-clause-inside
 returns-then-len-ge8-clause-inside c =
-    inside-written c.self.invariant c.self.view_is c.args.input.now c.args.output.now
-    c.requires.exact _ c.symbol_count-count.ensures c.in-Some.character
-    (sym c.padding_character.ensures ∙ c.in-Some.is)
-    (length c.args.output.now - 8)
-    (before_eight c.self.invariant c.self.view_is c.args.input.now c.args.output.now
-    c.requires.exact _ c.symbol_count-count.ensures c.in-Some.character
-    (sym c.padding_character.ensures ∙ c.in-Some.is))
-    _ (c.fill.ensures.after (λ y same. same))
+    symbols-inside c.self.invariant c.self.view_is c.args.input.now _ c.requires.exact _
+    c.symbol_count-count.ensures
 
 pub returns-then-len-ge8-clause-padding : goal.returns-then-len-ge8-clause-padding
 returns-then-len-ge8-clause-padding c =
@@ -55,14 +46,8 @@ returns-then-len-ge8-clause-padding c =
 
 pub returns-then-len-ge4-clause-inside : goal.returns-then-len-ge4-clause-inside
 returns-then-len-ge4-clause-inside c =
-    inside-written c.self.invariant c.self.view_is c.args.input.now c.args.output.now
-    c.requires.exact _ c.symbol_count-count.ensures c.in-Some.character
-    (sym c.padding_character.ensures ∙ c.in-Some.is)
-    (length c.args.output.now - 4)
-    (before_four c.self.invariant c.self.view_is c.args.input.now c.args.output.now
-    c.requires.exact _ c.symbol_count-count.ensures c.in-Some.character
-    (sym c.padding_character.ensures ∙ c.in-Some.is) (omega arith))
-    _ (c.fill-then-len-ge4.ensures.after (λ y same. same))
+    symbols-inside c.self.invariant c.self.view_is c.args.input.now _ c.requires.exact _
+    c.symbol_count-count.ensures
 
 pub returns-then-len-ge4-clause-padding : goal.returns-then-len-ge4-clause-padding
 returns-then-len-ge4-clause-padding c =
@@ -77,9 +62,8 @@ returns-then-len-ge4-clause-padding c =
 
 pub returns-else-len-ge4-clause-inside : goal.returns-else-len-ge4-clause-inside
 returns-else-len-ge4-clause-inside c =
-    symbols-inside c.self.invariant c.self.view_is c.args.input.now c.args.output.now
-    c.requires.exact _ c.symbol_count-count.ensures c.in-Some.character
-    (sym c.padding_character.ensures ∙ c.in-Some.is)
+    symbols-inside c.self.invariant c.self.view_is c.args.input.now _ c.requires.exact _
+    c.symbol_count-count.ensures
 
 pub returns-else-len-ge4-clause-padding : goal.returns-else-len-ge4-clause-padding
 returns-else-len-ge4-clause-padding c =
