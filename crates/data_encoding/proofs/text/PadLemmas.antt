@@ -49,44 +49,44 @@ module _ {e : EncodingTables} (rules : KeepsRules e) {seen : Base} (is : base_of
         ≡ plain_text seen input ++ replicate (length output - count) character
     text-is = padded_text-some seen input width count (length output) counted exact character padded
 
-    pub before_eight : length output - 8 ≤ count
-    before_eight =
-        omega (arith, fewer-than_eight seen.width width (length input) count _ counted sized)
+    -- padding may be written from before the last symbols on
+    abbrev Pads : ℕ → Type 0
+    Pads start =
+        (filled : List ℕ)
+        → filled ≡ replicate (length (take (length output - start) (drop start output))) character
+        → padded_text seen input ≡ plain_text seen input
+        ++ drop count (put_mid start (length output - start) output filled)
 
-    pub before_four : length output < 8 → length output - 4 ≤ count
-    before_four short =
-        omega (arith, four-at_most seen.width width (length input) count _ counted sized short)
+    pads : (start : ℕ) → start ≤ count → Pads start
+    pads start before filled is_padding =
+        let written = put_mid start (length output - start) output filled in
+        let within : start ≤ length output = omega (arith, symbols-inside) in
+        let apart : start + (count - start) ≡ count = omega arith in
+        let rest : drop count written ≡ replicate (length output - count) character =
+        ap (λ n. drop n written) (sym apart)
+        ∙ sym (drop-drop (count - start) start written)
+        ∙ ap (drop (count - start)) (drop-put_mid_at start output filled within
+        ∙ is_padding ∙ ap (λ n. replicate n character) (length-rest start output))
+        ∙ drop-replicate (count - start) (length output - start) character
+        ∙ ap (λ n. replicate n character) (omega (arith, within)) in
+        text-is ∙ ap (λ l. plain_text seen input ++ l) (sym rest)
+
+    pub pads-eight : Pads (length output - 8)
+    pads-eight =
+        pads (length output - 8)
+        (omega (arith, fewer-than_eight seen.width width (length input) count _ counted sized))
+
+    pub pads-four : length output < 8 → Pads (length output - 4)
+    pads-four short =
+        pads (length output - 4)
+        (omega (arith, four-at_most seen.width width (length input) count _ counted sized short))
 
     -- a text of fewer characters has no padding
-    pub padding-none : length output < 4
+    pub pads-none : length output < 4
         → padded_text seen input ≡ plain_text seen input ++ drop count output
-    padding-none short =
-        let none : length output ≤ count =
-        none-below_four seen.width width (length input) count _ counted sized short in
+    pads-none short =
+        let none = none-below_four seen.width width (length input) count _ counted sized short in
         let zero : length output - count ≡ 0 = omega (arith, none) in
         text-is
         ∙ ap (λ l. plain_text seen input ++ l)
         (ap (λ n. replicate n character) zero ∙ sym (drop_all count output none))
-
-    -- padding may be written from before the last symbols on
-    module _ (start : ℕ) (before : start ≤ count) (filled : List ℕ)
-        (is_padding : filled
-        ≡ replicate (length (take (length output - start) (drop start output))) character) where
-      abbrev written : List ℕ
-      written = put_mid start (length output - start) output filled
-
-      within : start ≤ length output
-      within = omega (arith, symbols-inside)
-
-      rest : drop count written ≡ replicate (length output - count) character
-      rest =
-          let apart : start + (count - start) ≡ count = omega arith in
-          ap (λ n. drop n written) (sym apart)
-          ∙ sym (drop-drop (count - start) start written)
-          ∙ ap (drop (count - start)) (drop-put_mid_at start output filled within
-          ∙ is_padding ∙ ap (λ n. replicate n character) (length-rest start output))
-          ∙ drop-replicate (count - start) (length output - start) character
-          ∙ ap (λ n. replicate n character) (omega (arith, within))
-
-      pub padding-written : padded_text seen input ≡ plain_text seen input ++ drop count written
-      padding-written = text-is ∙ ap (λ l. plain_text seen input ++ l) (sym rest)

@@ -1,9 +1,9 @@
-use Rattle.std.proofs.Common.{◌-◌, ◌++◌, is_some, length, sym, ap, ◌∙◌, arith, append-nil}
+use Rattle.std.proofs.Common.{◌++◌, is_some, length, sym, ap, ◌∙◌, arith, append-nil}
 use Rattle.std.proofs.lemmas.List.{drop_all}
 use Rattle.data_encoding_meaning.specs.text.Base.{is_padded}
 use Rattle.data_encoding_meaning.specs.text.Text.{plain_text}
 use Rattle.data_encoding.proofs.tables.TableLemmas.{IsWidth-seen}
-use Rattle.data_encoding.proofs.text.PadLemmas.{before_eight, before_four, padding-none, padding-written, symbols-inside}
+use Rattle.data_encoding.proofs.text.PadLemmas.{pads-eight, pads-four, pads-none, symbols-inside}
 use Rattle.data_encoding_meaning.proofs.text.PaddedTextLemmas.{length-unpadded, padded_text-unpadded}
 use Rattle.data_encoding.proofs.encoding.EncodingRef.pad.Goals as goal
 
@@ -35,14 +35,9 @@ returns-then-len-ge8-clause-inside c =
 
 pub returns-then-len-ge8-clause-padding : goal.returns-then-len-ge8-clause-padding
 returns-then-len-ge8-clause-padding c =
-    padding-written c.self.invariant c.self.view_is c.args.input.now c.args.output.now
-    c.requires.exact _ c.symbol_count-count.ensures c.in-Some.character
-    (sym c.padding_character.ensures ∙ c.in-Some.is)
-    (length c.args.output.now - 8)
-    (before_eight c.self.invariant c.self.view_is c.args.input.now c.args.output.now
-    c.requires.exact _ c.symbol_count-count.ensures c.in-Some.character
-    (sym c.padding_character.ensures ∙ c.in-Some.is))
-    _ (c.fill.ensures.after (λ y same. same))
+    pads-eight c.self.invariant c.self.view_is c.args.input.now _ c.requires.exact _
+    c.symbol_count-count.ensures c.in-Some.character (sym c.padding_character.ensures ∙ c.in-Some.is) _
+    (c.fill.ensures.after (λ y same. same))
 
 pub returns-then-len-ge4-clause-inside : goal.returns-then-len-ge4-clause-inside
 returns-then-len-ge4-clause-inside c =
@@ -51,14 +46,9 @@ returns-then-len-ge4-clause-inside c =
 
 pub returns-then-len-ge4-clause-padding : goal.returns-then-len-ge4-clause-padding
 returns-then-len-ge4-clause-padding c =
-    padding-written c.self.invariant c.self.view_is c.args.input.now c.args.output.now
-    c.requires.exact _ c.symbol_count-count.ensures c.in-Some.character
-    (sym c.padding_character.ensures ∙ c.in-Some.is)
-    (length c.args.output.now - 4)
-    (before_four c.self.invariant c.self.view_is c.args.input.now c.args.output.now
-    c.requires.exact _ c.symbol_count-count.ensures c.in-Some.character
-    (sym c.padding_character.ensures ∙ c.in-Some.is) (omega arith))
-    _ (c.fill-then-len-ge4.ensures.after (λ y same. same))
+    pads-four c.self.invariant c.self.view_is c.args.input.now _ c.requires.exact _
+    c.symbol_count-count.ensures c.in-Some.character (sym c.padding_character.ensures ∙ c.in-Some.is)
+    (omega arith) _ (c.fill-then-len-ge4.ensures.after (λ y same. same))
 
 pub returns-else-len-ge4-clause-inside : goal.returns-else-len-ge4-clause-inside
 returns-else-len-ge4-clause-inside c =
@@ -67,7 +57,6 @@ returns-else-len-ge4-clause-inside c =
 
 pub returns-else-len-ge4-clause-padding : goal.returns-else-len-ge4-clause-padding
 returns-else-len-ge4-clause-padding c =
-    padding-none c.self.invariant c.self.view_is c.args.input.now c.args.output.now
-    c.requires.exact _ c.symbol_count-count.ensures c.in-Some.character
-    (sym c.padding_character.ensures ∙ c.in-Some.is)
+    pads-none c.self.invariant c.self.view_is c.args.input.now _ c.requires.exact _
+    c.symbol_count-count.ensures c.in-Some.character (sym c.padding_character.ensures ∙ c.in-Some.is)
     (omega arith)
