@@ -40,7 +40,7 @@ FOREIGN = {
     "EVP_EncodeBlock", "EVP_DecodeBlock",                 # OpenSSL
     "InternalEncoding",                                   # the original crate
     "SIGILL",                                             # signals
-    "decodebytes",                                        # Python's base64
+    "decodebytes", "upload_file",                         # Python's base64, Dask
     "fold", "pshufb", "simd128", "libos_c",               # tools, instructions, the toolchain
     "name_fields", "name_ref", "DE_NAME", "de_numbered_call", "de_custom_call",  # names to choose
 }

@@ -14,6 +14,8 @@
 # those of docs/INSTALL.md that use a file of a release, and tests/library.sh those of Rattle in README.md.
 # The programs there have at most eight lines each.
 #
+# The blocks in the comments of public calls are built, without proofs, and run.
+#
 # It also compares links, names (docs/names.py), the sizes of code without proofs (docs/unproved.py), the
 # toolchain and tables with the sources.
 #
@@ -148,6 +150,38 @@ while IFS= read -r -d '' block; do
     try_examples basecode.1 "${block%$'\n'}"
 done < <(sed -n '/^\.EX$/,/^\.EE$/ { s/\\-/-/g; s/\\e/\\/g; s/^\.EE$/\x00/; /^\.EX$/d; p }' \
     crates/basecode/basecode.1)
+
+# The examples in comments of public calls: each is a function that a test calls.
+commented=(crates/data_encoding/src/{encoding/calls,specification}.rt crates/encoding_stream/src/stream_{en,de}coding.rt)
+mkdir -p "$room/commented/crates/commented/src"
+cp HANDLES "$room/commented"
+# Nothing that is built is needed.
+tar -cf - --exclude=out crates/data_encoding{_meaning,_kernel,} crates/encoding_stream | tar -xf - -C "$room/commented"
+grep -E '^(data_encoding(_meaning|_kernel)?|encoding_stream):' crates.txt >"$room/commented/crates.txt"
+echo 'commented: anyhow data_encoding encoding_stream' >>"$room/commented/crates.txt"
+{
+    cat <<'END'
+#![tactic(auto)]
+
+use anyhow::Result;
+use data_encoding::{Encoding, Specification, base64, hexlower};
+use encoding_stream::{Watch, decode_stream, encode_stream};
+use std::alloc::Global;
+use std::process::Abort;
+END
+    awk '
+        /^ *\/\/\/ ```$/ {
+            inside = !inside
+            if (inside) print "\nfn example_" ++count "(rt: &impl Abort, alloc: Global) -> Result<()> {"
+            else print "    Ok(())\n}\n\n#[test]\nfn test_" count "(rt: HostRuntime) {\n" \
+                "    assert!(rt; example_" count "(&rt, rt.alloc()).is_ok());\n}"
+            next
+        }
+        inside { sub(/^ *\/\/\/ ?/, "    "); print }' "${commented[@]}"
+} >"$room/commented/crates/commented/src/lib.rt"
+(cd "$room/commented/crates/commented" && command rt try --test) >"$room/said" 2>&1
+is 'the examples in comments of public calls' 'test result: ok. 15 passed; 0 failed' \
+    "$(grep -o 'test result: .* failed' "$room/said")"
 
 # anchors FILE: those of the headings of a page, or of the lines of another file.
 anchors() {
