@@ -41,7 +41,7 @@ is 'tables of a page without a folder, again' 1 $?
 
 # rows [HEADING]: the rows of a table, or of that one of docs/SPEED.md.
 rows() {
-    if [ $# = 0 ]; then cat; else awk -v heading="## $1" '/^## / { under = $0 == heading } under' docs/SPEED.md; fi |
+    awk -v heading="${1+## $1}" '/^## / { under = $0 == heading } under || heading == ""' "$([ $# = 0 ] && echo - || echo docs/SPEED.md)" |
         cut -d '|' -f 2 | grep -E '^ (encode |decode |)[A-Z0-9_]+ $'
 }
 names=$(sed -n '/names\[NAMES\] = /,/;/p' comparisons/memory.c | grep -o '"[A-Z0-9_]*"' | tr -d '"')
@@ -81,7 +81,11 @@ commits=$(grep -ohE '\bcommit [0-9a-f]{8}\b' docs/SPEED.md | cut -d ' ' -f 2 | s
 [ -n "$commits" ] || fail 'docs/SPEED.md names no commit'
 if git -C "$repository" rev-parse --git-dir >/dev/null 2>&1; then
     for commit in $commits; do
-        is "the lines of code that are newer than the tables of commit $commit" 0 "$(changed "$commit")"
+        if git -C "$repository" cat-file -e "$commit^{commit}" 2>/dev/null; then
+            is "the lines of code that are newer than the tables of commit $commit" 0 "$(changed "$commit")"
+        else
+            fail "docs/SPEED.md names a commit that there is not: $commit"
+        fi
     done
     # A change of code is found, in a commit before code was written.
     first=$(git -C "$repository" log --format=%H --diff-filter=A -- crates/data_encoding_kernel/src/lib.rt | tail -n 1)
