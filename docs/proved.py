@@ -44,17 +44,24 @@ PARTS = (("[The text of data, and the data of a text](#the-fifteen-minutes)", 2)
          ("[Specifications](#specifications), and [`IsCanonical`](#iscanonical)", 5))
 LINES_A_MINUTE = 10
 
-# The examples of a definition that are not the first of its rows, by their beginnings.
+# The examples of a definition that are not the best of its rows, by their beginnings.
 CHOSEN = {
-    "Base": ["BASE64_MIME: base.width"], "Wrapping": ["BASE64_MIME: base.wrapping"],
-    "Positioned": ["positioned_from 4 (codes \"lo\")"], "positioned_from": ["positioned (codes"],
-    "text_of": ["BASE32: text_of", "BASE64_MIME: text_of"], "fault_of": ["HEXLOWER: fault_of"],
-    "Means": ["BASE64: Means", "HEXLOWER: (bytes"], "bits_of": ["bits_of M", "bits_of L"],
+    "Base": ["BASE64_MIME: base.width"],
+    "Wrapping": ["BASE64_MIME: base.wrapping"],
+    "bits_of": ["bits_of MostSignificantFirst", "bits_of LeastSignificantFirst"],
+    "text_of": ["BASE32: text_of", "BASE64_MIME: text_of"],
+    "Positioned": ["positioned_from 4 (codes \"lo\")"],
+    "positioned_from": ["positioned (codes"],
+    "Means": ["BASE64: Means", "HEXLOWER: (bytes : List ℕ) → Means"],
+    "greatest_valid_count": ["map (greatest_valid_count 6)"],
+    "is_valid_length": ["BASE64: map (is_valid_length", "BASE64_NOPAD: map (is_valid_length"],
+    "faulty_at": ["located (positioned_from 4 (codes \"A!\")"],
     "fault_after": ["BASE64: fault_after false", "BASE64: fault_after true"],
-    "faulty_at": ["located (positioned_from 4 (codes \"A!\")"], "Judgement": ["symbol_judgements 4"],
-    "base_of": ["base_of (unpadded_fields (codes \"00\"))"], "Fields": ["judgements 1"],
-    "greatest_valid_count": ["map (greatest_valid_count 6)"], "IsCanonical": ["HEXLOWER: IsCanonical", "BASE64: IsCanonical"],
-    "is_valid_length": ["BASE64: map", "BASE64_NOPAD: map"],
+    "fault_of": ["HEXLOWER: fault_of"],
+    "Fields": ["judgements 1"],
+    "Judgement": ["symbol_judgements 4"],
+    "base_of": ["base_of (unpadded_fields (codes \"00\"))"],
+    "IsCanonical": ["HEXLOWER: IsCanonical", "BASE64: IsCanonical"],
 }
 
 # The page shows at least this many blocks, or the comments were not read.
@@ -118,10 +125,9 @@ class Shown:
             return []
         found = []
         for start in CHOSEN.get(one.name, [""]):
-            word = re.match(r"[\w.]+", start.partition(": ")[2] or start)
             rows = self.known_rows if start else self.rows.get(one.key, ())
-            found += [it for it in examples_of(word[0] if word else one.name, rows)
-                      if it.startswith(start)][:1] or [""]
+            word = re.findall(r"[\w.]+", start.partition(": ")[2] or start or one.name)[0]
+            found += [it for it in examples_of(word, rows) if it.startswith(start)][:1] or [""]
         if "" in found:
             self.wrong.append(f"docs/PROVED.md: {one.name} has no example")
         return [line for text in found for line in example_lines(text)]
@@ -142,7 +148,6 @@ class Shown:
         text = (f"The five core definitions reach {core} with comments. The eight theorems reach {page}. "
                 f"All public contracts reach {public}.")
         return f"{mark[1]}{textwrap.fill(text, COLUMNS)}\n{mark[3]}"
-
 
     def paths(self, mark):
         """The table of the parts in which the definitions are read."""
