@@ -19,15 +19,20 @@ NAMES = {
     "single_fields": "BASE64 without concatenation",
     "lines_of_8_fields": "BASE64 in lines of 8 that end with a space",
 }
+
 # Other names for imports, and helpers of the rows with their parameters.
 ALIAS = re.compile(r"\b(\w+) as (\w+)")
 HELPER = re.compile(r"^abbrev (?:pub )?(\w+) : [^\n]+\n\1((?: \w+)*) = (.+)$", re.MULTILINE)
 USED = re.compile(r"^use .*$", re.MULTILINE)
 LONGEST_HELPER = 90
+
+# Brackets with at most four more inside, and those around such brackets alone.
 NESTED = r"\([^()]*\)"
 for _ in range(4):
     NESTED = rf"\((?:[^()]|{NESTED})*\)"
 DOUBLED = re.compile(rf"\(({NESTED})\)")
+
+# The file with the helpers of all rows.
 SHARED = TOP / "crates/data_encoding_meaning/proofs/vectors/Examples.antt"
 
 
@@ -43,7 +48,7 @@ def pieces(text, separator):
 
 
 def is_bracketed(text):
-    """Whether a text is one pair of brackets, and not a pair of values."""
+    """Returns `True` if the text is one pair of brackets, and not a pair of values."""
     return (text.startswith("(") and text.endswith(")") and len(pieces(text, " ")) == 1
             and len(pieces(text[1:-1], ",")) == 1)
 
@@ -123,8 +128,9 @@ def expanded(text, helpers, heads=False):
         used = re.compile(rf"(?<![\w.]){name}(?!\w)" + rf" (\w+|{NESTED})" * len(words))
 
         def instead(found, words=words, it=it):
-            for word, given in zip(words, found.groups()):
-                it = re.sub(rf"(?<![\w.]){word}(?!\w| = )", lambda _, given=given: given, it)
+            given = dict(zip(words, found.groups()))
+            if words:  # The field of a record may have the name of a parameter.
+                it = re.sub(rf"(?<![\w.])({'|'.join(words)})(?!\w| = )", lambda word: given[word[1]], it)
             return it if heads else argument(it)
 
         outside = re.split(r'("[^"]*")', text) if not words else [text]
@@ -153,8 +159,8 @@ def rank(name, fields, text):
     """How well an example shows a definition: the least is the best."""
     left, _, right = text.partition(" ≡ ")
     head = re.match(rf"(map \(?)?{name}(?!\w)", left)
-    return (not head, right in ("None", "[]", "Ok []", "codes \"bG8\"") or right.startswith("Err"),
-            bool(re.search(r"\b(None|false)\b", text)), fields == "", len(text))
+    is_trivial = right in ("None", "[]") or right.startswith("Err") or " " in right and right in left
+    return not head, is_trivial, bool(re.search(r"\b(None|false)\b", text)), fields == "", len(text)
 
 
 def examples_of(name, rows):
