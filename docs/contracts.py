@@ -5,10 +5,10 @@ usage: docs/contracts.py           writes the pages
        docs/contracts.py --check   writes nothing; status 1 if a page isn't what would be written, or
                                    twins (`TWINS`) have different clauses
 
-The pages are docs/CONTRACTS.md, docs/CONTRACTS_CALLS.md and docs/CONTRACTS_STEPS.md. The text above
-the contents of a page and above the first call of a crate is written there by hand. So are words on
-clauses that say more than the clause, in lines that begin with `- *LABEL*:`. They are kept as long as
-the clause, and the definitions that are shown with it, stay the same, and are dropped otherwise.
+The pages are docs/CONTRACTS.md and docs/CONTRACTS_CALLS.md. The text above the contents of a page and
+above the first call of a crate is written there by hand. So are words on clauses that say more than the
+clause, in lines that begin with `- *LABEL*:`. They are kept as long as the clause, and the definitions
+that are shown with it, stay the same, and are dropped otherwise.
 """
 import re
 import sys
@@ -29,11 +29,9 @@ SHOWN = {"encoding_stream", "basecode", "data_encoding_calls"}
 TWINS = (("`EncodingRef::", "`Encoding::"), ("_by_ref`", "`"))
 
 
-def page_of(crate, call):
+def page_of(crate):
     """The name of the page that has a call."""
-    if crate == "data_encoding_c":
-        return "CONTRACTS_CALLS.md"
-    return "CONTRACTS_STEPS.md" if call.group == "laws::steps" else "CONTRACTS.md"
+    return "CONTRACTS_CALLS.md" if crate == "data_encoding_c" else "CONTRACTS.md"
 
 
 def complete(call, shown_at):
@@ -186,7 +184,7 @@ def by_page():
     pages, homes = {}, {}
     for crate, calls in all_calls().items():
         for call in sorted(calls, key=lambda it: it.place):
-            name = page_of(crate, call)
+            name = page_of(crate)
             pages.setdefault(name, {}).setdefault(crate, []).append(call)
             homes[call.anchor] = name
     for call in (call for crates in pages.values() for calls in crates.values() for call in calls):

@@ -30,7 +30,7 @@ IDENTIFIER = re.compile(r"[A-Za-z_]\w*((::|\.)[A-Za-z_]\w*)*(\(\))?")
 WORD = re.compile(r"[A-Za-z_]\w*")
 VERSION = re.compile(r"\d+\.\d+\.\d+")  # In the name of a file of a release.
 COUNTED = re.compile(r"\b(?:medians?|range) of (?:the )?(\w+) (?:runs|turns)\b", re.IGNORECASE)
-COMMAND = re.compile(r"`(?:\w+=\S+ )?(benches/tables \w+|bench/run)\b")
+COMMAND = re.compile(r"`(?:\w+=\S+ )?(comparisons/tables|bench/run)\b")
 NUMBERS = dict(zip("two three four five six seven eight nine ten".split(), range(2, 11)))
 
 # Words of other projects, and placeholders.
@@ -40,7 +40,7 @@ FOREIGN = {
     "EVP_EncodeBlock", "EVP_DecodeBlock",                 # OpenSSL
     "InternalEncoding",                                   # the original crate
     "SIGILL",                                             # signals
-    "decodebytes",                                        # Python's base64
+    "decodebytes", "upload_file",                         # Python's base64, Dask
     "fold", "pshufb", "simd128", "libos_c",               # tools, instructions, the toolchain
     "name_fields", "name_ref", "DE_NAME", "de_numbered_call", "de_custom_call",  # names to choose
 }
@@ -96,12 +96,10 @@ class Sources:
 
 def measured(command, paragraph):
     """How many times a command measures."""
-    script, _, kind = command.partition(" ")
-    text = (TOP / script).read_text()
-    if script == "bench/run":
+    text = (TOP / command).read_text()
+    if command == "bench/run":
         return int((re.search(r"TURNS=(\d+)", paragraph) or re.search(r"TURNS-(\d+)", text))[1])
-    function = {"speed": "medians"}.get(kind, kind)
-    return int(re.search(rf"^def {function}\(.*?range\((\d+)\)", text, re.MULTILINE | re.DOTALL)[1])
+    return int(re.search(r"^RUNS = (\d+)$", text, re.MULTILINE)[1])
 
 
 def wrong_counts(text):

@@ -306,8 +306,10 @@ crates/data_encoding_c/install.sh lib /usr/local" \
     "$(printf '%s\n' "${commands[@]}" | grep -v '^cc ')"
 is 'those that compile' 2 "$(printf '%s\n' "${commands[@]}" | grep -c '^cc ')"
 block docs/C.md c >"$room/hello.c"
-is 'the program of docs/C.md' $'SGVsbG8=\nno fault, 32 bytes\ninvalid symbol at 3' \
+is 'the program of docs/C.md' $'a key\na key\ninvalid symbol at 1\nno key\nno key' \
     "$(in_room bash -c "${commands[3]} && ./hello" 2>&1)"
+block docs/FORMATS.md c >"$room/hello.c"
+is 'the program of docs/FORMATS.md' '91JPRV3F Hello' "$(in_room bash -c "${commands[3]} && ./hello" 2>&1)"
 block README.md c >"$room/hello.c"
 is 'the program of README.md' SGVsbG8= "$(in_room bash -c "${commands[3]} && ./hello" 2>&1)"
 

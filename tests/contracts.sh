@@ -15,7 +15,7 @@ holds 'the pages are what the sources make' check .
 # What the pages are made of, in "$room/copy".
 mkdir -p "$room/copy"
 cp --parents docs/*.py crates.txt "$room/copy"
-find crates -path '*/out' -prune -o \( -path '*/src/*' -o -path '*/specs/*' \) -type f -print0 |
+find crates -path '*/out' -prune -o \( -path '*/src/*' -o -path '*/specs/*' -o -path '*/proofs/*' \) -type f -print0 |
     xargs -0 cp --parents -t "$room/copy"
 last=crates.txt
 
@@ -59,6 +59,10 @@ sees 'a printed definition that changed' $text/Text.antt '^text_of base bytes = 
     'text_of base bytes = padded_text base bytes'
 sees 'a comment of a printed definition that changed' $text/Grammar.antt '^pub record GroupMeans ' '-- More.\n&'
 sees 'a printed definition that is gone' $text/Text.antt '^abbrev pub in_lines' 'abbrev pub by_lines'
+sees 'a worked row that changed' crates/data_encoding_meaning/proofs/vectors/Texts.antt \
+    'codes "7PX76AI="' 'codes "7PX76AJ="'
+sees 'a printed worked row that was edited' docs/PROVED.md 'codes "7PX76AI="' 'codes "7PX76AJ="'
+sees 'a core definition that is not printed' docs/PROVED.md ', is_padding, is_padded,' ', is_padded,'
 sees 'a printed definition that was edited' docs/PROVED.md '^Means base text bytes =' 'Means base bytes text ='
 sees 'a call that docs/PROVED.md shows and there is not' docs/PROVED.md 'shows `encode_stream`' 'shows `encodes_stream`'
 sees 'a clause that docs/PROVED.md shows and there is not' docs/PROVED.md ', begun, judges' ', begun, judged'

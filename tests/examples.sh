@@ -10,9 +10,11 @@
 #
 # tests/interop.sh runs those of docs/SCALE.md, and tests/contracts.sh has those of docs/CONTRACTS*.md and
 # docs/PROVED.md. Of docs/LIBRARY.md, docs/C.md, docs/RUST.md, docs/PYTHON.md and docs/JAVASCRIPT.md the
-# tests of these names run the programs. release/check runs those below "Use it from" in README.md, and
+# tests of these names run the programs, and each runs its program of docs/FORMATS.md. release/check runs those below "Use it from" in README.md, and
 # those of docs/INSTALL.md that use a file of a release, and tests/library.sh those of Rattle in README.md.
 # The programs there have at most eight lines each.
+#
+# The blocks in the comments of public calls are built, without proofs, and run.
 #
 # It also compares links, names (docs/names.py), the sizes of code without proofs (docs/unproved.py), the
 # toolchain and tables with the sources.
@@ -79,13 +81,22 @@ try_commands() {
         given=$(bash -e -c "$2" 2>"$room/said")
         is "$1: $2" 48656c6c6f "$given"
         ;;
-    '(cd crates/basecode && rt try --test)') holds "$1: $2" quietly bash -e -c "$2" ;;
+    # It takes long on a machine that has to be idle.
+    'crates/data_encoding_c/build.sh '*'comparisons/tables page data-encoding-2.11.1 /opt/bamsturk package')
+        holds "$1: $2" [ -x crates/data_encoding_c/build.sh -a -x bindings/javascript/build.sh -a -x comparisons/tables ]
+        ;;
     # It runs this test.
     'tests/setup && tests/all') holds "$1: $2" [ -x tests/setup -a -x tests/all ] ;;
     # release/check runs these.
     'sha256sum --check SHA256SUMS' | "basecode-$version-x86_64-linux/install.sh --remove ~/.local") ;;
     *) is "$1: a block of sh" 'one that is known here' "$2" ;;
     esac
+}
+
+# is_in_sources PAGE BLOCK
+is_in_sources() {
+    [[ "$callers"$'\n'"$library" == *"$2"* ]]
+    is "$1: its function is in the sources" 0 $?
 }
 
 # try_block PAGE KIND BLOCK
@@ -97,12 +108,11 @@ try_block() {
     docs/SCALE.md:sh | docs/LIBRARY.md:sh) ;;
     docs/CONTRACTS*.md:rust | docs/PROVED.md:rust | docs/PROVED.md:antt) ;;
     docs/C.md:* | docs/RUST.md:* | docs/PYTHON.md:* | docs/JAVASCRIPT.md:*) ;;
+    docs/FORMATS.md:python | docs/FORMATS.md:c | docs/FORMATS.md:js) ;;
+    docs/FORMATS.md:rust) [[ $'\n'"$3" == *$'\nfn main() {'* ]] || is_in_sources "$1" "$3" ;;
     *:text) try_examples "$1" "$3" ;;
     *:sh) try_commands "$1" "$3" ;;
-    *:rust)
-        [[ "$callers"$'\n'"$library" == *"$3"* ]]
-        is "$1: its function is in the sources" 0 $?
-        ;;
+    *:rust) is_in_sources "$1" "$3" ;;
     *:edit)
         is "$1: its edit is in the sources" 1 "$(cat crates/*/must-fail/*.edit | tr '\n' '\t' |
             grep -cF "$(tr '\n' '\t' <<<"$3")")"
@@ -140,6 +150,38 @@ while IFS= read -r -d '' block; do
     try_examples basecode.1 "${block%$'\n'}"
 done < <(sed -n '/^\.EX$/,/^\.EE$/ { s/\\-/-/g; s/\\e/\\/g; s/^\.EE$/\x00/; /^\.EX$/d; p }' \
     crates/basecode/basecode.1)
+
+# The examples in comments of public calls: each is a function that a test calls.
+commented=(crates/data_encoding/src/{encoding/calls,specification}.rt crates/encoding_stream/src/stream_{en,de}coding.rt)
+mkdir -p "$room/commented/crates/commented/src"
+cp HANDLES "$room/commented"
+# Nothing that is built is needed.
+tar -cf - --exclude=out crates/data_encoding{_meaning,_kernel,} crates/encoding_stream | tar -xf - -C "$room/commented"
+grep -E '^(data_encoding(_meaning|_kernel)?|encoding_stream):' crates.txt >"$room/commented/crates.txt"
+echo 'commented: anyhow data_encoding encoding_stream' >>"$room/commented/crates.txt"
+{
+    cat <<'END'
+#![tactic(auto)]
+
+use anyhow::Result;
+use data_encoding::{Encoding, Specification, base64, hexlower};
+use encoding_stream::{Watch, decode_stream, encode_stream};
+use std::alloc::Global;
+use std::process::Abort;
+END
+    awk '
+        /^ *\/\/\/ ```$/ {
+            inside = !inside
+            if (inside) print "\nfn example_" ++count "(rt: &impl Abort, alloc: Global) -> Result<()> {"
+            else print "    Ok(())\n}\n\n#[test]\nfn test_" count "(rt: HostRuntime) {\n" \
+                "    assert!(rt; example_" count "(&rt, rt.alloc()).is_ok());\n}"
+            next
+        }
+        inside { sub(/^ *\/\/\/ ?/, "    "); print }' "${commented[@]}"
+} >"$room/commented/crates/commented/src/lib.rt"
+(cd "$room/commented/crates/commented" && command rt try --test) >"$room/said" 2>&1
+is 'the examples in comments of public calls' 'test result: ok. 15 passed; 0 failed' \
+    "$(grep -o 'test result: .* failed' "$room/said")"
 
 # anchors FILE: those of the headings of a page, or of the lines of another file.
 anchors() {
@@ -188,25 +230,30 @@ is 'the logic of the toolchain in README.md' "$logic" "$(logics README.md)"
 is 'the logic of the toolchain in docs/PROVED.md' "$logic" "$(logics docs/PROVED.md)"
 is 'the logic of the toolchain in all pages' "$logic" "$(logics *.md docs/*.md)"
 
-# cell PAGE ROW COLUMN: that cell of the first such row of the page, without its bounds.
+# cell HEADING ROW COLUMN: the ratio in that cell of the first such row below a heading of docs/SPEED.md.
 cell() {
-    sed -nE "s/^\| $2 \| (.*) \|$/\1/p" "docs/$1.md" | head -n 1 | cut -d '|' -f "$3" | sed -E 's/ |\(.*//g'
+    awk -v heading="## $1" '/^## / { under = $0 == heading } under' docs/SPEED.md |
+        sed -nE "s/^\| $2 \| (.*) \|$/\1/p" | head -n 1 | cut -d '|' -f "$3" | sed -E 's/ |\(.*//g'
 }
 
-is 'the table of speed of README.md' \
-    "$(cell SPEED BASE64 3) $(cell SPEED BASE64 6)
-$(cell RUST BASE64 3) $(cell RUST BASE64 7)
-$(cell PYTHON '`BASE64.encode`, of `base64.b64encode`' 3) $(cell PYTHON '`BASE64.decode`, of `base64.b64decode`' 3)
-$(cell JAVASCRIPT '`encode`' 3) $(cell JAVASCRIPT '`decode`' 3)
-$(cell SPEED 'encode BASE64' 2) $(cell SPEED 'decode BASE64' 2)" \
-    "$(sed -nE 's/^\| .* \| ([0-9.]+) \| ([0-9.]+) \|$/\1 \2/p' README.md)"
-is 'the table of README.md has each encoding' "$(basecode list | sort)" \
-    "$(sed -n '/^## Encodings/,/^## /p' README.md | grep '^|' | grep -oE '\b(HEX|BASE)[A-Z0-9_]+' | sort)"
+# ratios NAME HEADING ROW COLUMN COLUMN: a row of README.md as docs/SPEED.md has it.
+ratios() {
+    is "the table of speed of README.md, $1" "$(cell "$2" "$3" "$4") $(cell "$2" "${6:-$3}" "$5")" \
+        "$(sed -nE "s/^\| $1 \| .* \| ([0-9.]+) \| ([0-9.]+) \|$/\1 \2/p" README.md)"
+}
+
+ratios Rattle 'From Rattle' BASE64 3 6
+ratios Rust 'From Rust' BASE64 3 7
+ratios Python 'From Python' '`BASE64.encode`, of `base64.b64encode`' 3 3 '`BASE64.decode`, of `base64.b64decode`'
+ratios JavaScript 'From JavaScript' '`encode`' 3 3 '`decode`'
+ratios '`basecode`' 'The program' 'encode BASE64' 2 2 'decode BASE64'
+is 'names of README.md that are no encoding' '' "$(sed -n '/^## Encodings/,/^## /p' README.md |
+    grep -oE '\b(HEX|BASE)[A-Z0-9_]+' | grep -vxF -e "$(basecode list)")"
 is 'the table of docs/FORMATS.md has each encoding, canonical or not' \
     "$(for name in $(basecode list); do
         echo "$name $(basecode canonical "$name" | sed 's/true/yes/; s/false/no/')"
     done)" \
-    "$(sed -n 's/^| \([A-Z0-9_]*\) | [^|]*| \(yes\|no\) | .*/\1 \2/p' docs/FORMATS.md)"
+    "$(sed -n 's/^| \([A-Z0-9_]*\) | [^|]*|[^|]*|[^|]*| \(yes\|no\) | .*/\1 \2/p' docs/FORMATS.md)"
 
 [ "$passed" -ge 20 ] || fail 'the pages have fewer than 20 examples'
 finish

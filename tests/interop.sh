@@ -161,7 +161,7 @@ block() {
         inside == number' "$scale"
 }
 
-# in_parts NUMBER MADE WANTED: runs the block, which makes a file that is wanted so. `:` is this
+# tests/scale.sh runs the last. in_parts NUMBER MADE WANTED: runs the block, which makes a file that is wanted so. `:` is this
 # machine.
 in_parts() {
     (cd parts && bash -e -c "$(block "$1" | sed 's/ one,other / : /')") ||
@@ -169,15 +169,18 @@ in_parts() {
     same "the block $1" "parts/$2" "$3"
 }
 
-[ "$(grep -c '^```sh$' "$scale")" = 5 ] || fail 'docs/SCALE.md has other than 5 blocks'
+[ "$(grep -c '^```sh$' "$scale")" = 8 ] || fail 'docs/SCALE.md has other than 8 blocks'
 head -c 67108864 /dev/urandom >parts/input
 basecode encode BASE64 <parts/input >whole
 in_parts 1 text whole
 in_parts 5 back parts/input
-for number in 2 4; do
+base64 <parts/input >parts/lines
+for number in 2 4 6 7; do
+    made=text wanted=whole
+    [ "$number" -lt 6 ] || made=back wanted=parts/input
     if command -v parallel >/dev/null; then
-        rm parts/text
-        in_parts "$number" text whole
+        mv "parts/$made" "parts/$made.before"
+        in_parts "$number" "$made" "$wanted"
     else
         skip "the block $number: no parallel"
     fi

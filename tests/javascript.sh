@@ -246,6 +246,8 @@ fi
 
 block "$page" js >program/calls.mjs
 is 'the program of docs/JAVASCRIPT.md' "$(block "$page" text)" "$(node "${flags[@]}" program/calls.mjs 2>&1)"
+block "${page%/*}/FORMATS.md" js >program/own.mjs
+is 'the program of docs/FORMATS.md' '91JPRV3F Hello' "$(node "${flags[@]}" program/own.mjs 2>&1)"
 block "$readme" js >program/hello.mjs
 is 'the program of README.md' SGVsbG8= "$(node "${flags[@]}" program/hello.mjs 2>&1)"
 

@@ -227,6 +227,9 @@ holds 'the commands of docs/PYTHON.md' quietly bash -ec "$commands"
 block "$page" python >hello.py
 is 'the program of docs/PYTHON.md' "$(block "$page" text)" \
     "$(env -u PYTHONPATH environment/bin/python3 hello.py 2>&1)"
+block "$OLDPWD/docs/FORMATS.md" python >hello.py
+is 'the program of docs/FORMATS.md' '91JPRV3F Hello' \
+    "$(env -u PYTHONPATH environment/bin/python3 hello.py 2>&1)"
 block "$OLDPWD/README.md" python >hello.py
 is 'the program of README.md' SGVsbG8= \
     "$(env -u PYTHONPATH environment/bin/python3 hello.py 2>&1)"

@@ -182,6 +182,9 @@ mkdir "$room/program/examples"
 block README.md rust Rust >"$room/program/examples/hello.rs"
 holds 'the program of README.md' cargo_in "$room/program" run --quiet --example hello
 is 'what the program of README.md prints' SGVsbG8= "$(cat "$room/said")"
+block docs/FORMATS.md rust 'From Rust' >"$room/program/examples/own.rs"
+holds 'the program of docs/FORMATS.md' cargo_in "$room/program" run --quiet --example own
+is 'what the program of docs/FORMATS.md prints' '91JPRV3F Hello' "$(cat "$room/said")"
 holds 'the program of docs/RUST.md' cargo_in "$room/program" run --quiet
 is 'what the program of docs/RUST.md prints' $'SGVsbG8=\n220644==\ninvalid symbol at 5' \
     "$(cat "$room/said")"

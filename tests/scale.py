@@ -113,6 +113,19 @@ class Here:
         return [future.result() for future in futures]
 
 
+class Counting(Here):
+    """Counts the pieces, and keeps their length."""
+
+    def __init__(self):
+        super().__init__()
+        self.mapped = 0
+
+    def map(self, function, *columns, pure, **named):
+        self.mapped += len(columns[0])
+        self.length = named["length"]
+        return super().map(function, *columns, pure=pure, **named)
+
+
 def peak():
     """The most memory that this process had at a time, in KiB."""
     with open("/proc/self/status") as file:
@@ -290,6 +303,20 @@ class OfSmallParts(unittest.TestCase):
                 for position in range(0, len(text), 7):
                     self.assert_same(BASE64_MIME, text[:position] + b"!" + text[position + 1 :])
 
+    def test_lines_are_decoded_once(self):
+        """Of any length and end, and none."""
+        text = random.randbytes(3000)
+        symbols = BASE64.encode(text)
+        for width in 4, 7, 64, 76, 5000:
+            for end in "\n", "\r\n", "\r\n\r\n":
+                parts.PART = 300
+                lines = (symbols[at : at + width] for at in range(0, len(symbols), width))
+                write("text", end.join(lines).encode())
+                client = Counting()
+                parts.decode_file(client, BASE64_MIME, "text", "back")
+                self.assertEqual(contents("back"), text)
+                self.assertEqual(client.mapped, -(-os.path.getsize("text") // client.length))
+
     def test_texts_joined(self):
         for encoding in ENCODINGS:
             for _ in range(25):
@@ -306,9 +333,9 @@ class OfSmallParts(unittest.TestCase):
             (BASE64, b"!" + good[1:], 0),
             (BASE64_NOPAD, good, 4),
             (LINES, good, 0),
-            # The fourth cut is between groups.
-            (LINES, lines, 6),
-            (LINES, lines[:20] + b"!" + lines[21:], 1),
+            # After five lines each piece has a byte too many, or a second or third; the fourth has none.
+            (LINES, lines, 3),
+            (LINES, lines[:20] + b"!" + lines[21:], 0),
         ):
             client = Here()
             write("text", text)

@@ -20,6 +20,8 @@ if [ -z "$python" ] || ! command -v "${CC:-cc}" >/dev/null; then
     finish
 fi
 
+commands=$(block docs/SCALE.md sh 'On a cluster')
+is 'the commands of docs/SCALE.md' 2 "$(grep -c '^python3 cluster.py ' <<<"$commands")"
 find_library "$@"
 cp -r bindings/python "$room/package"
 rm -rf "$room/package"/{build,src/*.egg-info}
@@ -38,9 +40,12 @@ import sys
 from data_encoding import BASE64
 sys.stdout.write(BASE64.encode(sys.stdin.buffer.read()))' <input >whole
 # At the limit of time a program ends with all its processes.
-holds 'the program' quietly timeout -k 5 60 "$python" parts.py
-holds 'what it encodes' cmp whole text
-holds 'what it decodes' cmp input back
+commands=$(sed 's/ --scheduler .*//; s:^python3 cluster.py :timeout -k 5 60 "$python" parts.py :' <<<"$commands")
+holds 'the commands of docs/SCALE.md' quietly env python="$python" bash -e -c "$commands"
+holds 'what they encode' cmp whole text
+holds 'what they decode' cmp input back
+printf 'SGVs!G8=' >faulty
+is 'a fault' 'faulty: invalid symbol at 4' "$(timeout -k 5 60 "$python" parts.py decode faulty back 2>&1 | tail -n 1)"
 if [ "${SCALE_LARGE-}" = 1 ]; then
     holds 'its memory' timeout -k 5 900 "$python" "$test" OfMemory
     cat peaks

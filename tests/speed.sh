@@ -1,70 +1,97 @@
 #!/usr/bin/env bash
-# Runs benches/speed over little data: each command of it has to write the same bytes. The ratios
-# are not judged.
+# Runs comparisons/speed over little data: each command of it has to write the same bytes. The ratios
+# are not compared. The tables of docs/SPEED.md have to be of the code as it is now: since the commits
+# that the page names, no line has changed that encodes or decodes, except for comments.
 #
 # usage: tests/speed.sh
 . "$(dirname "$0")/common.bash" || exit 1
 
-table=$(benches/speed 1)
+table=$(comparisons/speed 1)
 is 'measures' 0 $?
-wanted='| 1 MiB of data | data-encoding | basenc | cat |
-|---|---|---|---|'
+wanted='| 1 MiB of data | data-encoding | basenc | cat | MB/s |
+|---|---|---|---|---|'
 for name in HEXLOWER HEXUPPER BASE32 BASE64 BASE64_MIME; do
     other=N
     if [ "$name" = HEXLOWER ] || ! command -v basenc >/dev/null; then other=-; fi
-    wanted+=$'\n'"| encode $name | - | $other | N |"$'\n'"| decode $name | - | $other | N |"
+    wanted+=$'\n'"| encode $name | - | $other | N | N |"$'\n'"| decode $name | - | $other | N | N |"
 done
-is 'the table' "$wanted" "$(sed -E 's/[0-9]+\.[0-9]{2}/N/g' <<<"$table")"
+is 'the table' "$wanted" "$(sed -E 's/[0-9]+\.[0-9]{2}/N/g; s/[0-9]+ \|$/N |/' <<<"$table")"
 
-benches/speed 0 2>/dev/null
+comparisons/speed 0 2>/dev/null
 is 'no data' 2 $?
-benches/speed 1 2 2>/dev/null
+comparisons/speed 1 2 2>/dev/null
 is 'too many words' 2 $?
-benches/speed --original /nowhere 2>/dev/null
+comparisons/speed --original /nowhere 2>/dev/null
 is 'no original' 2 $?
 
 # These prove and build libraries, or take minutes: too long here.
-benches/memory --original /nowhere 2>/dev/null
+comparisons/memory --original /nowhere 2>/dev/null
 is 'no original in memory' 2 $?
-benches/memory 1 2>/dev/null
+comparisons/memory 1 2>/dev/null
 is 'a number in memory' 2 $?
-benches/memory --node --original bindings/rust 2>/dev/null
-is 'Node and an original in memory' 2 $?
-if command -v node >/dev/null; then
-    is 'the times of Node' $'HEXLOWER N N N N\nBASE64 N N N N' \
-        "$(node benches/memory.mjs | sed -E 's/ [0-9]+/ N/g')"
-else
-    skip 'the times of Node: no node'
-fi
-benches/calls lib lib 2>/dev/null
+comparisons/calls lib lib 2>/dev/null
 is 'too many libraries' 2 $?
-benches/tables 2>/dev/null
+comparisons/tables 2>/dev/null
 is 'tables of no page' 1 $?
-benches/tables rust lib 2>/dev/null
+comparisons/tables rust lib 2>/dev/null
 is 'tables of a page without a folder' 1 $?
 
-# The tables of docs/SPEED.md have the same rows.
-rows() {
-    cut -d '|' -f 2 | grep -E '^ (encode |decode |)[A-Z0-9_]+ $'
-}
-names=$({
-    sed -n '/names\[NAMES\] = /,/;/p' benches/memory.c
-    sed -n '/^const NAMES/,/^];/p' benches/memory.mjs
-} | grep -o '"[A-Z0-9_]*"' | tr -d '"')
-is 'the rows of docs/SPEED.md' "$(rows <<<"$table")"$'\n'"$(sed 's/.*/ & /' <<<"$names")" \
-    "$(rows <docs/SPEED.md)"
+comparisons/tables program 2>/dev/null
+is 'tables of a page without a folder, again' 1 $?
 
-for number in 0.70 0.40 0.50; do
-    printf '%s\n' '| data | one | other |' '|---|---|---|' "| encode X | $number | - |" \
-        >"$room/$number"
-done
-is 'medians' '| data | one | other |
+# rows [HEADING]: the rows of a table, or of that one of docs/SPEED.md.
+rows() {
+    awk -v heading="${1+## $1}" '/^## / { under = $0 == heading } under || heading == ""' "$([ $# = 0 ] && echo - || echo docs/SPEED.md)" |
+        cut -d '|' -f 2 | grep -E '^ (encode |decode |)[A-Z0-9_]+ $'
+}
+names=$(sed -n '/names\[NAMES\] = /,/;/p' comparisons/memory.c | grep -o '"[A-Z0-9_]*"' | tr -d '"')
+is 'the rows of docs/SPEED.md, the program' "$(rows <<<"$table")" "$(rows 'The program')"
+is 'the rows of docs/SPEED.md, from Rattle' "$(sed 's/.*/ & /' <<<"$names")" "$(rows 'From Rattle')"
+
+# medians CELL..: the cell and the note of the medians of tables with one cell each.
+medians() {
+    PYTHONDONTWRITEBYTECODE=1 python3 - "$@" <<'END'
+import importlib.machinery, importlib.util, sys
+loader = importlib.machinery.SourceFileLoader("tables", "comparisons/tables")
+module = importlib.util.module_from_spec(importlib.util.spec_from_loader("tables", loader))
+loader.exec_module(module)
+head = ["| 1 MiB | one | other |", "|---|---|---|"]
+print(module.medians([[*head, f"| encode X | {cell} | - |"] for cell in sys.argv[1:]]))
+END
+}
+is 'medians' '| 1 MiB | one | other |
 |---|---|---|
-| encode X | 0.50(0.40-0.70) | - |' "$(benches/median "$room"/0.*)"
-printf '%s\n' '| data | one | other |' >"$room/short"
-benches/median "$room/0.40" "$room/short" >"$room/output" 2>/dev/null
-is 'tables of other rows' '1 0' "$? $(stat -c %s "$room/output")"
-benches/median 2>/dev/null
-is 'medians of nothing' 2 $?
+| encode X | 0.50 (7) | - |
+
+A run differs from these ratios by at most 40 %.' "$(medians '0.70 (7)' '0.40 (9)' '0.50 (5)')"
+is 'medians of other cells' 1 "$(medians 0.70 '0.40 (9)' >/dev/null 2>&1; echo $?)"
+
+# The gate tests a copy without history: the checkout has it.
+repository=${GATE:-.}
+sources=(crates/data_encoding{_kernel,,_calls,_c}/src crates/encoding_stream/src crates/data_encoding_c/glue
+    crates/basecode/src bindings/{python,rust,javascript}/src)
+
+# changed COMMIT: how many lines of code have changed in the sources since then.
+changed() {
+    git -C "$repository" diff -U0 "$1" -- "${sources[@]}" |
+        grep -E '^[-+]' | grep -vE '^(\+\+\+|---) ' | grep -cvE '^[-+]\s*(//|\*|/\*|#|"""|$)'
+}
+
+commits=$(grep -ohE '\bcommit [0-9a-f]{8}\b' docs/SPEED.md | cut -d ' ' -f 2 | sort -u)
+[ -n "$commits" ] || fail 'docs/SPEED.md names no commit'
+if git -C "$repository" rev-parse --git-dir >/dev/null 2>&1; then
+    for commit in $commits; do
+        if git -C "$repository" cat-file -e "$commit^{commit}" 2>/dev/null; then
+            is "the lines of code that are newer than the tables of commit $commit" 0 "$(changed "$commit")"
+        else
+            fail "docs/SPEED.md names a commit that there is not: $commit"
+        fi
+    done
+    # A change of code is found, in a commit before code was written.
+    first=$(git -C "$repository" log --format=%H --diff-filter=A -- crates/data_encoding_kernel/src/lib.rt | tail -n 1)
+    [ "$(changed "${first:-HEAD}")" -gt 0 ] || fail 'no change of code is found'
+else
+    skip 'the age of the tables of docs/SPEED.md: no history'
+fi
 
 finish

@@ -1,6 +1,6 @@
 /* Prints how many nanoseconds a call takes of de_encode and de_decode by number, and of the same
  * calls by an encoding of the caller's own, for data of 16 bytes, 1 KiB and 64 KiB; with OWN_CALLS
- * (benches/calls) beside the library's own call, in Rattle, each row being taken in turns. */
+ * (comparisons/calls) beside the library's own call, in Rattle, each row being taken in turns. */
 #define _POSIX_C_SOURCE 199309L
 #include "data_encoding.h"
 
@@ -21,7 +21,7 @@ static de_encoding own;
 
 #ifdef OWN_CALLS
 /* They make the library's own call that many times, `encode_mut` or `decode_mut` alone, or, where
- * sized, with the length that a call from C finds too: benches/memory.rt.in, where base64 is 3. */
+ * sized, with the length that a call from C finds too: comparisons/memory.rt.in, where base64 is 3. */
 size_t own_encode(unsigned number, size_t times, const unsigned char *input, size_t input_len,
                   unsigned char *output, size_t output_len);
 size_t own_encode_sized(unsigned number, size_t times, const unsigned char *input,

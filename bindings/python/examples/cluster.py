@@ -1,16 +1,24 @@
-"""Encodes and decodes a file in pieces, on a cluster of Dask: docs/SCALE.md describes it."""
+"""Encodes and decodes a file in pieces, on a cluster of Dask. docs/SCALE.md describes it."""
 
+import argparse
+import contextlib
 import copy
+import math
 import os
+import sys
+import time
 
 import fsspec
-from data_encoding import BASE64, DecodeError, Decoder
+from data_encoding import DecodeError, Decoder, Encoding
 from distributed import Client, LocalCluster
 
 PART = 6_270_000
 
 # The cluster is given at most this number of pieces at a time.
 WINDOW = 256
+
+# A first line is looked for in this number of bytes.
+HEAD = 4096
 
 
 def windows(starts):
@@ -55,6 +63,23 @@ def encode_file(client, encoding, source, target):
         ))
 
 
+def layout_of(encoding, source):
+    """How many bytes of data have how many bytes of text, in whole groups: of the first lines of a
+    text that may have lines, whatever their length and end."""
+    asked = encoding.specification()
+    ignored = (asked["ignore"] + asked["wrap"][1]).encode()
+    if not ignored:
+        return encoding.encode_align, encoding.encode_len(encoding.encode_align)
+    head = read(source, 0, HEAD)
+    symbols = next((at for at, byte in enumerate(head) if byte in ignored), 0)
+    line = next((at for at in range(symbols, len(head)) if head[at] not in ignored), 0)
+    if not symbols or not line:
+        symbols = line = 1
+    bits = symbols * (len(asked["symbols"]).bit_length() - 1)
+    lines = 8 // math.gcd(8, bits)
+    return lines * bits // 8, lines * line
+
+
 def may_join(encoding):
     """Whether each text may be followed by another."""
     asked = encoding.specification()
@@ -85,8 +110,9 @@ class Decoding:
         self.client, self.encoding = client, encoding
         self.source, self.target = source, target
         self.size = size_of(source)
-        self.part = PART - PART % encoding.encode_align
-        self.length = encoding.encode_len(self.part)
+        data, text = layout_of(encoding, source)
+        count = max(1, PART // data)
+        self.part, self.length = count * data, count * text
         self.joins = may_join(encoding)
         # How much data the pieces so far have; where the text begins that they end in; and, if it
         # has no end there, the decoder that goes on.
@@ -117,8 +143,8 @@ class Decoding:
                 if self.decoder is not None:
                     self.take(start, *self.decode_on(start))
                     continue
-                # Bytes that are ignored, more or fewer than in lines as they are written, and
-                # padding, put the next piece elsewhere; one may have been written over another.
+                # Lines of another length than the first, and padding, put the next piece
+                # elsewhere; one may have been written over another.
                 is_misplaced |= place != self.written or of_text[0] > self.part
                 alone.append((start, self.written))
                 self.begin = start
@@ -153,11 +179,39 @@ def decode_file(client, encoding, source, target):
         os.truncate(target, decoding.written)
 
 
-if __name__ == "__main__":
+@contextlib.contextmanager
+def connected(address):
+    """A client of the scheduler at the address, or of two processes here."""
+    if address:
+        with Client(address) as client:
+            yield client
+        return
     local = "127.0.0.1:0"
     cluster = LocalCluster(
         n_workers=2, dashboard_address=local, worker_dashboard_address=local, host="127.0.0.1"
     )
     with cluster, Client(cluster) as client:
-        encode_file(client, BASE64, "input", "text")
-        decode_file(client, BASE64, "text", "back")
+        yield client
+
+
+def main():
+    parser = argparse.ArgumentParser(description="Converts a file on a cluster of Dask.")
+    parser.add_argument("verb", choices=("encode", "decode"))
+    parser.add_argument("source", help="a path, or another address that fsspec knows")
+    parser.add_argument("target", help="a path of a file that all workers see")
+    parser.add_argument("--encoding", default="BASE64", choices=Encoding.names(), metavar="NAME")
+    parser.add_argument("--scheduler", help="tcp://HOST:8786; without it, two processes here")
+    asked = parser.parse_args()
+    convert = {"encode": encode_file, "decode": decode_file}[asked.verb]
+    with connected(asked.scheduler) as client:
+        start = time.monotonic()
+        try:
+            convert(client, Encoding.named(asked.encoding), asked.source, asked.target)
+        except DecodeError as fault:
+            sys.exit(f"{asked.source}: {fault}")
+        rate = size_of(asked.source) / (time.monotonic() - start) / 1e6
+        print(f"{rate:.0f} MB/s", file=sys.stderr)
+
+
+if __name__ == "__main__":
+    main()

@@ -113,6 +113,13 @@ impl Specification {
     /// padding, the ignored bytes, the lines if there are any, and the translations. A translation
     /// may use the result of an earlier one. If eight bits are whole symbols, trailing bits are
     /// always checked.
+    ///
+    /// ```
+    /// let mut octal = Specification::new(alloc);
+    /// octal.symbols = String::from_str(alloc, "01234567")?;
+    /// octal.padding = Some('=');
+    /// assert!(rt; octal.encoding()?.encode(alloc, b"Hi")?.as_str() == "220644==");
+    /// ```
     pub fn encoding(&self) -> Result<Encoding, SpecificationError>
         ensures is_built { IfOk result (λ base. base_of (specified self.now) ≡ Ok base) }
         ensures refused { IfErr result

@@ -32,6 +32,13 @@ const ROOM: usize = CHUNK + 8;
 /// The first failed call of the reader or the writer, even an interrupted one, ends the stream.
 /// More than `DECODE_LIMIT` bytes are too long. If the stream ends early, a prefix of the data is
 /// written. If a read failed or the input is too long, the writer is not flushed.
+///
+/// ```
+/// let mut text = Watch::new(b"SGVsbG8=".as_slice());
+/// let mut data = Watch::new(Vec::new(alloc));
+/// decode_stream(&base64(), &mut text, &mut data)?;
+/// assert!(rt; data.into_inner().as_slice() == b"Hello".as_slice());
+/// ```
 pub fn decode_stream<R: Read, W: Write>(
     encoding: &Encoding,
     reader: &mut Watch<R>,

@@ -25,6 +25,13 @@ const ROOM: usize = 49152;
 /// The first failed call of the reader or the writer, even an interrupted one, ends the stream.
 /// More than `u64::MAX` bytes are too long. If the stream ends early, a prefix of the text is
 /// written. If a read failed or the input is too long, the writer is not flushed.
+///
+/// ```
+/// let mut data = Watch::new(b"Hello".as_slice());
+/// let mut text = Watch::new(Vec::new(alloc));
+/// encode_stream(&base64(), &mut data, &mut text)?;
+/// assert!(rt; text.into_inner().as_slice() == b"SGVsbG8=".as_slice());
+/// ```
 pub fn encode_stream<R: Read, W: Write>(
     encoding: &Encoding,
     reader: &mut Watch<R>,

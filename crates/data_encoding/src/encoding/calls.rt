@@ -98,6 +98,10 @@ impl Encoding {
     /// separators.
     ///
     /// `len` must be at most `ENCODE_LIMIT`. The result is at most `263 * len`.
+    ///
+    /// ```
+    /// assert!(rt; base64().encode_len(5) == 8);
+    /// ```
     pub fn encode_len(&self, len: usize) -> usize
         requires limit { len ≤ ENCODE_LIMIT }
         ensures { IsEncodeLen self.now len result }
@@ -123,6 +127,14 @@ impl Encoding {
     ///
     /// `input` must have at most `ENCODE_LIMIT` bytes. `output` must have exactly the length that
     /// `encode_len` returns for `input.len()`.
+    ///
+    /// ```
+    /// let encoding = base64();
+    /// let mut output = [0; 16];
+    /// let len = encoding.encode_len(5);
+    /// encoding.encode_mut(b"Hello", &mut output[..len]);
+    /// assert!(rt; &output[..len] == b"SGVsbG8=".as_slice());
+    /// ```
     pub fn encode_mut(&self, input: &[u8], output: &mut [u8])
         requires limit { length input.now ≤ ENCODE_LIMIT }
         requires exact { length output.old ≡ length (text_of self.now input.now) }
@@ -134,6 +146,13 @@ impl Encoding {
 
     /// Writes the text of `input` to `output`, like [`encode_mut`](Encoding::encode_mut), and
     /// returns `output` as a `str`.
+    ///
+    /// ```
+    /// let encoding = base64();
+    /// let mut output = [0; 16];
+    /// let len = encoding.encode_len(5);
+    /// assert!(rt; encoding.encode_mut_str(b"Hello", &mut output[..len]) == "SGVsbG8=");
+    /// ```
     pub fn encode_mut_str<'a>(&self, input: &[u8], output: &'a mut [u8]) -> &'a str
         requires limit { length input.now ≤ ENCODE_LIMIT }
         requires exact { length output.old ≡ length (text_of self.now input.now) }
@@ -148,6 +167,10 @@ impl Encoding {
     /// encoding has padding. The separator follows each line, if the encoding has lines.
     ///
     /// Returns an error only if memory runs out, and never if `input` is empty.
+    ///
+    /// ```
+    /// assert!(rt; base64().encode(alloc, b"Hello")?.as_str() == "SGVsbG8=");
+    /// ```
     pub fn encode(&self, alloc: Global, input: &[u8]) -> Result<String, AllocError>
         requires limit { length input.now ≤ ENCODE_LIMIT }
         ensures text { IfOk result (λ text. string_bytes text ≡ text_of self.now input.now) }
@@ -162,6 +185,12 @@ impl Encoding {
     ///
     /// Returns an error only if memory runs out, and never if `input` is empty. The bytes and the
     /// capacity of `output` are then unchanged.
+    ///
+    /// ```
+    /// let mut line = String::from_str(alloc, "key: ")?;
+    /// hexlower().encode_append(b"Hi", &mut line)?;
+    /// assert!(rt; line.as_str() == "key: 4869");
+    /// ```
     pub fn encode_append(&self, input: &[u8], output: &mut String) -> Result<(), AllocError>
         requires limit { length input.now ≤ ENCODE_LIMIT }
         ensures { AppendsText self.now input.now output.old output.new result }
@@ -222,6 +251,12 @@ impl Encoding {
     /// Returns a value that prints the text of the data `input`.
     ///
     /// It makes the same calls as [`encode_write`](Encoding::encode_write).
+    ///
+    /// ```
+    /// let encoding = base64();
+    /// let line = format!(in alloc; "{}", encoding.encode_display(b"Hello"))?;
+    /// assert!(rt; line.as_str() == "SGVsbG8=");
+    /// ```
     pub fn encode_display<'a>(&'a self, input: &'a [u8]) -> Display<'a>
         ensures text { shown_text result ≡ text_of self.now input.now }
         ensures data { shown_data result ≡ input.now }
@@ -234,6 +269,11 @@ impl Encoding {
     /// `len` must be at most `DECODE_LIMIT`. If no byte is ignored and no text has this length,
     /// returns a `Length` fault. Its position is the longest valid length below `len`. The texts of
     /// a padded encoding are whole groups.
+    ///
+    /// ```
+    /// assert!(rt; base64().decode_len(8).is_ok_and(|most| most == 6));
+    /// assert!(rt; base64().decode_len(7).is_err_and(|error| error.position == 4));
+    /// ```
     pub fn decode_len(&self, len: usize) -> Result<usize, DecodeError>
         requires limit { len ≤ DECODE_LIMIT }
         ensures { IsDecodeLen self.now len result }
@@ -258,6 +298,13 @@ impl Encoding {
     /// `rest` be the bytes of `input` after the groups before it, and `front` the longest prefix of
     /// `rest` with a valid length. If `front` has no ignored byte and no fault, `read` is the
     /// position of the fault.
+    ///
+    /// ```
+    /// let mut output = [0; 6];
+    /// let result = base64().decode_mut(b"SGVs!G8=", &mut output);
+    /// assert!(rt; result.is_err_and(|partial| partial.error.position == 4 && partial.read == 4));
+    /// assert!(rt; &output[..3] == b"Hel".as_slice());
+    /// ```
     pub fn decode_mut(&self, input: &[u8], output: &mut [u8]) -> Result<usize, DecodePartial>
         requires limit { length input.now ≤ DECODE_LIMIT }
         requires exact { decoded_len self.now (length input.now) ≡ Ok (length output.old) }
@@ -275,6 +322,10 @@ impl Encoding {
     /// no fault, of its first faulty group. In a group, the padding is checked before the symbols.
     /// Returns `OutOfMemory` only if memory runs out and `decode_len` returns more than 0 for
     /// `input.len()`.
+    ///
+    /// ```
+    /// assert!(rt; base64().decode(alloc, b"SGVsbG8=")?.as_slice() == b"Hello".as_slice());
+    /// ```
     pub fn decode(&self, alloc: Global, input: &[u8]) -> Result<Vec<u8>, DecodeFault>
         requires limit { length input.now ≤ DECODE_LIMIT }
         ensures { DecodesWhole self.now input.now result }
@@ -286,6 +337,10 @@ impl Encoding {
     ///
     /// This is the case if and only if trailing bits are checked, no byte is ignored or translated,
     /// and padded texts may not be concatenated.
+    ///
+    /// ```
+    /// assert!(rt; hexlower().is_canonical() && !base64().is_canonical());
+    /// ```
     pub fn is_canonical(&self) -> bool
         ensures canonical { IsTrue result ↔ IsCanonical self.now }
         ensures causes { result ≡ has_one_text self.now }
@@ -299,6 +354,11 @@ impl Encoding {
     /// byte that means a symbol or padding and is not itself that character.
     ///
     /// Returns an error only if memory runs out.
+    ///
+    /// ```
+    /// let specification = base64().specification(alloc)?;
+    /// assert!(rt; specification.padding == Some('='));
+    /// ```
     pub fn specification(&self, alloc: Global) -> Result<Specification, AllocError>
         ensures { IfOk result (λ specification. specified specification ≡ fields_of self.now) }
     {
@@ -326,6 +386,11 @@ impl Encoding {
     ///   16 if trailing bits are checked, and 32 if texts may not be concatenated.
     /// - From 514 on: with lines, the number of characters of a line and the separator. Without
     ///   lines, one 0 if some byte is ignored, and otherwise nothing.
+    ///
+    /// ```
+    /// let layout = base64().internal_implementation();
+    /// assert!(rt; Encoding::internal_new(&layout) == Some(base64()));
+    /// ```
     pub fn internal_implementation(&self) -> ArrayVec<u8, 770>
         ensures { result.items ≡ layout self.now }
     {

@@ -1,6 +1,6 @@
 /* Times the calls of memory.rt.in beside those of memory.rs, and prints a table of the ratios:
- * below 1 the proved library takes less time. Without ORIGINAL the cells are `-`. With the word
- * `long` it prints, for longer data, a line of the nanoseconds of each call, as memory.mjs does.
+ * below 1 the proved library takes less time. In brackets are its megabytes a second. Without
+ * ORIGINAL the cells are `-`.
  *
  * A sample repeats a call for some 100 microseconds. Samples of the two libraries take turns, and a
  * ratio is that of their medians. */
@@ -22,15 +22,11 @@ repeated original_encode, original_decode;
 #define original_decode NULL
 #endif
 
-enum { SAMPLES = 101, SIZES = 3, NAMES = 5, LONG_SIZES = 2, LONG_NAMES = 2, ROOM = 1 << 21 };
+enum { SAMPLES = 101, SIZES = 3, NAMES = 5, ROOM = 1 << 14 };
 
 static const char *const names[NAMES] = {"HEXLOWER", "BASE32", "BASE32_DNSCURVE", "BASE64",
                                          "BASE64_MIME"};
 static const size_t sizes[SIZES] = {16, 64, 1024};
-
-/* The sizes and the encodings that Node's `Buffer` has too. */
-static const size_t long_sizes[LONG_SIZES] = {1 << 16, 1 << 20};
-static const unsigned long_names[LONG_NAMES] = {0, 3};
 
 static byte data[ROOM], text[ROOM], output[ROOM];
 
@@ -78,24 +74,24 @@ static size_t repetitions(repeated *call, const struct conversion *one) {
     return times;
 }
 
-/* The time of one library divided by that of the other. */
-static double ratio(repeated *own, repeated *original, const struct conversion *one) {
+/* Prints the time of one library divided by the other's, and the megabytes of data a second of the
+ * first. */
+static void print_cell(repeated *own, repeated *original, const struct conversion *one,
+                       size_t size) {
     double own_times[SAMPLES], original_times[SAMPLES];
+    if (original == NULL) {
+        sample(own, one, 1);
+        printf(" - |");
+        return;
+    }
     size_t times = repetitions(own, one);
     for (int index = 0; index < SAMPLES; index++) {
         own_times[index] = sample(own, one, times);
         original_times[index] = sample(original, one, times);
     }
-    return median(own_times) / median(original_times);
-}
-
-static void print_cell(repeated *own, repeated *original, const struct conversion *one) {
-    if (original == NULL) {
-        sample(own, one, 1);
-        printf(" - |");
-    } else {
-        printf(" %.2f |", ratio(own, original, one));
-    }
+    double own_time = median(own_times);
+    printf(" %.2f (%.0f) |", own_time / median(original_times),
+           (double)(size * times) * 1e3 / own_time);
 }
 
 /* The data of that size to a text, or that text to its data. */
@@ -110,43 +106,17 @@ static void print_row(unsigned number) {
     printf("| %s |", names[number]);
     for (int at = 0; at < SIZES; at++) {
         one = conversion_of(number, sizes[at], false);
-        print_cell(own_encode, original_encode, &one);
+        print_cell(own_encode, original_encode, &one, sizes[at]);
     }
     for (int at = 0; at < SIZES; at++) {
         one = conversion_of(number, sizes[at], true);
-        print_cell(own_decode, original_decode, &one);
+        print_cell(own_decode, original_decode, &one, sizes[at]);
     }
     printf("\n");
 }
 
-/* The nanoseconds of one call. */
-static double time_of(repeated *call, const struct conversion *one) {
-    double times_of[SAMPLES];
-    size_t times = repetitions(call, one);
-    for (int index = 0; index < SAMPLES; index++) times_of[index] = sample(call, one, times);
-    return median(times_of) / (double)times;
-}
-
-static void print_long_row(unsigned number) {
-    struct conversion one;
-    printf("%s", names[number]);
-    for (int at = 0; at < LONG_SIZES; at++) {
-        one = conversion_of(number, long_sizes[at], false);
-        printf(" %.0f", time_of(own_encode, &one));
-    }
-    for (int at = 0; at < LONG_SIZES; at++) {
-        one = conversion_of(number, long_sizes[at], true);
-        printf(" %.0f", time_of(own_decode, &one));
-    }
-    printf("\n");
-}
-
-int main(int count, char **words) {
+int main(void) {
     for (size_t index = 0; index < sizeof data; index++) data[index] = (byte)(index * 151 + 7);
-    if (count > 1 && strcmp(words[1], "long") == 0) {
-        for (int at = 0; at < LONG_NAMES; at++) print_long_row(long_names[at]);
-        return 0;
-    }
     printf("| Bytes of data | encode 16 | 64 | 1024 | decode 16 | 64 | 1024 |\n");
     printf("|---|---|---|---|---|---|---|\n");
     for (unsigned number = 0; number < NAMES; number++) print_row(number);

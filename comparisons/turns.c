@@ -1,4 +1,4 @@
-/* Encodes and decodes data by an encoding of its own, for benches/turns.
+/* Encodes and decodes data by an encoding of its own, for comparisons/turns.
  *
  * usage: turns SYMBOLS most|least none|encode|decode: how far it goes. */
 #include "data_encoding.h"
