@@ -1,5 +1,5 @@
 -- The end of a text: its last symbols, the padding of their group, and ignored bytes.
-use Rattle.std.specs.Prelude.{◌≡◌, ℕ, ◌+◌, ◌-◌, ◌%◌, ◌<◌, ◌≤◌, Bool, true, false, List, [], ◌++◌, length, drop, replicate, slice_index}
+use Rattle.std.specs.Prelude.{◌≡◌, ℕ, ◌+◌, ◌-◌, ◌%◌, ◌<◌, ◌≤◌, Bool, true, false, List, [], length, take, drop, slice_index}
 use Rattle.data_encoding.specs.declared.decode.Stop.{Stop}
 use Rattle.data_encoding.specs.Progress.{HasReached}
 use Rattle.data_encoding_kernel.specs.Fronts.{IsFront}
@@ -25,12 +25,12 @@ pub record FindsSymbols {L : Type 0} (holds : List ℕ → L → Type 0) (base :
   pub is_table : HoldsValues base values
   pub held : holds values look_up
 
--- `rest` has at most sixteen bytes, and `front` has the symbols at its start.
+-- `front` has the symbols at the start of `rest`, of the first sixteen bytes at most.
 pub record IsFrontOf (base : Base) (rest : List ℕ) (front : Front) : Type 0 where
-  pub few : length rest ≤ 16
+  pub few : front.symbols ≤ 16
   pub within : front.symbols ≤ length rest
-  pub text : front.text ≡ rest ++ replicate (16 - length rest) 0
-  pub symbols : IsFront base front.text front.symbols front.bytes
+  pub text : length rest ≤ 16 → take (length rest) front.text ≡ rest
+  pub symbols : IsFront base rest front.symbols front.bytes
 
 -- `count` bytes of padding follow the symbols, fewer than a group, and a group may end with them.
 pub record IsPaddedBy (base : Base) (front : Front) (count : ℕ) : Type 0 where

@@ -5,7 +5,6 @@ use Rattle.data_encoding.specs.declared.decode.decoding_loop.Progress.{Progress}
 use Rattle.data_encoding_kernel.specs.Ignore.{HoldsIgnored}
 use Rattle.data_encoding_kernel.specs.Joins.{IsJoin}
 use Rattle.data_encoding_kernel.specs.Tables.{Reads}
-use Rattle.data_encoding_meaning.specs.declared.encoding.BitOrder.{BitOrder}
 use Rattle.data_encoding_meaning.specs.declared.limits.TheConstants.{DECODE_LIMIT}
 use Rattle.data_encoding_meaning.specs.text.Base.{Base}
 use Rattle.data_encoding_meaning.specs.text.Lengths.{decoded_len}
@@ -17,20 +16,13 @@ pub record HasExactOutput (base : Base) (text output : List ℕ) : Type 0 where
   pub limit : length text ≤ DECODE_LIMIT
   pub len : decoded_len base (length text) ≡ Ok (length output)
 
--- The symbols of the base have `width` bits, in the given order.
-pub record IsCodedIn (base : Base) (width : ℕ) (order : BitOrder) : Type 0 where
-  pub width_is : base.width ≡ width
-  pub order_is : base.order ≡ order
-
--- The base decodes with the entries, the width and the order. The look-up has the entries, the join
--- is that of the width and the order, and the ignored bytes are those of the base.
+-- The base decodes with the entries and the join. The look-up has the entries, and the ignored bytes
+-- are those of the base.
 pub record ReadsBy {L : Type 0} (holds : List ℕ → L → Type 0) (base : Base)
-    (entries : Entries L) (width : ℕ) (order : BitOrder) : Type 0 where
-  pub reads : Reads base entries.values.now width order
+    (entries : Entries L) : Type 0 where
+  pub reads : Reads base entries.values.now entries.join.now.width entries.join.now.order
   pub held : holds entries.values.now entries.look_up.now
   pub join : IsJoin entries.join.now
-  pub width_is : entries.join.now.width ≡ width
-  pub order_is : entries.join.now.order ≡ order
   pub ignored : HoldsIgnored base entries.ignored.now
 
 -- The text is decoded as far as `at` states, and `at.ignored` ignored bytes follow.

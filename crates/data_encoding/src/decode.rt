@@ -23,10 +23,7 @@ use crate::decode::groups::Entries;
 use crate::encoding::{Encoding, EncodingRef};
 use crate::error::{DecodeError, DecodeFault, DecodeKind, DecodePartial};
 use crate::memory::zeros;
-use data_encoding_kernel::call_by_width;
-use data_encoding_kernel::group_size::GroupSize;
 use data_encoding_kernel::ignore::IgnoredBytes;
-use data_encoding_kernel::simd::decode::last_symbols::Join;
 use data_encoding_kernel::simd::decode::look_up::LookUp;
 use data_encoding_kernel::simd::decode::table_rows::Rows;
 use data_encoding_meaning::limits;
@@ -94,7 +91,7 @@ impl EncodingRef<'_> {
         ensures { DecodesText self.now input.now output.old output.new result }
     {
         let mut stop = stop;
-        if self.decode_by_order(input, output, &mut stop) {
+        if self.decode_rest(input, output, &mut stop) {
             return Ok(stop.written);
         }
         Err(self.partial_error(input, output, stop))
@@ -163,36 +160,22 @@ impl EncodingRef<'_> {
         requires room { HasRoom self.now rest.now (length output.old) }
         ensures { DecodesLastRun self.now rest.now output.new result }
     {
-        call_by_width!(
-            self.fields.width,
-            self.decode_prefix_by_width::<>(rest, output)
-        )
-    }
-
-    /// Like [`decode_prefix`](EncodingRef::decode_prefix), with the width as a
-    /// constant.
-    fn decode_prefix_by_width<G: GroupSize>(&self, rest: &[u8], output: &mut [u8]) -> Option<usize>
-        requires width { self.now.width ≡ G.WIDTH }
-        requires limit { length rest.now ≤ DECODE_LIMIT }
-        requires room { HasRoom self.now rest.now (length output.old) }
-        ensures { DecodesLastRun self.now rest.now output.new result }
-    {
         let len = self.greatest_valid_length(rest.len());
         if len == 0 {
             return Some(0);
         }
-        if len > G::SYMBOLS {
+        if len > self.join().group_symbols() {
             return None;
         }
         let values = &self.fields.values;
         let entries = Entries {
             values: &values.entries,
             look_up: &Rows::of(values),
-            join: Join::of(self.fields.order(), G::WIDTH),
+            join: self.join(),
             ignored: &IgnoredBytes::of(&values.entries),
         };
-        match self.decode_group::<Rows, G>(entries, &rest[..len], output) {
-            Ok(count) => Some(G::WIDTH * count / 8),
+        match self.decode_group::<Rows>(entries, &rest[..len], output) {
+            Ok(count) => Some(self.join().bytes_len(count)),
             Err(_) => None,
         }
     }

@@ -4,7 +4,7 @@ use Rattle.std.specs.List.{list_any, range_with_len}
 use Rattle.std.specs.Simd.{first_chunks}
 use Rattle.data_encoding_meaning.specs.declared.encoding.BitOrder.{BitOrder}
 use Rattle.data_encoding_meaning.specs.declared.encoding.BitOrder.TheVariants.{MostSignificantFirst, LeastSignificantFirst}
-use Rattle.data_encoding_meaning.specs.text.Base.{group_symbols}
+use Rattle.data_encoding_meaning.specs.text.Base.{group_bytes, group_symbols}
 use Rattle.data_encoding_meaning.specs.text.Bits.{bits_of, number_of, runs}
 use Rattle.data_encoding_kernel.specs.Words.{weight, zeros_to}
 use Rattle.data_encoding_kernel.specs.declared.simd.decode.last_symbols.Join.{Join}
@@ -57,6 +57,9 @@ pub record IsJoin (join : Join) : Type 0 where
   pub first_up : join.first_up ≡ weight join.order (4 * join.width) 2 0
   pub second_up : join.second_up ≡ weight join.order (4 * join.width) 2 1
   pub group : join.group ≡ group_symbols join.width
+  pub group_log : 2 ^ join.group_log ≡ group_symbols join.width
+  pub few_log : join.group_log ≤ 3
+  pub group_bytes : join.group_bytes ≡ group_bytes join.width
 
 -- The bits of the values, one value after another.
 abbrev pub value_bits : BitOrder → ℕ → List ℕ → List ℕ

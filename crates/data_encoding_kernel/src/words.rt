@@ -1,6 +1,6 @@
 //! A group of bytes or of symbols as bits, in one word.
 
-ghost use Rattle.std.specs.Prelude.{◌≡◌, ℕ, ◌+◌, ◌-◌, ◌*◌, ◌/◌, ◌%◌, ◌^◌, ◌<◌, ◌≤◌, ◌↔◌, length, map, slice_index};
+ghost use Rattle.std.specs.Prelude.{◌≡◌, ℕ, ◌+◌, ◌-◌, ◌*◌, ◌/◌, ◌%◌, ◌^◌, ◌<◌, ◌≤◌, ◌↔◌, ◌++◌, length, map, replicate, slice_index};
 ghost use Rattle.std.specs.Int.{bit_at};
 ghost use Rattle.std.specs.List.{range_with_len};
 ghost use Rattle.data_encoding_meaning.specs.text.Base.{Base, meaning};
@@ -194,10 +194,11 @@ pub fn front_of_group<L: LookUp>(
 /// Decodes the symbols at the start of a group by the table itself. A platform without SIMD takes
 /// it.
 #[inline(always)]
-fn front_by_table(values: &[u8; 256], join: &Join, group: &[u8]) -> Front
+pub fn front_by_table(values: &[u8; 256], join: &Join, group: &[u8]) -> Front
     requires join { IsJoin join.now }
     requires few { length group.now ≤ 8 }
-    ensures { IsGroupFront values.now join.now group.now result }
+    ensures front { IsGroupFront values.now join.now group.now result }
+    ensures text { result.text ≡ group.now ++ replicate (16 - length group.now) 0 }
 {
     let others = others_by_table(values, group);
     let symbols = others.trailing_zeros() as usize;

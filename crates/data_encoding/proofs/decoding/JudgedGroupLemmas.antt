@@ -10,16 +10,19 @@ use Rattle.std.specs.List.{filter_map, list_any, position, prefix_len}
 use Rattle.data_encoding_meaning.specs.declared.encoding.Character.{Character}
 use Rattle.data_encoding_meaning.specs.declared.encoding.Character.TheVariants.{Symbol, Ignored, Invalid, Padding as PaddingCharacter}
 use Rattle.data_encoding_meaning.specs.declared.error.DecodeKind.TheVariants.{Symbol as SymbolFault, Trailing as TrailingFault}
-use Rattle.data_encoding_meaning.specs.text.Base.{Base, meaning, is_padded, is_padding, is_symbol, value_of}
+use Rattle.data_encoding_meaning.specs.text.Base.{Base, group_symbols, meaning, is_padded, is_padding, is_symbol, value_of}
 use Rattle.data_encoding_meaning.specs.decoding.Decoding.{HasFault, HasSymbols, IsDecodedGroup}
 use Rattle.data_encoding_meaning.specs.decoding.Fault.{count_before_padding, group_fault, symbol_bytes, trailing_bits, trailing_fault}
 use Rattle.data_encoding_kernel.specs.Fronts.{IsFront}
+use Rattle.data_encoding_kernel.specs.Joins.{IsJoin}
 use Rattle.data_encoding_kernel.specs.Tables.{HoldsValues}
+use Rattle.data_encoding_kernel.specs.declared.simd.decode.last_symbols.Join.{Join}
+use Rattle.data_encoding_kernel.proofs.decoding.JoinSizeLemmas.{join-group}
 use Rattle.data_encoding_meaning.proofs.lists.EndLemmas.{AllSo, count_before_end-at, count_before_end-map, end-passes}
 use Rattle.data_encoding_meaning.proofs.lists.ListLemmas.{list_any-none, position-none}
 use Rattle.data_encoding_meaning.proofs.grammar.GroupLemmas.{all_padding, any_padding, bytes_before_padding, symbols_alone}
 use Rattle.data_encoding_meaning.proofs.grammar.UnpaddedGroupLemmas.{are_symbols}
-use Rattle.data_encoding_meaning.proofs.decoding.GroupJudgementLemmas.{HasFault-own}
+use Rattle.data_encoding_meaning.proofs.decoding.GroupJudgementLemmas.{HasFault-own, few-bits}
 use Rattle.data_encoding.proofs.decoding.FrontLemmas.{AreSymbols, all_symbols}
 
 -- the first byte that is not a symbol
@@ -69,6 +72,12 @@ padding-first base (byte ∷ bytes) pads some h = not-both (meaning base byte) p
 pub set-byte : (byte : ℕ) → (byte ≡ 0 → ⊥) → not (byte == 0) ≡ true
 set-byte zero other = absurd (other refl)
 set-byte (suc n) other = grind (arith, nat_tests)
+
+-- the bits of the symbols of a group
+pub symbol-bits : {join : Join} {width count len : ℕ} → IsJoin join → join.width ≡ width
+    → count ≤ len → len ≤ group_symbols width → join.width * count ≤ 48
+symbol-bits {count = count} is same within few =
+    few-bits (join-group is) refl count (omega (arith, within, few, ap group_symbols same))
 
 -- trailing bits have a symbol
 pub some-trailing : (base : Base) (group : List ℕ) (n : ℕ) (bytes : List ℕ)

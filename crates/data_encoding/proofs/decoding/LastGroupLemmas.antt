@@ -106,12 +106,12 @@ none-kept base bytes h = none-kept_in base 0 bytes h
 
 -- a text may end with the symbols, if these tests pass
 pub ends-after : {base : Base} → IsWidth base.width → {rest : List ℕ} {front : Front}
-    → IsFrontOf base rest front → (padding : ℕ) → front.symbols + padding ≤ length rest
-    → is_valid_length base (front.symbols + padding) ≡ true
+    → IsFrontOf base rest front → length rest ≤ 16 → (padding : ℕ)
+    → front.symbols + padding ≤ length rest → is_valid_length base (front.symbols + padding) ≡ true
     → (padding ≡ 0) ⊎ IsPaddedBy base front padding
     → kept base (drop (front.symbols + padding) rest) ≡ []
     → EndsAfter base rest front.symbols padding
-ends-after {base} width {rest} {front} is padding within valid (inl none) ignored =
+ends-after {base} width {rest} {front} is short padding within valid (inl none) ignored =
     let all : front.symbols + padding ≡ front.symbols = omega (arith, none) in
     record {
       within = within;
@@ -123,10 +123,7 @@ ends-after {base} width {rest} {front} is padding within valid (inl none) ignore
       are = λ k less. absurd (omega (arith, less, none));
       ignored = ignored;
     }
-ends-after {base} width {rest} {front} is padding within valid (inr padded) ignored =
-    let front_is : take (length rest) front.text ≡ rest =
-    ap (take (length rest)) is.text
-    ∙ take_at rest (replicate (16 - length rest) 0) (length rest) refl in
+ends-after {base} width {rest} {front} is short padding within valid (inr padded) ignored =
     record {
       within = within;
       valid = padded.valid;
@@ -138,7 +135,7 @@ ends-after {base} width {rest} {front} is padding within valid (inr padded) igno
           let inside : front.symbols + k < length rest = omega (arith, less, within) in
           subst (λ byte. is_padding (meaning base byte) ≡ true)
           (sym (get_or-take (length rest) front.text (front.symbols + k) 0 inside)
-          ∙ ap (λ l. get_or l (front.symbols + k) 0) front_is)
+          ∙ ap (λ l. get_or l (front.symbols + k) 0) (is.text short))
           (padded.are k less);
       ignored = ignored;
     }
@@ -148,13 +145,13 @@ zero-valid = by_width (λ w. is_valid_count w 0 ≡ true) refl refl refl refl re
 
 -- so may it if nothing follows the padding
 pub ends-full : {base : Base} → IsWidth base.width → {rest : List ℕ} {front : Front}
-    → IsFrontOf base rest front → (padding : ℕ) → front.symbols + padding ≡ length rest
-    → is_valid_length base (length rest) ≡ true → (padding ≡ 0) ⊎ IsPaddedBy base front padding
+    → IsFrontOf base rest front → length rest ≤ 16 → (padding : ℕ)
+    → front.symbols + padding ≡ length rest → is_valid_length base (length rest) ≡ true → (padding ≡ 0) ⊎ IsPaddedBy base front padding
     → EndsAfter base rest front.symbols padding
-ends-full {base} width {rest} {front} is padding all valid how =
+ends-full {base} width {rest} {front} is short padding all valid how =
     let nothing : drop (front.symbols + padding) rest ≡ [] =
     drop_all (front.symbols + padding) rest (omega (arith, all)) in
-    ends-after width is padding (omega (arith, all)) (ap (is_valid_length base) all ∙ valid) how
+    ends-after width is short padding (omega (arith, all)) (ap (is_valid_length base) all ∙ valid) how
     (ap (kept base) nothing)
 
 -- the symbols of a vector mean few bytes
@@ -203,8 +200,7 @@ pub begun-reached : {base : Base} → IsWidth base.width → {text output : List
     → HasBegun base text output
     (record { read = read; written = written; index = index; kind = kind }) b
 begun-reached {base} width {text} {read = read} at index kind true all =
-    decoded-all (under_way (record { is_width = width; has_bytes = refl; has_symbols = refl }) refl
-    at.exact at.so_far)
+    decoded-all (under_way width at.exact at.so_far)
     (omega (arith, eqb-true (length text - read) 0 all))
 begun-reached width at index kind false more = at
 
@@ -227,11 +223,8 @@ module _ {base : Base} (width : IsWidth base.width) {text output : List ℕ} {re
   abbrev m : ℕ
   m = base.width * count / 8
 
-  under : IsUnderWay base text
-      (record { width = base.width; bytes = enc; symbols = dec }) read written false output
-  under =
-      under_way (record { is_width = width; has_bytes = refl; has_symbols = refl }) refl at.exact
-      at.so_far
+  under : IsUnderWay base text read written false output
+  under = under_way width at.exact at.so_far
 
   -- there is room for the bytes
   pub last-room : m ≤ length output - written
@@ -241,23 +234,8 @@ module _ {base : Base} (width : IsWidth base.width) {text output : List ℕ} {re
       let more : count ≤ count + padding = omega arith in
       omega (arith, all, mul-le-mul_left base.width more)
 
-  same-front : take count front.text ≡ take count rest
-  same-front =
-      ap (take count) is.text
-      ∙ take-append-le count rest (replicate (16 - length rest) 0) (omega (arith, is.within))
-
   own : IsFront base rest count front.bytes
-  own = record {
-    are_symbols = λ k less.
-        subst (λ byte. is_symbol (meaning base byte) ≡ true)
-        (sym (get_or-take count front.text k 0 less) ∙ ap (λ l. get_or l k 0) same-front
-        ∙ get_or-take count rest k 0 less)
-        (is.symbols.are_symbols k less);
-    whole = is.symbols.whole ∙ ap (λ l. symbol_bytes base (map (meaning base) l)) same-front;
-    next = ap (λ l. list_any (λ bit. not (bit == 0)) (trailing_bits base (map (meaning base) l)))
-        (sym same-front)
-        ∙ is.symbols.next;
-  }
+  own = is.symbols
 
   abbrev n : ℕ
   n = count / dec
@@ -318,11 +296,7 @@ module _ {base : Base} (width : IsWidth base.width) {text output : List ℕ} {re
         sym (whole_bytes base width n) ∙ ap (λ k. base.width * k / 8) all in
         let end : read + n * dec ≡ read + (count + padding) =
         omega (arith, all, no_padding none) in
-        rw bytes at (decoded (under_way (record {
-          is_width = width;
-          has_bytes = refl;
-          has_symbols = refl;
-        }) refl reached.exact reached.so_far) (none-after (read + n * dec) end))
+        rw bytes at (decoded (under_way width reached.exact reached.so_far) (none-after (read + n * dec) end))
 
     -- the last group
     module _ (some : 0 < left)
@@ -495,11 +469,7 @@ module _ {base : Base} (width : IsWidth base.width) {text output : List ℕ} {re
 
       group-decoded : IsDecoded base text (written + m) new
       group-decoded =
-          rw all-bytes at (decoded (under_way (record {
-            is_width = width;
-            has_bytes = refl;
-            has_symbols = refl;
-          }) refl reached.exact after)
+          rw all-bytes at (decoded (under_way width reached.exact after)
           (none-after (read + n * dec + span) (omega (arith, sum))))
 
     pub last-decoded : (base.checks_trailing_bits && not (slice_index front.bytes m == 0)) ≡ false

@@ -310,7 +310,7 @@ module _ {w b s : ℕ} (sizes : IsGroup w b s) (base : Base) (width_is : base.wi
   prefix_len : length (take len part) ≡ len
   prefix_len = length-take-le len part few
 
-  pub reads-none : len / s * b ≤ length output
+  reads-none : len / s * b ≤ length output
       → HasReadGroups base (take len part) (record { read = 0; written = 0 }) output
   reads-none room =
       read-none base own_width (take len part)

@@ -1,7 +1,7 @@
 -- Whole groups of symbols more, where no byte before them is ignored since the last group.
-use Rattle.std.proofs.Common.{◌≡◌, ℕ, zero, suc, Some, is_some, ◌+◌, ◌-◌, ◌*◌, ◌/◌, ◌<◌, ◌≤◌, true, List, [], ◌++◌, length, take, drop, get_or, refl, sym, ap, ◌∙◌, arith, length-append, length-take-le, append-nil, subst}
+use Rattle.std.proofs.Common.{◌≡◌, ℕ, zero, suc, Some, is_some, ◌+◌, ◌-◌, ◌*◌, ◌/◌, ◌<◌, ◌≤◌, true, List, [], ◌++◌, length, take, drop, get_or, replicate, refl, sym, ap, ◌∙◌, arith, length-append, length-take-le, append-nil, subst}
 use Rattle.std.proofs.Math.Nat.{div-mul-le_self, zero-mul}
-use Rattle.std.proofs.lemmas.List.{get_or-take, length-drop, take-take, take_at, take_rest}
+use Rattle.std.proofs.lemmas.List.{length-drop, length-take, take-append-le, take-take, take_all, take_at, take_rest}
 use Rattle.data_encoding_meaning.specs.text.Base.{Base, IsWidth, group_bytes, group_symbols, is_padding, is_symbol, meaning}
 use Rattle.data_encoding_meaning.specs.decoding.Decoding.{run_bytes}
 use Rattle.data_encoding_meaning.proofs.decoding.IgnoredFrontLemmas.{no_front}
@@ -12,14 +12,17 @@ use Rattle.data_encoding_meaning.proofs.lists.RunLemmas.{runs-nil}
 use Rattle.data_encoding_meaning.proofs.lists.WriteLemmas.{length-rewritten_same, rewritten, take-rewritten}
 use Rattle.data_encoding_meaning.specs.declared.encoding.Character.{Character}
 use Rattle.data_encoding_kernel.specs.Fronts.{IsFront}
+use Rattle.data_encoding_kernel.specs.declared.simd.decode.last_symbols.Front.{Front}
 use Rattle.data_encoding_kernel.specs.declared.simd.decode.last_symbols.Join.{Join}
-use Rattle.data_encoding.specs.Endings.{HasReachedTo, JoinsSymbols}
+use Rattle.data_encoding_kernel.proofs.digits.GroupFrontLemmas.{front-same}
+use Rattle.data_encoding.specs.Endings.{HasReachedTo, IsFrontOf, JoinsSymbols}
 use Rattle.data_encoding.specs.Progress.{HasExactOutput}
 use Rattle.data_encoding.specs.Encoding.{EncodingTables, KeepsPadding, KeepsRules, base_of_tables}
 use Rattle.data_encoding.specs.PlainTables.{padding_by}
 use Rattle.std.proofs.lemmas.Bool.Decides.{nat_tests}
 use Rattle.data_encoding.proofs.tables.TableLemmas.{HoldsValues-seen}
-use Rattle.data_encoding.proofs.decoding.FrontLemmas.{front-run}
+use Rattle.data_encoding_meaning.proofs.lists.PartLemmas.{groups-within}
+use Rattle.data_encoding_kernel.proofs.decoding.FrontRunLemmas.{front-run}
 use Rattle.data_encoding.proofs.decoding.OutputLemmas.{exact-same}
 
 -- the symbols of a base that are joined have a width
@@ -51,7 +54,7 @@ start-reached {base} width {text} {output} exact = record {
 }
 
 -- sixteen symbols are whole groups
-sixteen : (width : ℕ) → IsWidth width
+pub sixteen : (width : ℕ) → IsWidth width
     → (16 / group_symbols width * group_symbols width ≡ 16)
     × (16 / group_symbols width * group_bytes width ≡ 2 * width)
 sixteen =
@@ -124,70 +127,68 @@ module _ {base : Base} (width : IsWidth base.width) {text output : List ℕ} {re
   room_len : length room ≡ length output - written
   room_len = ap length (take_rest output written) ∙ length-drop written output
 
-  -- a window of sixteen symbols
-  module _ {part bytes : List ℕ} (front : IsFront base part 16 bytes)
-      (is : part ≡ take 16 (drop read text)) (enough : 16 ≤ length text - read) where
+  -- the whole groups of the symbols that follow
+  module _ {bytes : List ℕ} {n : ℕ} (front : IsFront base (drop read text) n bytes)
+      (enough : n ≤ length text - read) where
     abbrev groups : ℕ
-    groups = 16 / dec
+    groups = n / dec
 
     few : groups * dec ≤ length text - read
-    few = let both = sixteen base.width width in omega (arith, both.0, enough)
+    few = omega (arith, enough, groups-within n dec)
 
-    pub window-room : 2 * base.width ≤ length room
-    window-room =
-        let both = sixteen base.width width in
-        omega (arith, room-groups groups few, both.1, room_len)
+    pub front-room : groups * enc ≤ length room
+    front-room = omega (arith, room-groups groups few, room_len)
 
-    window-symbols : (k : ℕ) → k < groups * dec
-        → is_symbol (meaning base (get_or (drop read text) k 0)) ≡ true
-    window-symbols k less =
-        let both = sixteen base.width width in
-        let inside : k < 16 = omega (arith, less, both.0) in
-        let here : get_or part k 0 ≡ get_or (drop read text) k 0 =
-        ap (λ l. get_or l k 0) is ∙ get_or-take 16 (drop read text) k 0 inside in
-        subst (λ byte. is_symbol (meaning base byte) ≡ true) here (front.are_symbols k inside)
+    pub front-reached : (new : List ℕ) → length new ≡ length room
+        → take (groups * enc) new ≡ take (groups * enc) bytes
+        → HasReachedTo base text (read + groups * dec) (written + groups * enc)
+        (rewritten written output new)
+    front-reached new new_len is_new =
+        let run = front-run base width (drop read text) bytes [] new n
+        (omega (arith, enough, length-drop read text)) front is_new in
+        run-reached (rewritten written output new)
+        (length-rewritten_same written output new at.so_far.fits new_len) groups few run.are_symbols
+        (take-rewritten written output new at.so_far.fits (groups * enc)
+        ∙ ap (λ l. take written output ++ l) run.bytes)
 
-    module _ (new : List ℕ)
-        (is_new : new ≡ take (2 * base.width) bytes ++ drop (2 * base.width) room)
-        (new_len : length new ≡ length room) where
-      taken : length (take (2 * base.width) bytes) ≡ 2 * base.width
-      taken =
-          omega (
-            arith,
-            length-append (take (2 * base.width) bytes) (drop (2 * base.width) room),
-            ap length is_new,
-            new_len,
-            length-drop (2 * base.width) room,
-            window-room,
-          )
+-- the symbols at the start of a part
+pub front-part : (base : Base) {part : List ℕ} (rest : List ℕ) (n : ℕ) {bytes : List ℕ}
+    → IsFront base part n bytes → part ≡ take n rest → IsFront base rest n bytes
+front-part base {part} rest n {bytes} front is =
+    front-same base part rest n bytes (ap (take n) is ∙ take-take n n rest (omega arith)) front
 
-      window-bytes : take (groups * enc) new ≡ run_bytes base (take (groups * dec) (drop read text))
-      window-bytes =
-          let both = sixteen base.width width in
-          let w = 2 * base.width in
-          let whole : groups * dec + 0 ≡ 16 = omega (arith, both.0) in
-          let long : 16 ≤ length part =
-          omega (
-            arith,
-            ap length is,
-            length-take-le 16 (drop read text)
-                (omega (arith, enough, length-drop read text)),
-          ) in
-          ap (λ m. take m new) both.1
-          ∙ ap (take w) is_new
-          ∙ take_at (take w bytes) (drop w room) w taken
-          ∙ ap (λ m. take m bytes) (sym both.1)
-          ∙ front-run base width front long groups 0 whole
-          ∙ ap (λ l. run_bytes base (take (groups * dec) l)) is
-          ∙ ap (run_bytes base)
-          (take-take (groups * dec) 16 (drop read text) (omega (arith, both.0)))
+-- what is stored of a vector
+pub stored : (bytes room new : List ℕ) (m : ℕ) → new ≡ take m bytes ++ drop m room
+    → length new ≡ length room → m ≤ length room → take m new ≡ take m bytes
+stored bytes room new m is len few =
+    let taken : length (take m bytes) ≡ m =
+    omega (
+      arith,
+      length-append (take m bytes) (drop m room),
+      ap length is,
+      len,
+      length-drop m room,
+      few,
+    ) in
+    ap (take m) is ∙ take_at (take m bytes) (drop m room) m taken
 
-      pub window-reached : HasReachedTo base text (read + 16) (written + 2 * base.width)
-          (rewritten written output new)
-      window-reached =
-          let both = sixteen base.width width in
-          let same = length-rewritten_same written output new at.so_far.fits new_len in
-          rw (both.0, both.1) at (run-reached (rewritten written output new) same groups few
-          window-symbols
-          (take-rewritten written output new at.so_far.fits (groups * enc)
-          ∙ ap (λ l. take written output ++ l) window-bytes))
+-- the symbols at the start of a vector, which has the first bytes of the rest and then zeros
+pub loaded : (base : Base) (rest : List ℕ) (front : Front) (bytes : List ℕ)
+    → bytes ≡ take 16 rest ++ replicate (16 - length rest) 0 → front.text ≡ bytes
+    → front.symbols ≤ 16 → front.symbols ≤ length rest
+    → IsFront base bytes front.symbols front.bytes → IsFrontOf base rest front
+loaded base rest front bytes is text few within symbols =
+    let zeros = replicate (16 - length rest) 0 in
+    record {
+      few = few;
+      within = within;
+      text = λ short.
+          let all : take 16 rest ≡ rest = take_all 16 rest short in
+          ap (take (length rest)) (text ∙ is ∙ ap (λ l. l ++ zeros) all)
+          ∙ take_at rest zeros (length rest) refl;
+      symbols = front-same base bytes rest front.symbols front.bytes
+          (ap (take front.symbols) is
+          ∙ take-append-le front.symbols (take 16 rest) zeros
+          (omega (arith, few, within, length-take 16 rest))
+          ∙ take-take front.symbols 16 rest few) symbols;
+    }

@@ -11,7 +11,7 @@ use Rattle.data_encoding_meaning.proofs.decoding.WholeLengthLemmas.{most_bytes-f
 use Rattle.data_encoding_meaning.specs.declared.error.DecodeError.{DecodeError}
 use Rattle.data_encoding_meaning.specs.declared.error.DecodePartial.{DecodePartial}
 use Rattle.data_encoding_meaning.specs.declared.error.GroupFault.{GroupFault}
-use Rattle.data_encoding_meaning.specs.text.Base.{Base, IsWidth, group_bytes, group_symbols, is_padded, meaning, IsGroup}
+use Rattle.data_encoding_meaning.specs.text.Base.{Base, IsWidth, group_bytes, group_symbols, is_padded, meaning}
 use Rattle.data_encoding_meaning.specs.decoding.Decoding.{HasFault, HasNoLastRun, HasRoom, IsDecoded, IsDecodedGroup, IsGathered, IsLastRun, IsIgnoredFront, valid_front, HasDecodedTo}
 use Rattle.data_encoding.specs.Progress.{HasExactOutput}
 use Rattle.data_encoding.specs.Steps.{HasStopped}
@@ -30,40 +30,22 @@ use Rattle.data_encoding_meaning.proofs.decoding.StopLemmas.{IsAtFault, at-fault
 use Rattle.data_encoding_meaning.proofs.grammar.KeptLemmas.{nothing-left}
 use Rattle.data_encoding_meaning.proofs.decoding.IgnoredFrontLemmas.{gathered-after, nothing-after}
 
--- The sizes of a group, as constants of the code.
-pub record Sizes : Type 0 where
-  pub width : ℕ
-  pub bytes : ℕ
-  pub symbols : ℕ
-
 -- A decoding in progress: this much was read and written of a text whose length is not a fault, to
 -- an output of exactly its size.
-pub record IsUnderWay (base : Base) (text : List ℕ) (sizes : Sizes) (read written : ℕ)
-    (ended : Bool) (output : List ℕ) : Type 0 where
+pub record IsUnderWay (base : Base) (text : List ℕ) (read written : ℕ) (ended : Bool)
+    (output : List ℕ) : Type 0 where
   pub width : IsWidth base.width
-  pub symbols_is : sizes.symbols ≡ group_symbols base.width
-  pub bytes_is : sizes.bytes ≡ group_bytes base.width
-  pub width_is : base.width ≡ sizes.width
   pub no_fault : length_fault base (length text) ≡ None
   pub size_is : most_bytes base (length text) ≡ length output
   pub so_far : HasDecodedTo base text read written ended output
 
-pub under_way : {base : Base} {text : List ℕ} {width bytes symbols read written : ℕ} {ended : Bool}
-    {output : List ℕ} → IsGroup width bytes symbols → base.width ≡ width
-    → HasExactOutput base text output → HasDecodedTo base text read written ended output
-    → IsUnderWay base text (record { width = width; bytes = bytes; symbols = symbols }) read written
-    ended output
-under_way {base} {text} {output} g width_is exact so_far =
+pub under_way : {base : Base} {text : List ℕ} {read written : ℕ} {ended : Bool} {output : List ℕ}
+    → IsWidth base.width → HasExactOutput base text output
+    → HasDecodedTo base text read written ended output
+    → IsUnderWay base text read written ended output
+under_way {base} {text} {output} width exact so_far =
     let counted = decoded_len-counted base (length text) (length output) exact.len in
-    record {
-      width = subst IsWidth (sym width_is) g.is_width;
-      symbols_is = g.has_symbols ∙ ap group_symbols (sym width_is);
-      bytes_is = g.has_bytes ∙ ap group_bytes (sym width_is);
-      width_is = width_is;
-      no_fault = counted.0;
-      size_is = counted.1;
-      so_far = so_far;
-    }
+    record { width = width; no_fault = counted.0; size_is = counted.1; so_far = so_far }
 
 same-partial : (partial : DecodePartial) (read written : ℕ) (error : DecodeError)
     → partial.read ≡ read → partial.written ≡ written → partial.error ≡ error
@@ -84,8 +66,8 @@ pub final-is : {own base : Base} (count len : ℕ) → own ≡ base → own.conc
 final-is count len same apart padded =
     let joins = ap (λ (b : Base). b.concatenates) same in grind (arith, nat_tests, joins)
 
-module _ {base : Base} {text : List ℕ} {sizes : Sizes} {read written : ℕ} {ended : Bool}
-    {output : List ℕ} (s : IsUnderWay base text sizes read written ended output) where
+module _ {base : Base} {text : List ℕ} {read written : ℕ} {ended : Bool} {output : List ℕ}
+    (s : IsUnderWay base text read written ended output) where
   -- if nothing is left, the text means what was written
   pub decoded : kept_from base read text ≡ [] → IsDecoded base text written output
   decoded none =
@@ -109,12 +91,9 @@ module _ {base : Base} {text : List ℕ} {sizes : Sizes} {read written : ℕ} {e
   -- if another output of that length holds it too
   further : {stop count : ℕ} {final : Bool} {new : List ℕ} → length new ≡ length output
       → HasDecodedTo base text stop count final new
-      → IsUnderWay base text sizes stop count final new
+      → IsUnderWay base text stop count final new
   further len so_far = record {
     width = s.width;
-    symbols_is = s.symbols_is;
-    bytes_is = s.bytes_is;
-    width_is = s.width_is;
     no_fault = s.no_fault;
     size_is = s.size_is ∙ sym len;
     so_far = so_far;
@@ -122,11 +101,11 @@ module _ {base : Base} {text : List ℕ} {sizes : Sizes} {read written : ℕ} {e
 
   -- nothing is left if nothing is gathered
   none-left : (start : ℕ) → start ≤ length text → {group : List ℕ} {span : ℕ}
-      → IsGathered base sizes.symbols (take (length text - start) (drop start text)) group span
+      → IsGathered base (group_symbols base.width) (take (length text - start) (drop start text)) group span
       → {empty : Bool} → empty ≡ (length group == 0) → empty ≡ true
       → kept_from base start text ≡ []
   none-left start within {group} {span} is empty_is empty =
-      none-next base s.width text start within (rw (s.symbols_is, take_rest text start) at is)
+      none-next base s.width text start within (rw (take_rest text start) at is)
       (eqb-true (length group) 0 (sym empty_is ∙ empty))
 
   -- a group of that many bytes has room, if it may have bytes
@@ -161,7 +140,7 @@ module _ {base : Base} {text : List ℕ} {sizes : Sizes} {read written : ℕ} {e
       ∙ greatest-valid base s.width len)))
 
   module _ {group : List ℕ} {span : ℕ}
-      (is : IsGathered base sizes.symbols (take (length text - read) (drop read text)) group span)
+      (is : IsGathered base (group_symbols base.width) (take (length text - read) (drop read text)) group span)
     where
       -- a text that ends there means what was written
       pub decoded-empty : {empty : Bool} → empty ≡ (length group == 0) → empty ≡ true
@@ -169,7 +148,7 @@ module _ {base : Base} {text : List ℕ} {sizes : Sizes} {read written : ℕ} {e
       decoded-empty empty_is empty = decoded (none-left read s.so_far.within is empty_is empty)
 
       found_here : IsGathered base (group_symbols base.width) (drop read text) group span
-      found_here = rw (s.symbols_is, take_rest text read) at is
+      found_here = rw (take_rest text read) at is
 
       abbrev placed : List Positioned
       placed = next_bytes base text read span
@@ -181,15 +160,15 @@ module _ {base : Base} {text : List ℕ} {sizes : Sizes} {read written : ℕ} {e
       next some = is-next base s.width text read s.so_far.within found_here some
 
       -- a group has room
-      pub room-next_group : (is_padded base ≡ true → length group ≡ sizes.symbols)
-          → sizes.width * length group / 8
+      pub room-next_group : (is_padded base ≡ true → length group ≡ group_symbols base.width)
+          → base.width * length group / 8
           ≤ length (take (length output - written) (drop written output))
       room-next_group whole =
           let few : length group ≤ length text - read =
           omega (arith, gathered-few found_here, found_here.within, length-drop read text) in
           let room = room-group_of (length group) few
-          (λ padded. rw (whole padded, s.symbols_is) (mod_self (group_symbols base.width))) in
-          rw (take_rest output written, ← s.width_is)
+          (λ padded. rw (whole padded) (mod_self (group_symbols base.width))) in
+          rw (take_rest output written)
           (omega (arith, room, length-drop written output))
 
       -- A faulty group stops the decoding.
@@ -273,8 +252,8 @@ module _ {base : Base} {text : List ℕ} {sizes : Sizes} {read written : ℕ} {e
             }
 
 -- if no final group came before
-module _ {base : Base} {text : List ℕ} {sizes : Sizes} {read written : ℕ} {output : List ℕ}
-    (s : IsUnderWay base text sizes read written false output) where
+module _ {base : Base} {text : List ℕ} {read written : ℕ} {output : List ℕ}
+    (s : IsUnderWay base text read written false output) where
   module _ {skip : ℕ} (front : IsIgnoredFront base (drop read text) skip) where
     abbrev start : ℕ
     start = read + skip
@@ -284,14 +263,14 @@ module _ {base : Base} {text : List ℕ} {sizes : Sizes} {read written : ℕ} {o
 
     -- a run has room
     pub room-next_run : length (take (length text - (read + skip)) (drop (read + skip) text))
-        / sizes.symbols * sizes.bytes
+        / group_symbols base.width * group_bytes base.width
         ≤ length (take (length output - written) (drop written output))
     room-next_run =
         let dec = group_symbols base.width in
         let count = length (drop start text) / dec in
         let whole : count * dec ≤ length text - read =
         omega (arith, div-add-mod' (length (drop start text)) dec, length-drop start text) in
-        rw (take_rest text start, take_rest output written, s.symbols_is, s.bytes_is)
+        rw (take_rest text start, take_rest output written)
         (omega (arith, room-run base s.width text s.so_far count whole, length-drop written output))
 
     -- nothing is left if nothing follows the ignored bytes
@@ -303,17 +282,17 @@ module _ {base : Base} {text : List ℕ} {sizes : Sizes} {read written : ℕ} {o
 
     -- what is gathered there is gathered from before them
     module _ {group : List ℕ} {span : ℕ}
-        (is : IsGathered base sizes.symbols
+        (is : IsGathered base (group_symbols base.width)
         (take (length text - (read + skip)) (drop (read + skip) text)) group span) where
-      found_after : IsGathered base sizes.symbols (drop skip (drop read text)) group span
+      found_after : IsGathered base (group_symbols base.width) (drop skip (drop read text)) group span
       found_after = rw (take_rest text start, ← drop-drop skip read text) at is
 
       pub gathered-next : 0 < length group
-          → IsGathered base sizes.symbols (take (length text - read) (drop read text)) group
+          → IsGathered base (group_symbols base.width) (take (length text - read) (drop read text)) group
           (skip + span)
       gathered-next some =
           rw (take_rest text read)
-          (gathered-after base sizes.symbols (drop read text) group skip span front found_after
+          (gathered-after base (group_symbols base.width) (drop read text) group skip span front found_after
           (omega (arith, some, gathered-few found_after)))
 
       pub decoded-none : {empty : Bool} → empty ≡ (length group == 0) → empty ≡ true
@@ -324,32 +303,31 @@ module _ {base : Base} {text : List ℕ} {sizes : Sizes} {read written : ℕ} {o
 
   -- what a group does
   module _ {group : List ℕ} {span : ℕ}
-      (is : IsGathered base sizes.symbols (take (length text - read) (drop read text)) group span)
+      (is : IsGathered base (group_symbols base.width) (take (length text - read) (drop read text)) group span)
       (some : 0 < length group) {count : ℕ} {rest : List ℕ}
       (rest_len : length rest
       ≡ length (take (length output - written) (drop written output)))
       (has : IsDecodedGroup base group count rest) where
-    whole : is_padded base ≡ true → length group ≡ sizes.symbols
+    whole : is_padded base ≡ true → length group ≡ group_symbols base.width
     whole padded =
         let len = length-map group (meaning base) in
         sym len
         ∙ (GroupMeans-sound base s.width (map (meaning base) group)
         (omega (arith, len, some)) (omega (arith, len, (found_here s is).few)) has.sound).is_whole
         padded
-        ∙ sym s.symbols_is
 
-    few : sizes.width * count / 8 ≤ length rest
+    few : base.width * count / 8 ≤ length rest
     few =
         omega (
           arith,
-          mul-le-mul_left sizes.width has.within,
+          mul-le-mul_left base.width has.within,
           room-next_group s is whole,
           rest_len,
         )
 
     pub after_group : (stop : ℕ) {final : Bool} → read + span ≡ stop
         → (not base.concatenates && nat_lt count (length group)) ≡ final
-        → IsUnderWay base text sizes stop (written + sizes.width * count / 8) final
+        → IsUnderWay base text stop (written + base.width * count / 8) final
         (rewritten written output rest)
     after_group stop {final} place is_final =
         let new = rewritten written output rest in
@@ -357,11 +335,11 @@ module _ {base : Base} {text : List ℕ} {sizes : Sizes} {read written : ℕ} {o
         let same = same_bytes s is in
         further s (length-rewritten_same written output rest s.so_far.fits rest_len)
         (rw (← place, ← is_final, ← has.final, ← same)
-        (after-group base s.width text (sizes.width * count / 8) new s.so_far (next s is some)
+        (after-group base s.width text (base.width * count / 8) new s.so_far (next s is some)
         (rw (same, has.sound))
         (omega (arith, few, fits))
-        (take-rewritten written output rest s.so_far.fits (sizes.width * count / 8)
-        ∙ ap (λ l. take written output ++ l) (rw (← s.width_is, has.bytes, ← same)))))
+        (take-rewritten written output rest s.so_far.fits (base.width * count / 8)
+        ∙ ap (λ l. take written output ++ l) (rw (has.bytes, ← same)))))
 
 -- what is found is a group if it is not empty
 pub some-group : {base : Base} {size : ℕ} {part group : List ℕ} {span : ℕ} {empty : Bool}

@@ -1,22 +1,18 @@
 //! Decoding a text: its bit order, its look-up and its width are chosen once.
 
-ghost use Rattle.std.specs.Prelude.{◌≡◌};
 ghost use Rattle.data_encoding_meaning.specs.text.Base.{IsWidth};
+ghost use Rattle.data_encoding_kernel.specs.Tables.{HoldsValues};
 ghost use Rattle.data_encoding.specs.Endings.{FindsSymbols, HasBegun, HasReachedTo};
-ghost use Rattle.data_encoding.specs.Progress.{HasExactOutput, IsCodedIn};
+ghost use Rattle.data_encoding.specs.Progress.{HasExactOutput};
 ghost use Rattle.data_encoding.specs.Steps.{HasEnded};
 
 use crate::decode::Stop;
 use crate::decode::decoding_loop::progress_at;
 use crate::decode::groups::Entries;
-use crate::encoding::{BitOrder, EncodingRef};
-use data_encoding_kernel::bit_order::{ConstantOrder, LeastSignificantFirst, MostSignificantFirst};
-use data_encoding_kernel::call_by_width;
-use data_encoding_kernel::group_size::GroupSize;
+use crate::encoding::EncodingRef;
 use data_encoding_kernel::ignore::IgnoredBytes;
 use data_encoding_kernel::platform::has_simd;
 use data_encoding_kernel::simd::decode::affine::Affine;
-use data_encoding_kernel::simd::decode::last_symbols::Join;
 use data_encoding_kernel::simd::decode::look_up::LookUp;
 use data_encoding_kernel::simd::decode::table_rows::Rows;
 
@@ -31,12 +27,10 @@ impl EncodingRef<'_> {
         ensures begun { HasBegun self.now input.now output.new stop.new result }
         ensures width { IsWidth self.now.width }
     {
-        let values = &self.fields.values;
         if !has_simd() {
-            stop.read = 0;
-            stop.written = 0;
-            return false;
+            return self.decode_in_words(input, output, stop);
         }
+        let values = &self.fields.values;
         if values.is_affine() {
             return self.decode_valid_by::<Affine>(&Affine::of(values), input, output, stop);
         }
@@ -62,75 +56,46 @@ impl EncodingRef<'_> {
         self.decode_short::<L>(look_up, input, output, stop)
     }
 
-    /// Decodes the bytes of a text after those read, up to the first fault, and returns whether
-    /// there is none.
-    pub(crate) fn decode_by_order(&self, input: &[u8], output: &mut [u8], stop: &mut Stop) -> bool
-        requires at { HasReachedTo self.now input.now stop.old.read stop.old.written output.old }
-        ensures { HasEnded self.now input.now output.new stop.new result }
-    {
-        match self.fields.order() {
-            BitOrder::MostSignificantFirst => {
-                self.decode_by_width::<MostSignificantFirst>(input, output, stop)
-            }
-            BitOrder::LeastSignificantFirst => {
-                self.decode_by_width::<LeastSignificantFirst>(input, output, stop)
-            }
-        }
-    }
-
-    /// Makes the width and the sizes of a group constants.
-    fn decode_by_width<O: ConstantOrder>(
-        &self,
-        input: &[u8],
-        output: &mut [u8],
-        stop: &mut Stop,
-    ) -> bool
-        requires order { self.now.order ≡ O.ORDER }
-        requires at { HasReachedTo self.now input.now stop.old.read stop.old.written output.old }
-        ensures { HasEnded self.now input.now output.new stop.new result }
-    {
-        call_by_width!(
-            self.fields.width,
-            self.decode_rest::<O>(input, output, stop)
-        )
-    }
-
-    /// Decodes the bytes of a text after those read. Uses the affine form of the table if it has
-    /// one, and its rows otherwise.
+    /// Decodes the bytes of a text after those read, up to the first fault. Returns `true` if there
+    /// is none.
     // Not inlined, so that short texts do not pay for the stack of the loop.
     #[inline(never)]
-    fn decode_rest<O: ConstantOrder, G: GroupSize>(
-        &self,
-        input: &[u8],
-        output: &mut [u8],
-        stop: &mut Stop,
-    ) -> bool
-        requires coded { IsCodedIn self.now G.WIDTH O.ORDER }
+    pub(crate) fn decode_rest(&self, input: &[u8], output: &mut [u8], stop: &mut Stop) -> bool
         requires at { HasReachedTo self.now input.now stop.old.read stop.old.written output.old }
         ensures { HasEnded self.now input.now output.new stop.new result }
     {
         let table = &self.fields.values;
-        let values = &table.entries;
-        let join = Join::of(O::ORDER, G::WIDTH);
-        let ignored = &IgnoredBytes::of(values);
-        let at = progress_at(ignored, stop.read, stop.written, input);
         if table.is_affine() {
             let look_up = &Affine::of(table);
-            let entries = Entries {
-                values,
-                look_up,
-                join,
-                ignored,
-            };
-            return self.decode_steps::<Affine, O, G>(entries, at, input, output, stop);
+            return self.decode_rest_by::<Affine>(&table.entries, look_up, input, output, stop);
         }
         let look_up = &Rows::of(table);
+        self.decode_rest_by::<Rows>(&table.entries, look_up, input, output, stop)
+    }
+
+    /// Like `decode_rest`, with a look-up.
+    #[inline(always)]
+    fn decode_rest_by<L: LookUp>(
+        &self,
+        values: &[u8; 256],
+        look_up: &L,
+        input: &[u8],
+        output: &mut [u8],
+        stop: &mut Stop,
+    ) -> bool
+        requires values { HoldsValues self.now values.now }
+        requires held { L.holds values.now look_up.now }
+        requires at { HasReachedTo self.now input.now stop.old.read stop.old.written output.old }
+        ensures { HasEnded self.now input.now output.new stop.new result }
+    {
+        let ignored = &IgnoredBytes::of(&self.fields.values.entries);
         let entries = Entries {
             values,
             look_up,
-            join,
+            join: self.join(),
             ignored,
         };
-        self.decode_steps::<Rows, O, G>(entries, at, input, output, stop)
+        let at = progress_at(ignored, stop.read, stop.written, input);
+        self.decode_steps::<L>(entries, at, input, output, stop)
     }
 }

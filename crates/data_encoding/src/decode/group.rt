@@ -1,17 +1,18 @@
 //! Validation of one group of a text: its bytes, or its fault.
 
 ghost use Rattle.std.specs.Prelude.{◌≡◌, ◌*◌, ◌/◌, ◌<◌, ◌≤◌, true, false, length, map, IfOk, IfErr};
-ghost use Rattle.data_encoding_meaning.specs.text.Base.{Base, meaning, is_padded};
+ghost use Rattle.data_encoding_meaning.specs.text.Base.{Base, group_symbols, is_padded, meaning};
 ghost use Rattle.data_encoding_meaning.specs.decoding.Decoding.{HasFault, HasSymbols, IsDecodedGroup};
 ghost use Rattle.data_encoding_meaning.specs.decoding.Fault.{count_before_padding};
 ghost use Rattle.data_encoding_kernel.specs.Tables.{HoldsValues};
 ghost use Rattle.data_encoding_kernel.specs.GroupFronts.{HasOthers};
+ghost use Rattle.data_encoding.specs.Endings.{JoinsSymbols};
 ghost use Rattle.data_encoding.specs.Progress.{ReadsBy};
 
 use crate::decode::groups::Entries;
 use crate::encoding::{EncodingRef, PADDING};
 use data_encoding_kernel::decode::store_lanes;
-use data_encoding_kernel::group_size::GroupSize;
+use data_encoding_kernel::simd::decode::last_symbols::Join;
 use data_encoding_kernel::simd::decode::look_up::LookUp;
 use data_encoding_kernel::words::front_of_group;
 use data_encoding_meaning::error::{DecodeKind, GroupFault};
@@ -21,30 +22,31 @@ impl EncodingRef<'_> {
     ///
     /// Finds every fault of a group, except that it follows a final group.
     #[inline(always)]
-    pub(crate) fn decode_group<L: LookUp, G: GroupSize>(
+    pub(crate) fn decode_group<L: LookUp>(
         &self,
         entries: Entries<'_, L>,
         group: &[u8],
         output: &mut [u8],
     ) -> Result<usize, GroupFault>
-        requires entries { ReadsBy L.holds self.now entries G.WIDTH entries.join.now.order }
+        requires entries { ReadsBy L.holds self.now entries }
         requires some { 0 < length group.now }
-        requires few { length group.now ≤ G.SYMBOLS }
-        requires room { (is_padded self.now ≡ true → length group.now ≡ G.SYMBOLS)
-            → G.WIDTH * length group.now / 8 ≤ length output.old }
+        requires few { length group.now ≤ group_symbols self.now.width }
+        requires room { (is_padded self.now ≡ true
+            → length group.now ≡ group_symbols self.now.width)
+            → self.now.width * length group.now / 8 ≤ length output.old }
         ensures sound { IfOk result (λ count.
             IsDecodedGroup self.now group.now count output.new) }
         ensures fault { IfErr result (HasFault self.now false group.now) }
     {
         let front = front_of_group(entries.values, entries.look_up, entries.join, group);
-        let count = match self.count_symbols::<G>(entries.values, front.others, group) {
+        let count = match self.count_symbols(entries.values, entries.join, front.others, group) {
             Ok(count) => count,
             Err(fault) => return Err(fault),
         };
         if front.symbols < count {
             return Err(faulty(front.symbols, DecodeKind::Symbol));
         }
-        let written = G::WIDTH * count / 8;
+        let written = entries.join.bytes_len(count);
         store_lanes(front.bytes, written, output);
         // The byte after the data has the trailing bits.
         if self.fields.checks_trailing_bits && front.bytes.to_array()[written] != 0 {
@@ -56,23 +58,24 @@ impl EncodingRef<'_> {
     /// Returns the number of symbols before the padding of a group, if a group may have that
     /// number. `others` has the bits of its bytes that are not symbols.
     #[inline(always)]
-    fn count_symbols<G: GroupSize>(
+    fn count_symbols(
         &self,
         values: &[u8; 256],
+        join: &Join,
         others: u64,
         group: &[u8],
     ) -> Result<usize, GroupFault>
-        requires width { self.now.width ≡ G.WIDTH }
+        requires join { JoinsSymbols self.now join.now }
         requires values { HoldsValues self.now values.now }
         requires others { HasOthers values.now group.now others }
         requires some { 0 < length group.now }
-        requires few { length group.now ≤ G.SYMBOLS }
+        requires few { length group.now ≤ group_symbols self.now.width }
         ensures symbols { IfOk result (HasSymbols self.now group.now) }
         ensures whole { IfOk result
-            (λ _. is_padded self.now ≡ true → length group.now ≡ G.SYMBOLS) }
+            (λ _. is_padded self.now ≡ true → length group.now ≡ group_symbols self.now.width) }
         ensures fault { IfErr result (HasFault self.now false group.now) }
     {
-        let width = G::WIDTH;
+        let width = join.width;
         if !self.fields.is_padded() {
             let trailing = width * group.len() % 8;
             if trailing >= width {
@@ -80,7 +83,7 @@ impl EncodingRef<'_> {
             }
             return Ok(group.len());
         }
-        if group.len() < G::SYMBOLS {
+        if group.len() < join.group_symbols() {
             return Err(faulty(0, DecodeKind::Length));
         }
         let count = before_padding(values, others, group);

@@ -1,14 +1,13 @@
 //! The next group of a text: its next bytes that are not ignored.
 
 ghost use Rattle.std.specs.Prelude.{◌≡◌, ◌<◌, ◌≤◌, length, take, IsTrue};
-ghost use Rattle.data_encoding_meaning.specs.text.Base.{Base, ignores_some};
+ghost use Rattle.data_encoding_meaning.specs.text.Base.{Base, group_symbols};
 ghost use Rattle.data_encoding_meaning.specs.decoding.Decoding.{IsGathered};
 ghost use Rattle.data_encoding_meaning.specs.decoding.Fault.{position_of};
 ghost use Rattle.data_encoding_meaning.specs.text.Grammar.{kept};
 ghost use Rattle.data_encoding_kernel.specs.Ignore.{HoldsIgnored};
 
 use crate::encoding::EncodingRef;
-use data_encoding_kernel::group_size::GroupSize;
 use data_encoding_kernel::ignore::IgnoredBytes;
 
 /// A group of a text: its bytes, and the length of the text up to its end, with ignored bytes.
@@ -29,30 +28,25 @@ impl EncodingRef<'_> {
     /// Returns the next group of the rest of a text, or the fewer bytes that are left and not
     /// ignored. If one of the next bytes is ignored, the group is gathered in `room`.
     #[inline(always)]
-    pub(crate) fn next_group<'a, G: GroupSize>(
+    pub(crate) fn next_group<'a>(
         &self,
-        ignores: bool,
+        symbols: usize,
         ignored: &IgnoredBytes,
         rest: &'a [u8],
         room: &'a mut [u8; 8],
     ) -> Group<'a>
-        requires ignores { ignores ≡ ignores_some self.now }
+        requires symbols { symbols ≡ group_symbols self.now.width }
         requires ignored { HoldsIgnored self.now ignored.now }
-        ensures { IsGathered self.now G.SYMBOLS rest.now result.bytes.now result.span }
+        ensures { IsGathered self.now symbols rest.now result.bytes.now result.span }
     {
-        if ignores && !starts_whole::<G>(ignored, rest) {
-            let gathered = gather::<G>(ignored, rest, room);
+        if self.fields.ignores && !starts_whole(symbols, ignored, rest) {
+            let gathered = gather(symbols, ignored, rest, room);
             return Group {
                 bytes: &room[..gathered.count],
                 span: gathered.span,
             };
         }
-        let count = G::SYMBOLS;
-        let bytes = if rest.len() < count {
-            rest
-        } else {
-            &rest[..count]
-        };
+        let bytes = &rest[..symbols.min(rest.len())];
         Group {
             bytes,
             span: bytes.len(),
@@ -87,15 +81,14 @@ impl EncodingRef<'_> {
 
 /// Returns `true` only if no byte of the next group is ignored.
 #[inline(always)]
-pub(crate) fn starts_whole<G: GroupSize>(ignored: &IgnoredBytes, rest: &[u8]) -> bool
+pub(crate) fn starts_whole(symbols: usize, ignored: &IgnoredBytes, rest: &[u8]) -> bool
     ensures { IsTrue result → (base : Base) → HoldsIgnored base ignored.now
-        → IsGathered base G.SYMBOLS rest.now (take G.SYMBOLS rest.now) G.SYMBOLS }
+        → IsGathered base symbols rest.now (take symbols rest.now) symbols }
 {
-    let most = G::SYMBOLS;
-    if rest.len() < most {
+    if rest.len() < symbols {
         return false;
     }
-    for index in 0..most {
+    for index in 0..symbols {
         if ignored.contains(rest[index]) {
             return false;
         }
@@ -104,14 +97,14 @@ pub(crate) fn starts_whole<G: GroupSize>(ignored: &IgnoredBytes, rest: &[u8]) ->
 }
 
 /// Gathers the first bytes that are not ignored at the start of `room`.
-fn gather<G: GroupSize>(ignored: &IgnoredBytes, rest: &[u8], room: &mut [u8; 8]) -> Gathered
-    ensures few { result.count ≤ G.SYMBOLS }
+fn gather(symbols: usize, ignored: &IgnoredBytes, rest: &[u8], room: &mut [u8; 8]) -> Gathered
+    requires few { symbols ≤ 8 }
+    ensures few { result.count ≤ symbols }
     ensures first { (base : Base) → HoldsIgnored base ignored.now
-        → IsGathered base G.SYMBOLS rest.now (take result.count room.new) result.span }
+        → IsGathered base symbols rest.now (take result.count room.new) result.span }
 {
-    let most = G::SYMBOLS;
     let mut span = 0;
-    for count in 0..most {
+    for count in 0..symbols {
         let at = span + ignored.front(&rest[span..]);
         if at == rest.len() {
             return Gathered { count, span };
@@ -119,5 +112,8 @@ fn gather<G: GroupSize>(ignored: &IgnoredBytes, rest: &[u8], room: &mut [u8; 8])
         room[count] = rest[at];
         span = at + 1;
     }
-    Gathered { count: most, span }
+    Gathered {
+        count: symbols,
+        span,
+    }
 }

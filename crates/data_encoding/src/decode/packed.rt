@@ -10,8 +10,6 @@ ghost use Rattle.data_encoding.specs.Progress.{GoesOn, HasReached, ReadsBy};
 use crate::decode::decoding_loop::Progress;
 use crate::decode::groups::Entries;
 use crate::encoding::EncodingRef;
-use data_encoding_kernel::bit_order::ConstantOrder;
-use data_encoding_kernel::group_size::GroupSize;
 use data_encoding_kernel::ignore::{IgnoredBytes, pack};
 use data_encoding_kernel::simd::decode::look_up::LookUp;
 
@@ -25,14 +23,14 @@ impl EncodingRef<'_> {
     /// within them.
     // Not inlined, so that other texts do not pay for the stack that the packed bytes take.
     #[inline(never)]
-    pub(crate) fn decode_packed<L: LookUp, O: ConstantOrder, G: GroupSize>(
+    pub(crate) fn decode_packed<L: LookUp>(
         &self,
         entries: Entries<'_, L>,
         at: Progress,
         input: &[u8],
         output: &mut [u8],
     ) -> Progress
-        requires entries { ReadsBy L.holds self.now entries G.WIDTH O.ORDER }
+        requires entries { ReadsBy L.holds self.now entries }
         requires at { HasReached self.now input.now at output.old }
         ensures { GoesOn self.now input.now at.read result output.new }
     {
@@ -40,7 +38,7 @@ impl EncodingRef<'_> {
         let mut packed = [0; ROOM];
         let (span, count) = pack(entries.ignored, &input[start..], &mut packed);
         let room = &mut output[at.written..];
-        let found = self.decode_groups::<L, O, G>(entries, &packed, count, room);
+        let found = self.decode_groups::<L>(entries, &packed, count, room);
         if found.read == 0 {
             return at;
         }

@@ -2,37 +2,56 @@
 //!
 //! The last symbols are decoded in one vector, with the padding or the trailing bits after them.
 
-ghost use Rattle.std.specs.Prelude.{◌≡◌, ℕ, ◌+◌, ◌*◌, ◌/◌, ◌<◌, ◌≤◌, true, false, [], length, drop, IsTrue};
-ghost use Rattle.data_encoding_kernel.specs.Runs.{IsRun};
-ghost use Rattle.data_encoding_meaning.specs.text.Base.{IsWidth, group_bytes, group_symbols, ignores_some};
+ghost use Rattle.std.specs.Prelude.{◌≡◌, ℕ, ◌+◌, ◌*◌, ◌/◌, ◌<◌, ◌≤◌, true, false, [], length, drop, slice_index, IsTrue};
+ghost use Rattle.data_encoding_meaning.specs.text.Base.{IsWidth, group_symbols, ignores_some};
 ghost use Rattle.data_encoding_meaning.specs.text.Grammar.{kept};
 ghost use Rattle.data_encoding_meaning.specs.text.Lengths.{is_valid_length};
 ghost use Rattle.data_encoding.specs.Endings.{EndsAfter, FindsSymbols, HasBegun, HasReachedTo, IsFrontOf, IsPaddedBy, JoinsSymbols};
-ghost use Rattle.data_encoding.specs.Progress.{HasExactOutput, IsCodedIn};
+ghost use Rattle.data_encoding.specs.Progress.{HasExactOutput};
 
 use crate::decode::Stop;
 use crate::decode::decoding_loop::Progress;
-use crate::encoding::{BitOrder, EncodingRef, IGNORED};
-use data_encoding_kernel::bit_order::{ConstantOrder, LeastSignificantFirst, MostSignificantFirst};
-use data_encoding_kernel::call_by_width;
+use crate::encoding::{EncodingRef, IGNORED};
 use data_encoding_kernel::copy::store_front;
-use data_encoding_kernel::decode::decode_iterations;
-use data_encoding_kernel::group_size::GroupSize;
-use data_encoding_kernel::simd::decode::last_symbols::{
-    Front, Join, decode_front, decode_whole, load_last,
-};
+use data_encoding_kernel::decode::load_at;
+use data_encoding_kernel::simd::decode::last_symbols::{Front, Join, decode_front, decode_whole};
 use data_encoding_kernel::simd::decode::look_up::LookUp;
 use data_encoding_kernel::simd::padded_load::load_padded;
+use data_encoding_kernel::words::front_by_table;
 use std::simd::prelude::*;
 
 impl EncodingRef<'_> {
     /// Returns how the values of symbols are joined to bytes.
     #[inline(always)]
-    fn join(&self) -> &'static Join
+    pub(crate) fn join(&self) -> &'static Join
         ensures join { JoinsSymbols self.now result.now }
         ensures width { IsWidth self.now.width }
     {
         Join::of(self.fields.order(), self.fields.width as usize)
+    }
+
+    /// Decodes a text like `decode_valid`, by the table itself. A platform without SIMD takes it.
+    pub(crate) fn decode_in_words(&self, input: &[u8], output: &mut [u8], stop: &mut Stop) -> bool
+        requires exact { HasExactOutput self.now input.now output.old }
+        ensures begun { HasBegun self.now input.now output.new stop.new result }
+        ensures width { IsWidth self.now.width }
+    {
+        let values = &self.fields.values.entries;
+        let join = self.join();
+        let read = join.decode_in_words(values, input, output);
+        let at = Progress {
+            read,
+            written: join.groups_len(read),
+            ignored: 0,
+        };
+        let rest = &input[read..];
+        if rest.len() > 8 {
+            stop.read = at.read;
+            stop.written = at.written;
+            return false;
+        }
+        let front = front_by_table(values, join, rest);
+        self.decode_last(&front, join, at, input, output, stop)
     }
 
     /// Decodes a text of at most sixteen bytes, like `decode_valid`.
@@ -90,13 +109,8 @@ impl EncodingRef<'_> {
             }
         }
         let at = self.decode_windows::<L>(look_up, join, at, input, output);
-        let left = input.len() - at.read;
-        if left > 16 {
-            stop.read = at.read;
-            stop.written = at.written;
-            return false;
-        }
-        let front = decode_front(look_up, join, left, load_last(input, left));
+        let len = (input.len() - at.read).min(16);
+        let front = decode_front(look_up, join, len, load_at(input, at.read));
         self.decode_last(&front, join, at, input, output, stop)
     }
 
@@ -115,11 +129,11 @@ impl EncodingRef<'_> {
         requires exact { HasExactOutput self.now input.now output.old }
         ensures reached { HasReachedTo self.now input.now result.read result.written output.new }
     {
-        let groups = self.decode_iterations::<L>(look_up, input, output);
-        let read = groups * join.group_symbols();
+        let read = join.decode_iterations::<L>(look_up, input, output);
+        let read = join.whole_groups(read);
         Progress {
             read,
-            written: join.bytes_len(read),
+            written: join.groups_len(read),
             ignored: 0,
         }
     }
@@ -153,7 +167,7 @@ impl EncodingRef<'_> {
         at
     }
 
-    /// Stores what the last symbols mean, if the text is valid.
+    /// Stores what the last symbols mean if the text is valid, or else what their whole groups mean.
     #[inline(always)]
     fn decode_last(
         &self,
@@ -169,19 +183,38 @@ impl EncodingRef<'_> {
         requires front { IsFrontOf self.now (drop at.read input.now) front.now }
         ensures { HasBegun self.now input.now output.new stop.new result }
     {
-        let count = join.bytes_len(front.symbols);
-        let bytes = front.bytes.to_array();
-        // The byte after the data has the trailing bits. It is read only where it decides.
-        if !self.ends_at(front, join, &input[at.read..])
-            || (self.fields.checks_trailing_bits && bytes[count] != 0)
-        {
-            stop.read = at.read;
-            stop.written = at.written;
+        let is_valid = self.is_end(front, join, &input[at.read..]);
+        let symbols = if is_valid {
+            front.symbols
+        } else {
+            join.whole_groups(front.symbols)
+        };
+        let count = join.bytes_len(symbols);
+        store_front(&front.bytes.to_array(), count, &mut output[at.written..]);
+        stop.read = at.read + symbols;
+        stop.written = at.written + count;
+        is_valid
+    }
+
+    /// Returns `true` if a text may end with these symbols, their trailing bits, and the bytes after
+    /// them.
+    #[inline(always)]
+    fn is_end(&self, front: &Front, join: &Join, rest: &[u8]) -> bool
+        requires join { JoinsSymbols self.now join.now }
+        requires front { IsFrontOf self.now rest.now front.now }
+        requires valid { ignores_some self.now ≡ false
+            → is_valid_length self.now (length rest.now) ≡ true }
+        ensures end { IsTrue result
+            → (padding : ℕ) × EndsAfter self.now rest.now front.now.symbols padding }
+        ensures trailing { IsTrue result → self.now.checks_trailing_bits ≡ true
+            → slice_index front.now.bytes (self.now.width * front.now.symbols / 8) ≡ 0 }
+    {
+        if rest.len() > 16 || !self.ends_at(front, join, rest) {
             return false;
         }
-        store_front(&bytes, count, &mut output[at.written..]);
-        stop.written = at.written + count;
-        true
+        // The byte after the data has the trailing bits. It is read only where it decides.
+        !self.fields.checks_trailing_bits
+            || front.bytes.to_array()[join.bytes_len(front.symbols)] == 0
     }
 
     /// Returns `true` if a text may end with these symbols and the bytes after them.
@@ -189,6 +222,7 @@ impl EncodingRef<'_> {
     fn ends_at(&self, front: &Front, join: &Join, rest: &[u8]) -> bool
         requires join { JoinsSymbols self.now join.now }
         requires front { IsFrontOf self.now rest.now front.now }
+        requires few { length rest.now ≤ 16 }
         requires valid { ignores_some self.now ≡ false
             → is_valid_length self.now (length rest.now) ≡ true }
         ensures { IsTrue result
@@ -248,49 +282,5 @@ impl EncodingRef<'_> {
             }
         }
         true
-    }
-
-    /// Decodes eight groups per iteration, up to one with a byte that is not a symbol, and returns
-    /// the number of whole groups before that byte.
-    // Not inlined, so that short texts save no registers for it.
-    #[inline(never)]
-    fn decode_iterations<L: LookUp>(&self, look_up: &L, input: &[u8], output: &mut [u8]) -> usize
-        requires finds { FindsSymbols L.holds self.now look_up.now }
-        requires room { length input.now / group_symbols self.now.width
-            * group_bytes self.now.width ≤ length output.old }
-        ensures run { IsRun self.now input.now result output.old output.new }
-    {
-        match self.fields.order() {
-            BitOrder::MostSignificantFirst => {
-                call_by_width!(
-                    self.fields.width,
-                    self.decode_iterations_of::<L, MostSignificantFirst>(look_up, input, output)
-                )
-            }
-            BitOrder::LeastSignificantFirst => {
-                call_by_width!(
-                    self.fields.width,
-                    self.decode_iterations_of::<L, LeastSignificantFirst>(look_up, input, output)
-                )
-            }
-        }
-    }
-
-    /// Like [`decode_iterations`](EncodingRef::decode_iterations), with the order and the width as
-    /// constants.
-    #[inline(never)]
-    fn decode_iterations_of<L: LookUp, O: ConstantOrder, G: GroupSize>(
-        &self,
-        look_up: &L,
-        input: &[u8],
-        output: &mut [u8],
-    ) -> usize
-        requires finds { FindsSymbols L.holds self.now look_up.now }
-        requires coded { IsCodedIn self.now G.WIDTH O.ORDER }
-        requires room { length input.now / group_symbols self.now.width
-            * group_bytes self.now.width ≤ length output.old }
-        ensures run { IsRun self.now input.now result output.old output.new }
-    {
-        decode_iterations::<L, O, G>(look_up, input, input.len(), output) / G::SYMBOLS
     }
 }

@@ -4,7 +4,7 @@ use Rattle.std.proofs.Math.Nat.{add-mul, add-mul-div_left, div-lt_iff_lt-mul, ze
 use Rattle.std.proofs.lemmas.Bool.{cases_lt}
 use Rattle.std.proofs.lemmas.List.{append-nil, get_or-take, get_or-drop, length-drop, length-take, take-append-le, take-take, take_all, take_at, length-map, map-append}
 use Rattle.std.proofs.Math.Seq.{take-append-add}
-use Rattle.std.proofs.lemmas.Nat.{div-mul-add}
+use Rattle.std.proofs.lemmas.Nat.{div-add-mod', div-mul-add}
 use Rattle.std.proofs.lemmas.List.Concat.{flat_map-append}
 use Rattle.std.proofs.lemmas.Slice.{take-put_mid}
 use borrow.Rule.Slice.PartMut.{put_mid}
@@ -109,6 +109,14 @@ groups-after {s} first found size same pos =
     ap (λ n. (first * n + found) / s) same
     ∙ ap (λ n. n / s) (omega (arith, mul_comm first s))
     ∙ add-mul-div_left found first pos ∙ omega arith
+
+-- symbols that are not of a whole group do not count
+pub groups-whole : {s : ℕ} (at n : ℕ) → 0 < s → at % s ≡ 0 → (at + n) / s ≡ (at + n / s * s) / s
+groups-whole {s} at n pos whole =
+    let start : at ≡ at / s * s = omega (arith, whole, div-add-mod' at s) in
+    ap (λ k. (k + n) / s) start ∙ groups-after (at / s) n s refl pos
+    ∙ ap (λ k. at / s + k) (sym (groups-of_product (n / s) s refl pos))
+    ∙ sym (ap (λ k. (k + n / s * s) / s) start ∙ groups-after (at / s) (n / s * s) s refl pos)
 
 -- the same, with the sizes of a group under other names
 module _ (base : Base) (width : IsWidth base.width) (w bytes symbols : ℕ)

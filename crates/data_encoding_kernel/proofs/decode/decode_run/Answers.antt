@@ -1,35 +1,43 @@
-use Rattle.std.proofs.Common.{◌≡◌, ◌*◌, ◌/◌, ◌%◌, take, ap, ◌∙◌, arith}
-use Rattle.std.proofs.Math.Nat.{mul-mod_left, mul_assoc}
-use Rattle.std.proofs.lemmas.Nat.{div-add-mod'}
-use Rattle.data_encoding_kernel.proofs.decoding.SymbolRunLemmas.{run-none, run-same, zero-groups}
-use Rattle.data_encoding_kernel.proofs.decode.decode_run.Goals.{then-input-symbols, else-input-symbols}
+use Rattle.std.proofs.Common.{◌≡◌, ◌*◌, ◌/◌, ◌%◌, take, refl, ap, ◌∙◌, sym, arith}
+use Rattle.std.proofs.Math.Nat.{mul-mod_left, zero-mod}
+use Rattle.data_encoding_meaning.specs.text.Base.{group_symbols}
+use Rattle.data_encoding_meaning.proofs.digits.WidthLemmas.{group_symbols-pos}
+use Rattle.data_encoding_kernel.proofs.decoding.JoinSizeLemmas.{join-width}
+use Rattle.data_encoding_kernel.proofs.decoding.SymbolRunLemmas.{groups-of_product, run-none, run-same, zero-groups}
+use Rattle.data_encoding_kernel.proofs.decode.decode_run.Goals.{then-input-turn+else-whole_groups-at+else-len-at, else-input-turn}
 use Rattle.data_encoding_kernel.proofs.decode.decode_run.Goals as goal
+
+pub returns-then-whole_groups-at-clause-run : goal.returns-then-whole_groups-at-clause-run
+returns-then-whole_groups-at-clause-run g c =
+    let s = group_symbols c.args.join.now.width in
+    let count = c.decode_line-at.result / s in
+    rw (
+      c.whole_groups-then-whole_groups-at.ensures,
+      groups-of_product count s refl (group_symbols-pos c.args.join.now.width (join-width c.requires.join)),
+    ) (c.decode_line-at.ensures.run c.args.values.now c.requires.held)
+
+pub returns-then-whole_groups-at-clause-whole : goal.returns-then-whole_groups-at-clause-whole
+returns-then-whole_groups-at-clause-whole g c =
+    let s = group_symbols c.args.join.now.width in
+    rw c.whole_groups-then-whole_groups-at.ensures (mul-mod_left (c.decode_line-at.result / s) s)
 
 pub decode_windows-requires-clause-whole : goal.decode_windows-requires-clause-whole
 decode_windows-requires-clause-whole g c =
-    let at = c.if-input-symbols.at in
-    let size = 8 * c.SYMBOLS-symbols.result in
-    let symbols = g.G.GroupSize.SYMBOLS in
-    let same : size ≡ 8 * symbols = ap (λ n. 8 * n) c.SYMBOLS-symbols.ensures in
-    let all : at ≡ at / size * 8 * symbols =
-    omega (
-      arith,
-      c.if-at-symbols-ne0.false,
-      div-add-mod' at size,
-      ap (λ n. at / size * n) same,
-      mul_assoc (at / size) 8 symbols,
-    ) in
-    ap (λ n. n % symbols) all ∙ mul-mod_left (at / size * 8) symbols
+    let s = group_symbols c.args.join.now.width in
+    elim c.if-input-turn.branch [
+      | then-input-turn+else-whole_groups-at+else-len-at w ↦
+          let count = 8 * (w.decode_line-at.result / 8 / s) in
+          let all : w.decode_line-at.result ≡ count * s =
+          omega (arith, w.if-whole_groups-at.false, w.whole_groups.ensures) in
+          rw w.at-is (ap (λ n. n % s) all ∙ mul-mod_left count s)
+      | else-input-turn w ↦ rw w.at-is (zero-mod s)
+    ]
 
 pub decode_windows-requires-clause-begun : goal.decode_windows-requires-clause-begun
 decode_windows-requires-clause-begun g c = λ values held base reads.
-    elim c.if-input-symbols.branch [
-      | then-input-symbols w ↦ rw (w.at-is, w.output-is)
-          (run-same base (w.decode_iterations-at.ensures.run values held base (record {
-            width_is = reads.width_is;
-            order_is = reads.order_is ∙ c.requires.same.1;
-            holds = reads.holds;
-          })))
-      | else-input-symbols w ↦ rw (w.at-is, w.output-is, zero-groups g.G.GroupSize.SYMBOLS)
+    elim c.if-input-turn.branch [
+      | then-input-turn+else-whole_groups-at+else-len-at w ↦ rw (w.at-is, w.output-is)
+          (run-same base (w.decode_line-at.ensures.run values held base reads))
+      | else-input-turn w ↦ rw (w.at-is, w.output-is, zero-groups (group_symbols c.args.join.now.width))
           (run-none base reads.holds.is_width (take c.args.len c.args.input.now) _ _)
     ]

@@ -15,8 +15,8 @@ slice_bounds-word_of_symbols-end c =
     (before-end c.others_by_table-others.result (length c.args.group.now)
     c.others_by_table-others.type_inv c.others_by_table-others.ensures.end).0)
 
-pub returns : goal.returns
-returns c =
+pub returns-clause-front : goal.returns-clause-front
+returns-clause-front c =
     let values = c.args.values.now in
     let group = c.args.group.now in
     let width = c.args.join.now.width in

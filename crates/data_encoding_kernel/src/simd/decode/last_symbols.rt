@@ -6,7 +6,7 @@ ghost use Rattle.std.specs.List.{AllByRecursion};
 ghost use Rattle.std.specs.Simd.{first_chunks};
 ghost use Rattle.data_encoding_kernel.specs.Fronts.{IsFront};
 ghost use Rattle.data_encoding_kernel.specs.Tables.{Reads};
-ghost use Rattle.data_encoding_meaning.specs.text.Base.{Base, group_symbols};
+ghost use Rattle.data_encoding_meaning.specs.text.Base.{Base, group_bytes, group_symbols};
 ghost use Rattle.data_encoding_kernel.specs.Joins.{AreJoined, IsJoin};
 ghost use Rattle.data_encoding_kernel.specs.Words.{word_of};
 
@@ -30,8 +30,10 @@ pub struct Join {
     /// these and added.
     first_up: u64,
     second_up: u64,
-    /// The number of symbols of a whole group.
+    /// The number of symbols of a whole group, its binary logarithm, and the number of bytes.
     group: usize,
+    group_log: usize,
+    group_bytes: usize,
     /// The order of the bits.
     pub order: BitOrder,
     /// The number of bits of a value.
@@ -47,7 +49,7 @@ macro_rules! four_times {
 
 // A row of `JOINS`, the most significant bit first.
 macro_rules! most_first {
-    ($width:literal, $group:literal, $weight:literal, $pair:literal, $up:literal, $places:expr) => {
+    ($width:literal, $group_log:literal, $weight:literal, $pair:literal, $up:literal, $places:expr) => {
         Join {
             higher: four_times!($weight, 1, 0, 0),
             lower: four_times!(0, 0, $weight, 1),
@@ -55,7 +57,9 @@ macro_rules! most_first {
             pair: $pair,
             first_up: $up,
             second_up: 0,
-            group: $group,
+            group: 1 << $group_log,
+            group_log: $group_log,
+            group_bytes: ($width << $group_log) / 8,
             order: BitOrder::MostSignificantFirst,
             width: $width,
         }
@@ -64,7 +68,7 @@ macro_rules! most_first {
 
 // A row of `JOINS`, the least significant bit first.
 macro_rules! least_first {
-    ($width:literal, $group:literal, $weight:literal, $pair:literal, $up:literal, $places:expr) => {
+    ($width:literal, $group_log:literal, $weight:literal, $pair:literal, $up:literal, $places:expr) => {
         Join {
             higher: four_times!(0, 0, 1, $weight),
             lower: four_times!(1, $weight, 0, 0),
@@ -72,7 +76,9 @@ macro_rules! least_first {
             pair: $pair,
             first_up: 0,
             second_up: $up,
-            group: $group,
+            group: 1 << $group_log,
+            group_log: $group_log,
+            group_bytes: ($width << $group_log) / 8,
             order: BitOrder::LeastSignificantFirst,
             width: $width,
         }
@@ -88,6 +94,8 @@ const NO_JOIN: Join = Join {
     first_up: 0,
     second_up: 0,
     group: 0,
+    group_log: 0,
+    group_bytes: 0,
     order: BitOrder::MostSignificantFirst,
     width: 0,
 };
@@ -98,7 +106,7 @@ static JOINS: [Join; 16] = [
     NO_JOIN,
     most_first!(
         1,
-        8,
+        3,
         2,
         2,
         4,
@@ -108,7 +116,7 @@ static JOINS: [Join; 16] = [
     ),
     most_first!(
         2,
-        4,
+        2,
         4,
         4,
         8,
@@ -118,7 +126,7 @@ static JOINS: [Join; 16] = [
     ),
     most_first!(
         3,
-        8,
+        3,
         8,
         6,
         12,
@@ -128,7 +136,7 @@ static JOINS: [Join; 16] = [
     ),
     most_first!(
         4,
-        2,
+        1,
         16,
         8,
         16,
@@ -138,7 +146,7 @@ static JOINS: [Join; 16] = [
     ),
     most_first!(
         5,
-        8,
+        3,
         32,
         10,
         20,
@@ -148,7 +156,7 @@ static JOINS: [Join; 16] = [
     ),
     most_first!(
         6,
-        4,
+        2,
         64,
         12,
         24,
@@ -158,7 +166,7 @@ static JOINS: [Join; 16] = [
     NO_JOIN,
     least_first!(
         1,
-        8,
+        3,
         2,
         2,
         4,
@@ -168,7 +176,7 @@ static JOINS: [Join; 16] = [
     ),
     least_first!(
         2,
-        4,
+        2,
         4,
         4,
         8,
@@ -178,7 +186,7 @@ static JOINS: [Join; 16] = [
     ),
     least_first!(
         3,
-        8,
+        3,
         8,
         6,
         12,
@@ -188,7 +196,7 @@ static JOINS: [Join; 16] = [
     ),
     least_first!(
         4,
-        2,
+        1,
         16,
         8,
         16,
@@ -198,7 +206,7 @@ static JOINS: [Join; 16] = [
     ),
     least_first!(
         5,
-        8,
+        3,
         32,
         10,
         20,
@@ -208,7 +216,7 @@ static JOINS: [Join; 16] = [
     ),
     least_first!(
         6,
-        4,
+        2,
         64,
         12,
         24,
@@ -225,6 +233,33 @@ impl Join {
         ensures { result ≡ group_symbols self.now.width }
     {
         self.group
+    }
+
+    /// Returns the number of whole groups among `count` symbols.
+    #[inline(always)]
+    pub fn groups(&self, count: usize) -> usize
+        requires { IsJoin self.now }
+        ensures { result ≡ count / group_symbols self.now.width }
+    {
+        count >> self.group_log
+    }
+
+    /// Returns the number of symbols in the whole groups among `count` symbols.
+    #[inline(always)]
+    pub fn whole_groups(&self, count: usize) -> usize
+        requires { IsJoin self.now }
+        ensures { result ≡ count / group_symbols self.now.width * group_symbols self.now.width }
+    {
+        self.groups(count) << self.group_log
+    }
+
+    /// Returns the number of bytes that the whole groups among `count` symbols mean.
+    #[inline(always)]
+    pub fn groups_len(&self, count: usize) -> usize
+        requires { IsJoin self.now }
+        ensures { result ≡ count / group_symbols self.now.width * group_bytes self.now.width }
+    {
+        self.groups(count) * self.group_bytes
     }
 
     /// Returns the number of whole bytes that `count` symbols mean.

@@ -3,69 +3,66 @@ use Rattle.std.proofs.lemmas.List.{take_rest, get_or-drop}
 use Rattle.data_encoding_meaning.specs.decoding.Decoding.{IsGathered}
 use Rattle.data_encoding_meaning.specs.text.Base.{Base, is_ignored, meaning}
 use Rattle.data_encoding_kernel.specs.Ignore.{HoldsIgnored}
-use Rattle.data_encoding_meaning.proofs.digits.SizeLemmas.{IsSmall-group}
 use Rattle.data_encoding_meaning.proofs.decoding.GatherLemmas.{HasGathered, gather-kept, gathered, nothing-gathered}
 use Rattle.data_encoding.proofs.decoding.PlacingLemmas.{gather-front}
-use Rattle.data_encoding.proofs.decode.next_group.gather.Given.{Over}
 use Rattle.data_encoding.proofs.decode.next_group.gather.Goals as goal
 use Rattle.data_encoding.proofs.decode.next_group.gather.Goals.{After-front}
 
 pub loop-count-init : goal.loop-count-init
-loop-count-init g c =
+loop-count-init c =
     (omega arith, λ base holds. nothing-gathered base c.args.rest.now c.args.room.now)
 
 -- the position of the next byte that is not ignored
-abbrev at : (g : Over) → After-front g → ℕ
-at g c = c.loop-count.span + c.front.result
+abbrev at : After-front → ℕ
+at c = c.loop-count.span + c.front.result
 
-at-within : (g : Over) (c : After-front g) → at g c ≤ length c.args.rest.now
-at-within g c = omega (arith, c.front.ensures.within, c.loop-count.invariant.0, length-drop {A = ℕ})
+at-within : (c : After-front) → at c ≤ length c.args.rest.now
+at-within c = omega (arith, c.front.ensures.within, c.loop-count.invariant.0, length-drop {A = ℕ})
 
 -- what was gathered, with the ignored bytes that follow
-front : (g : Over) (c : After-front g) (base : Base) → HoldsIgnored base c.args.ignored.now
-    → HasGathered base c.args.rest.now (at g c) c.loop-count.count c.loop-count.span
+front : (c : After-front) (base : Base) → HoldsIgnored base c.args.ignored.now
+    → HasGathered base c.args.rest.now (at c) c.loop-count.count c.loop-count.span
     c.loop-count.room
-front g c base holds =
+front c base holds =
     gather-front c.front.result
     (c.loop-count.invariant.1 base holds) c.loop-count.invariant.0
     (rw (take_rest c.args.rest.now c.loop-count.span) at (c.front.ensures.front base holds))
 
 -- the byte there
-next-byte : (g : Over) (c : After-front g) → slice_index c.args.rest.now (at g c)
+next-byte : (c : After-front) → slice_index c.args.rest.now (at c)
     ≡ slice_index (take (length c.args.rest.now - c.loop-count.span)
     (drop c.loop-count.span c.args.rest.now)) c.front.result
-next-byte g c =
+next-byte c =
     let rest = c.args.rest.now in
     let span = c.loop-count.span in
     sym (get_or-drop span rest c.front.result 0)
     ∙ ap (λ l. slice_index l c.front.result) (sym (take_rest rest span))
 
 pub returns-then-at-rest-clause-first : goal.returns-then-at-rest-clause-first
-returns-then-at-rest-clause-first g c base holds =
-    let before = (goal.at.returns-then-at-rest-clause-first g c).After-front in
-    gathered (front g before base holds) (omega (arith, c.if-at-rest.true))
-    (omega (arith, c.loop-count-test.true, c.SYMBOLS-most.ensures))
+returns-then-at-rest-clause-first c base holds =
+    let before = (goal.at.returns-then-at-rest-clause-first c).After-front in
+    gathered (front before base holds) (omega (arith, c.if-at-rest.true))
+    (omega (arith, c.loop-count-test.true))
     (inr (omega (arith, c.if-at-rest.true)))
 
 pub loop-count-preserved : goal.loop-count-preserved
-loop-count-preserved g c =
-    let before = (goal.at.loop-count-preserved g c).After-front in
-    let few = (IsSmall-group g.G.GroupSize.is_group).few_symbols in
-    let next : at g before < length c.args.rest.now =
-    omega (arith, at-within g before, c.if-at-rest.false) in (
+loop-count-preserved c =
+    let before = (goal.at.loop-count-preserved c).After-front in
+    let next : at before < length c.args.rest.now =
+    omega (arith, at-within before, c.if-at-rest.false) in (
       omega (arith, next),
-      λ base holds. gather-kept base c.args.rest.now (at g before) next c.loop-count.count
-          c.loop-count.span c.loop-count.room (front g before base holds)
-          (ap (λ byte. is_ignored (meaning base byte)) (next-byte g before)
+      λ base holds. gather-kept base c.args.rest.now (at before) next c.loop-count.count
+          c.loop-count.span c.loop-count.room (front before base holds)
+          (ap (λ byte. is_ignored (meaning base byte)) (next-byte before)
           ∙ before.front.ensures.next base holds (omega (arith, next, length-drop {A = ℕ})))
-          (omega (arith, few, c.loop-count-test.true, c.SYMBOLS-most.ensures)),
+          (omega (arith, c.requires.few, c.loop-count-test.true)),
     )
 
 pub returns-clause-first : goal.returns-clause-first
-returns-clause-first g c base holds =
-    let same : c.loop-count.count ≡ c.SYMBOLS-most.result =
+returns-clause-first c base holds =
+    let same : c.loop-count.count ≡ c.args.symbols =
     omega (arith, c.loop-count-test.false, c.loop-count.auto.count-end) in
-    subst (λ n. IsGathered base g.G.GroupSize.SYMBOLS c.args.rest.now (take n c.loop-count.room)
+    subst (λ n. IsGathered base c.args.symbols c.args.rest.now (take n c.loop-count.room)
     c.loop-count.span) same
     (gathered (c.loop-count.invariant.1 base holds) c.loop-count.invariant.0
-    (omega (arith, same, c.SYMBOLS-most.ensures)) (inl (same ∙ c.SYMBOLS-most.ensures)))
+    (omega (arith, same)) (inl same))

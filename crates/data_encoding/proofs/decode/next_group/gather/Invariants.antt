@@ -5,7 +5,7 @@ use Rattle.data_encoding_meaning.proofs.decoding.GatherLemmas.{HasGathered}
 use Rattle.data_encoding.proofs.decode.next_group.gather.Given as goal
 
 abbrev pub invariant-loop-count : goal.invariant-loop-count
-invariant-loop-count g l =
+invariant-loop-count l =
     (l.span ≤ length l.rest)
     × ((base : Base) → HoldsIgnored base l.ignored
     → HasGathered base l.rest l.span l.count l.span l.room)

@@ -12,9 +12,9 @@ use Rattle.data_encoding.proofs.encoding.EncodingRef.decode_after.Goals.{After-p
 stops : (c : After-partial_error)
     → StopsAt c.args.self.now c.args.input.now c.partial_error.new.output c.partial_error.result
 stops c =
-    let ended : HasStopped c.args.self.now c.args.input.now c.decode_by_order.new.output
-    c.decode_by_order.new.stop =
-    rw c.if-decode_by_order.false at c.decode_by_order.ensures in
+    let ended : HasStopped c.args.self.now c.args.input.now c.decode_rest.new.output
+    c.decode_rest.new.stop =
+    rw c.if-decode_rest.false at c.decode_rest.ensures in
     ended.stops c.partial_error.new.output c.partial_error.result
     (omega (arith, c.partial_error.auto.output, ended.fits)) c.partial_error.ensures.kept
     c.partial_error.ensures.stop
@@ -40,17 +40,17 @@ returns c =
       len = cc;
     }
 
-pub returns-then-decode_by_order : goal.returns-then-decode_by_order
-returns-then-decode_by_order c =
+pub returns-then-decode_rest : goal.returns-then-decode_rest
+returns-then-decode_rest c =
     let base = c.args.self.now in
     let input = c.args.input.now in
     let width = c.requires.width in
-    let output = c.decode_by_order.new.output in
-    let written = c.decode_by_order.new.stop.written in
+    let output = c.decode_rest.new.output in
+    let written = c.decode_rest.new.stop.written in
     let decoded : IsDecoded base input written output =
-    rw c.if-decode_by_order.true at c.decode_by_order.ensures in
+    rw c.if-decode_rest.true at c.decode_rest.ensures in
     let due : decoded_len base (length input) ≡ Ok (length output) =
-    rw c.decode_by_order.auto.output c.requires.at.exact.len in
+    rw c.decode_rest.auto.output c.requires.at.exact.len in
     record {
       decoded = (decoded.fits, decoded.means);
       sound = (decoded.no_fault, decoded.bytes_are);

@@ -3,21 +3,11 @@ use Rattle.std.specs.List.{list_any}
 use Rattle.data_encoding_kernel.specs.Fronts.{IsFront}
 use Rattle.data_encoding_meaning.specs.decoding.Fault.{trailing_bits}
 use Rattle.data_encoding_meaning.specs.text.Base.{meaning}
-use Rattle.data_encoding_meaning.proofs.decoding.GroupJudgementLemmas.{few-bits, room-symbols}
-use Rattle.data_encoding.proofs.decoding.JudgedGroupLemmas.{front-is, front-symbols, group-sound, set-byte, some-trailing, symbol-fault, trailing-fault}
-use Rattle.data_encoding_meaning.proofs.digits.WidthLemmas.{group_symbols-few}
+use Rattle.data_encoding_meaning.proofs.decoding.GroupJudgementLemmas.{room-symbols}
+use Rattle.data_encoding.proofs.decoding.JudgedGroupLemmas.{front-is, front-symbols, group-sound, set-byte, some-trailing, symbol-bits, symbol-fault, trailing-fault}
 use Rattle.data_encoding.proofs.encoding.EncodingRef.decode_group.Given.{Over}
 use Rattle.data_encoding.proofs.encoding.EncodingRef.decode_group.Goals.{Else-front-count, else-self-via-then-self+else-front-written-ne0, else-self-via-else-self}
 use Rattle.data_encoding.proofs.encoding.EncodingRef.decode_group.Goals as goal
-
-pub front_of_group-front-requires-clause-few : goal.front_of_group-front-requires-clause-few
-front_of_group-front-requires-clause-few g c =
-    omega (
-      arith,
-      c.requires.few,
-      g.G.GroupSize.is_group.has_symbols,
-      group_symbols-few g.G.GroupSize.WIDTH g.G.GroupSize.is_group.is_width,
-    )
 
 pub returns-then-front-count-clause-fault : goal.returns-then-front-count-clause-fault
 returns-then-front-count-clause-fault g c =
@@ -30,59 +20,51 @@ returns-then-front-count-clause-fault g c =
     rw c.faulty.ensures
     (symbol-fault c.args.self.now group count c.in-Ok.ensures.symbols found.result.symbols
     c.if-front-count.true
-    (found.ensures.front c.args.self.now (record {
-      width_is = c.requires.entries.reads.width_is ∙ sym c.requires.entries.width_is;
-      order_is = c.requires.entries.reads.order_is;
-      holds = holds;
-    })).are_symbols
+    (found.ensures.front c.args.self.now c.requires.entries.reads).are_symbols
     (holds.others (slice_index group found.result.symbols) (fits found.result.symbols)
     (found.ensures.stop (omega (arith, c.if-front-count.true, c.in-Ok.ensures.symbols.within)))))
 
-pub overflow_mul-written : goal.overflow_mul-written
-overflow_mul-written g c =
-    let few = few-bits g.G.GroupSize.is_group c.WIDTH.ensures c.in-Ok.count
-    (omega (arith, c.requires.few, c.in-Ok.ensures.symbols.within)) in
+pub bytes_len-written-requires : goal.bytes_len-written-requires
+bytes_len-written-requires g c =
+    let few = symbol-bits c.requires.entries.join (sym c.requires.entries.reads.width_is)
+    c.in-Ok.ensures.symbols.within c.requires.few in
     record { fits = omega (arith, few) }
 
 pub store_lanes-requires-clause-few : goal.store_lanes-requires-clause-few
 store_lanes-requires-clause-few g c =
-    let few = few-bits g.G.GroupSize.is_group c.WIDTH.ensures c.in-Ok.count
-    (omega (arith, c.requires.few, c.in-Ok.ensures.symbols.within)) in
-    omega (arith, few)
+    let few = symbol-bits c.requires.entries.join (sym c.requires.entries.reads.width_is)
+    c.in-Ok.ensures.symbols.within c.requires.few in
+    omega (arith, few, c.bytes_len-written.ensures)
 
 pub store_lanes-requires-clause-room : goal.store_lanes-requires-clause-room
 store_lanes-requires-clause-room g c =
-    room-symbols c.WIDTH.ensures c.in-Ok.ensures.symbols.within
-    (c.requires.room c.in-Ok.ensures.whole)
+    rw c.bytes_len-written.ensures
+    (room-symbols (sym c.requires.entries.reads.width_is) c.in-Ok.ensures.symbols.within
+    (c.requires.room c.in-Ok.ensures.whole))
 
 pub bounds-front-written : goal.bounds-front-written
 bounds-front-written g c =
-    let few = few-bits g.G.GroupSize.is_group c.WIDTH.ensures c.in-Ok.count
-    (omega (arith, c.requires.few, c.in-Ok.ensures.symbols.within)) in
-    omega (arith, few)
+    let few = symbol-bits c.requires.entries.join (sym c.requires.entries.reads.width_is)
+    c.in-Ok.ensures.symbols.within c.requires.few in
+    omega (arith, few, c.bytes_len-written.ensures)
 
 -- the symbols before the padding
 front : (g : Over) (c : Else-front-count g)
     → IsFront c.args.self.now c.args.group.now c.in-Ok.count c.front_of_group-front.result.bytes
 front g c =
     let found = c.front_of_group-front in
-    let holds = c.requires.entries.reads.holds in
     front-is c.args.self.now c.args.group.now c.in-Ok.count c.in-Ok.ensures.symbols
     found.result.symbols
     found.result.bytes found.ensures.few c.if-front-count.false
-    (found.ensures.front c.args.self.now (record {
-      width_is = c.requires.entries.reads.width_is ∙ sym c.requires.entries.width_is;
-      order_is = c.requires.entries.reads.order_is;
-      holds = holds;
-    }))
+    (found.ensures.front c.args.self.now c.requires.entries.reads)
 
 pub overflow_sub-count : goal.overflow_sub-count
 overflow_sub-count g c =
     let before = (goal.at.overflow_sub-count g c).Else-front-count in
     let count = c.in-Ok.count in
     let bytes = c.front_of_group-front.result.bytes in
-    let bits : c.args.self.now.width * count / 8 ≡ c.WIDTH.result * count / 8 =
-    ap (λ w. w * count / 8) (c.requires.entries.reads.width_is ∙ sym c.WIDTH.ensures) in
+    let bits : c.args.self.now.width * count / 8 ≡ c.bytes_len-written.result =
+    ap (λ w. w * count / 8) c.requires.entries.reads.width_is ∙ sym c.bytes_len-written.ensures in
     some-trailing c.args.self.now c.args.group.now count bytes (front g before)
     (λ none. c.if-front-written-ne0.true (ap (λ m. slice_index bytes m) (sym bits) ∙ none))
 
@@ -93,8 +75,8 @@ returns-then-front-written-ne0-clause-fault g c =
     let group = c.args.group.now in
     let count = c.in-Ok.count in
     let bytes = c.front_of_group-front.result.bytes in
-    let bits : seen.width * count / 8 ≡ c.WIDTH.result * count / 8 =
-    ap (λ w. w * count / 8) (c.requires.entries.reads.width_is ∙ sym c.WIDTH.ensures) in
+    let bits : seen.width * count / 8 ≡ c.bytes_len-written.result =
+    ap (λ w. w * count / 8) c.requires.entries.reads.width_is ∙ sym c.bytes_len-written.ensures in
     let other : slice_index bytes (seen.width * count / 8) ≡ 0 → ⊥ =
     λ none. c.if-front-written-ne0.true (ap (λ m. slice_index bytes m) (sym bits) ∙ none) in
     let begun = some-trailing seen group count bytes (front g before) other in
@@ -112,8 +94,8 @@ returns-clause-sound g c =
     let group = c.args.group.now in
     let count = c.in-Ok.count in
     let bytes = c.front_of_group-front.result.bytes in
-    let bits : seen.width * count / 8 ≡ c.WIDTH.result * count / 8 =
-    ap (λ w. w * count / 8) (c.requires.entries.reads.width_is ∙ sym c.WIDTH.ensures) in
+    let bits : seen.width * count / 8 ≡ c.bytes_len-written.result =
+    ap (λ w. w * count / 8) c.requires.entries.reads.width_is ∙ sym c.bytes_len-written.ensures in
     group-sound seen group count c.in-Ok.ensures.symbols
     (front-symbols seen group count c.in-Ok.ensures.symbols bytes (front g before))
     (elim c.else-self.branch [

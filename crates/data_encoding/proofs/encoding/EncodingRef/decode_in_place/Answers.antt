@@ -7,7 +7,7 @@ use Rattle.data_encoding.proofs.encoding.EncodingRef.decode_in_place.Goals as go
 
 pub decode_groups-found-requires-clause-room : goal.decode_groups-found-requires-clause-room
 decode_groups-found-requires-clause-room g c =
-    room-next_run (under_way g.G.GroupSize.is_group c.requires.entries.reads.width_is
+    room-next_run (under_way c.requires.entries.reads.holds.is_width
     c.requires.at.exact c.requires.at.so_far) c.requires.at.front
 
 pub returns-clause-on : goal.returns-clause-on

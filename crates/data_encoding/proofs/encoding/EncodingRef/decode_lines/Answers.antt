@@ -1,31 +1,71 @@
-use Rattle.std.proofs.Common.{◌≡◌, ◌+◌, ◌-◌, ◌/◌, ◌≤◌, length, take, drop, refl, ap, ◌∙◌, subst, arith}
+use Rattle.std.proofs.Common.{◌≡◌, ◌+◌, ◌-◌, ◌*◌, ◌/◌, ◌≤◌, length, take, drop, refl, sym, ap, ◌∙◌, subst, arith, length-drop}
 use Rattle.std.proofs.Math.Nat.{mul-le-mul_right}
 use Rattle.std.proofs.lemmas.List.{drop-drop, take_rest}
 use Rattle.data_encoding_meaning.specs.decoding.Decoding.{IsIgnoredFront}
 use Rattle.std.proofs.lemmas.Nat.{le-div}
-use Rattle.data_encoding_meaning.proofs.lists.PartLemmas.{IsWhole-same, groups-within}
+use Rattle.data_encoding_meaning.specs.text.Base.{group_bytes, group_symbols}
+use Rattle.data_encoding_meaning.proofs.digits.WidthLemmas.{group_symbols-few, group_symbols-pos}
+use Rattle.data_encoding_kernel.proofs.decoding.JoinSizeLemmas.{join-width}
+use Rattle.data_encoding_kernel.proofs.decoding.SymbolRunLemmas.{groups-of_product, turns-few}
+use Rattle.data_encoding_meaning.proofs.lists.PartLemmas.{groups-within}
 use Rattle.data_encoding_meaning.proofs.lists.WriteLemmas.{length-rewritten_same}
 use Rattle.data_encoding.proofs.decoding.OutputLemmas.{exact-same, goes-further, goes-nowhere_rest}
 use Rattle.data_encoding.proofs.decoding.PlacingLemmas.{placed-here}
 use Rattle.data_encoding.proofs.decoding.StepLemmas.{room-next_run, under_way}
 use Rattle.data_encoding.proofs.encoding.EncodingRef.decode_lines.Goals as goal
 
+pub overflow_mul-count : goal.overflow_mul-count
+overflow_mul-count g c = record {
+  fits = rw (c.groups.ensures, c.group_symbols-turn.ensures) (omega (
+    arith,
+    turns-few {number = 8} {s = group_symbols c.args.entries.join.now.width} (c.args.len - 1) refl
+        refl,
+    group_symbols-few c.args.entries.join.now.width (join-width c.requires.entries.join),
+    c.requires.within,
+    c.requires.at.exact.limit,
+  ));
+}
+
+pub decode_line-found-requires-clause-bytes : goal.decode_line-found-requires-clause-bytes
+decode_line-found-requires-clause-bytes g c =
+    let w = c.args.entries.join.now.width in
+    let s = group_symbols w in
+    let count = c.groups.result / 8 + 1 in
+    let whole : count * c.group_symbols-turn.result * 8 / s ≡ count * 8 =
+    ap (λ n. count * n * 8 / s) c.group_symbols-turn.ensures
+    ∙ ap (λ n. n / s) (omega arith)
+    ∙ groups-of_product (count * 8) s refl
+    (group_symbols-pos w (join-width c.requires.entries.join)) in
+    let turns : count * (8 * c.group_symbols-turn.result) ≡ count * c.group_symbols-turn.result * 8 =
+    omega arith in
+    let written : c.groups_len-written_len.result ≡ count * 8 * group_bytes c.args.self.now.width =
+    c.groups_len-written_len.ensures
+    ∙ ap (λ n. n / s * group_bytes w) turns
+    ∙ ap (λ n. n * group_bytes w) whole
+    ∙ ap (λ n. count * 8 * group_bytes n) (sym c.requires.entries.reads.width_is) in
+    omega (
+      arith,
+      written,
+      c.if-output-at.false,
+      ap length (take_rest c.loop.output c.loop.at.written),
+      length-drop c.loop.at.written c.loop.output,
+    )
+
 pub decode_line-found-requires-clause-room : goal.decode_line-found-requires-clause-room
 decode_line-found-requires-clause-room g c =
     let reached = c.loop.invariant.on.reached in
+    let width = c.requires.entries.reads.holds.is_width in
     let start = c.loop.at.read + c.loop.at.ignored in
     let rest = take (length c.args.input.now - start) (drop start c.args.input.now) in
-    let size = g.G.GroupSize.SYMBOLS in
+    let size = group_symbols c.args.self.now.width in
     let count = c.args.len in
     let fewer : count / size ≤ length rest / size =
-    le-div (count / size) (length rest) size
-    (IsWhole-same refl refl g.G.GroupSize.is_group).some_symbols
-    (omega (arith, groups-within count size, c.if-len-rest.false)) in
+    le-div (count / size) (length rest) size (group_symbols-pos c.args.self.now.width width)
+    (omega (arith, groups-within count size, c.if-rest-read_len.false, c.max-read_len.ensures)) in
     omega (
       arith,
-      mul-le-mul_right g.G.GroupSize.BYTES fewer,
-      room-next_run (under_way g.G.GroupSize.is_group c.requires.entries.reads.width_is
-          reached.exact reached.so_far) reached.front,
+      mul-le-mul_right (group_bytes c.args.self.now.width) fewer,
+      room-next_run (under_way width reached.exact reached.so_far) reached.front,
     )
 
 pub loop-preserved : goal.loop-preserved
@@ -43,7 +83,7 @@ loop-preserved g c =
           so_far = rw (← whole)
               (placed-here c.requires.entries.reads.holds.is_width reached
               c.decode_line-found.new.output c.decode_line-found.auto.output c.args.len
-              (c.decode_line-found.ensures c.args.self.now c.requires.entries)
+              c.decode_line-found.ensures
               (omega (arith, whole, c.requires.some)));
           front = subst (λ l. IsIgnoredFront c.args.self.now l c.front-ignored.result)
               (take_rest rest c.args.len ∙ ap (drop c.args.len) (take_rest c.args.input.now start)
@@ -66,7 +106,7 @@ returns-then-found-gt0 g c =
         so_far = rw (at.read, at.written)
             (placed-here c.requires.entries.reads.holds.is_width reached
             c.decode_line-found.new.output c.decode_line-found.auto.output c.args.len
-            (c.decode_line-found.ensures c.args.self.now c.requires.entries) c.if-found-gt0.true);
+            c.decode_line-found.ensures c.if-found-gt0.true);
         front = rw at.read (at.front c.args.self.now c.requires.entries.ignored);
       };
       further = omega (arith, at.read, c.loop.invariant.on.further);

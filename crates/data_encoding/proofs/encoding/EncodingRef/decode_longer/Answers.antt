@@ -1,7 +1,7 @@
-use Rattle.std.proofs.Common.{◌≡◌, ◌-◌, ◌++◌, length, drop, replicate, refl, sym, ◌∙◌, arith, length-drop}
+use Rattle.std.proofs.Common.{◌≡◌, ◌-◌, ◌++◌, length, take, drop, replicate, refl, sym, ap, ◌∙◌, arith, length-drop}
 use Rattle.data_encoding_kernel.specs.Tables.{Reads}
 use Rattle.data_encoding.proofs.decoding.LastGroupLemmas.{begun-reached}
-use Rattle.data_encoding.proofs.decoding.ShortLemmas.{start-reached}
+use Rattle.data_encoding.proofs.decoding.ShortLemmas.{loaded, start-reached}
 use Rattle.data_encoding.proofs.encoding.EncodingRef.decode_longer.Goals as goal
 use Rattle.data_encoding.proofs.encoding.EncodingRef.decode_longer.Goals.{then-input-group_symbols+else-left-eq0+else-left-group_symbols, else-input-group_symbols}
 
@@ -23,8 +23,7 @@ decode_windows-at-requires-clause-start g c =
 
 pub decode_last-requires-clause-front : goal.decode_last-requires-clause-front
 decode_last-requires-clause-front g c =
-    let input = c.args.input.now in
-    let read = c.decode_windows-at.result.read in
+    let rest = drop c.decode_windows-at.result.read c.args.input.now in
     let within = c.decode_windows-at.ensures.reached.so_far.within in
     let joins = c.join-join.ensures.join in
     let finds = c.requires.finds in
@@ -32,12 +31,9 @@ decode_last-requires-clause-front g c =
     let join = c.join-join.result.now in
     let reads : Reads c.args.self.now finds.values join.width join.order =
     record { width_is = sym joins.width_is; order_is = sym joins.order_is; holds = finds.is_table } in
-    let place : length input - (length input - read) ≡ read = omega (arith, within) in
-    let len : length input - read ≡ length (drop read input) = sym (length-drop read input) in
-    record {
-      few = omega (arith, len, c.if-left-gt16.false);
-      within = omega (arith, len, found.few);
-      text = found.text ∙ c.load_last.ensures
-          ∙ (λ i. drop (place i) input ++ replicate (16 - len i) 0);
-      symbols = rw found.text (found.front finds.values finds.held c.args.self.now reads);
-    }
+    let len : length rest ≡ length c.args.input.now - c.decode_windows-at.result.read =
+    length-drop c.decode_windows-at.result.read c.args.input.now in
+    loaded c.args.self.now rest c.decode_front-front.result c.load_at.result
+    (c.load_at.ensures ∙ ap (λ n. take 16 rest ++ replicate (16 - n) 0) (sym len)) found.text
+    (omega (arith, found.few, c.min-len.ensures)) (omega (arith, found.few, c.min-len.ensures, len))
+    (found.front finds.values finds.held c.args.self.now reads)

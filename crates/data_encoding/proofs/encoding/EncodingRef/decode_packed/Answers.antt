@@ -1,12 +1,13 @@
-use Rattle.std.proofs.Common.{◌≡◌, ◌+◌, ◌-◌, ◌/◌, ◌<◌, ◌≤◌, length, take, drop, refl, sym, ap, subst, arith, length-take-le}
+use Rattle.std.proofs.Common.{◌≡◌, ◌+◌, ◌-◌, ◌/◌, ◌<◌, ◌≤◌, length, take, drop, sym, ap, arith, length-take-le}
 use Rattle.std.proofs.Math.Nat.{mul-le-mul_right}
 use Rattle.std.proofs.lemmas.List.{take_rest}
 use Rattle.std.proofs.lemmas.Nat.{le-div}
-use Rattle.data_encoding_meaning.specs.text.Base.{IsWidth}
+use Rattle.data_encoding_meaning.specs.text.Base.{group_bytes, group_symbols}
+use Rattle.data_encoding_meaning.proofs.digits.WidthLemmas.{group_symbols-pos}
 use Rattle.data_encoding_meaning.specs.text.Grammar.{kept}
 use Rattle.data_encoding_meaning.proofs.decoding.IgnoredFrontLemmas.{no_front}
 use Rattle.data_encoding_meaning.proofs.grammar.PositionLemmas.{length-by_bytes}
-use Rattle.data_encoding_meaning.proofs.lists.PartLemmas.{IsWhole-same, groups-within}
+use Rattle.data_encoding_meaning.proofs.lists.PartLemmas.{groups-within}
 use Rattle.data_encoding_meaning.proofs.lists.WriteLemmas.{length-rewritten_same, rewritten}
 use Rattle.data_encoding.proofs.decoding.OutputLemmas.{exact-same, goes-nowhere_rest}
 use Rattle.data_encoding.proofs.decoding.PlacingLemmas.{IsPackedTo, packed-to}
@@ -19,9 +20,9 @@ pub decode_groups-found-requires-clause-room : goal.decode_groups-found-requires
 decode_groups-found-requires-clause-room g c =
     let start = c.args.at.read + c.args.at.ignored in
     let rest = take (length c.args.input.now - start) (drop start c.args.input.now) in
-    let size = g.G.GroupSize.SYMBOLS in
+    let size = group_symbols c.args.self.now.width in
     let count = c.pack-span.result.1 in
-    let pos = (IsWhole-same refl refl g.G.GroupSize.is_group).some_symbols in
+    let pos = group_symbols-pos c.args.self.now.width c.requires.entries.reads.holds.is_width in
     let fewer : count / size ≤ length rest / size =
     le-div (count / size) (length rest) size pos
     (omega (
@@ -32,15 +33,14 @@ decode_groups-found-requires-clause-room g c =
     )) in
     omega (
       arith,
-      mul-le-mul_right g.G.GroupSize.BYTES fewer,
-      room-next_run (under_way g.G.GroupSize.is_group c.requires.entries.reads.width_is
+      mul-le-mul_right (group_bytes c.args.self.now.width) fewer,
+      room-next_run (under_way c.requires.entries.reads.holds.is_width
           c.requires.at.exact c.requires.at.so_far) c.requires.at.front,
     )
 
 pub returns-then-found-eq0 : goal.returns-then-found-eq0
 returns-then-found-eq0 g c =
-    goes-nowhere_rest _ (subst IsWidth (sym c.requires.entries.reads.width_is)
-    g.G.GroupSize.is_group.is_width) c.requires.at c.decode_groups-found.auto.output
+    goes-nowhere_rest _ c.requires.entries.reads.holds.is_width c.requires.at c.decode_groups-found.auto.output
 
 -- the packed groups, placed in the text
 reached : (g : Over) (c : After-span_before-end g)
@@ -55,8 +55,7 @@ reached g c =
     let start = c.args.at.read + c.args.at.ignored in
     let text = c.args.input.now in
     let span = c.pack-span.result.0 in
-    let width = subst IsWidth (sym c.requires.entries.reads.width_is)
-    g.G.GroupSize.is_group.is_width in
+    let width = c.requires.entries.reads.holds.is_width in
     let whole = take_rest text start in
     let slice : take (start + span - start) (drop start text) ≡ take span (drop start text) =
     ap (λ n. take n (drop start text)) (omega arith) in

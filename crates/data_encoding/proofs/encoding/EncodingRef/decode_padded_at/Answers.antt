@@ -1,88 +1,72 @@
-use Rattle.std.proofs.Common.{◌≡◌, ◌+◌, ◌≤◌, ◌∙◌, refl, sym, arith}
-use Rattle.data_encoding_meaning.proofs.decoding.GroupJudgementLemmas.{few-bits}
-use Rattle.data_encoding_meaning.proofs.digits.SizeLemmas.{IsGroup-same}
-use Rattle.data_encoding_meaning.proofs.lists.PartLemmas.{IsWhole-same, length-part}
+use Rattle.std.proofs.Common.{◌+◌, ◌*◌, ◌≤◌, refl, sym, ap, arith}
+use Rattle.data_encoding_meaning.specs.text.Base.{group_symbols}
+use Rattle.data_encoding_meaning.proofs.lists.PartLemmas.{length-part}
+use Rattle.data_encoding_kernel.proofs.decoding.JoinSizeLemmas.{join-group}
+use Rattle.data_encoding.proofs.decoding.JudgedGroupLemmas.{symbol-bits}
 use Rattle.data_encoding.proofs.decoding.ReadGroupLemmas.{group-room, reads-few, reads-group}
+use Rattle.data_encoding.proofs.encoding.EncodingRef.decode_padded_at.Given.{Over}
 use Rattle.data_encoding.proofs.encoding.EncodingRef.decode_padded_at.Goals as goal
-
-pub returns-in-Ok-clause-on : goal.returns-in-Ok-clause-on
-returns-in-Ok-clause-on g c =
-    let same : c.SYMBOLS.result ≡ c.SYMBOLS-in-Ok.result =
-    c.SYMBOLS.ensures ∙ sym c.SYMBOLS-in-Ok.ensures in
-    reads-group (IsGroup-same c.WIDTH.ensures refl c.SYMBOLS-in-Ok.ensures g.G.GroupSize.is_group)
-    c.args.self.now (c.requires.entries.reads.width_is ∙ sym c.WIDTH.ensures) c.args.part.now
-    c.args.len c.requires.few c.args.output.now c.decode_group.new.output c.requires.at
-    c.decode_group.auto.output
-    (omega (arith, c.SYMBOLS-in-Ok.ensures, c.if-not-is_padded_at.ensures.within refl))
-    (c.if-not-is_padded_at.ensures.concatenates refl) {count = c.in-Ok.count}
-    (rw same at c.in-Ok.ensures.sound)
-
-pub decode_group-requires-clause-some : goal.decode_group-requires-clause-some
-decode_group-requires-clause-some g c =
-    omega (
-      arith,
-      length-part c.args.at.read c.SYMBOLS.result c.args.part.now
-          (omega (
-            arith,
-            c.SYMBOLS.ensures,
-            c.if-not-is_padded_at.ensures.within refl,
-            c.requires.few,
-          )),
-      c.SYMBOLS.ensures,
-      (IsWhole-same refl refl g.G.GroupSize.is_group).some_symbols,
-    )
+use Rattle.data_encoding.proofs.encoding.EncodingRef.decode_padded_at.Goals.{In-Ok}
 
 pub decode_group-requires-clause-room : goal.decode_group-requires-clause-room
 decode_group-requires-clause-room g c whole =
-    let size = g.G.GroupSize.SYMBOLS in
-    let enough : c.args.at.read + size ≤ c.args.len = c.if-not-is_padded_at.ensures.within refl in
-    let len = length-part c.args.at.read c.SYMBOLS.result c.args.part.now
-    (omega (arith, c.SYMBOLS.ensures, enough, c.requires.few)) in
-    rw (len, c.SYMBOLS.ensures)
-    (group-room g.G.GroupSize.is_group c.args.self.now c.requires.entries.reads.width_is
-    c.args.part.now c.args.len c.requires.few c.args.output.now c.args.output.now c.requires.at
-    enough)
+    let by = c.requires.entries in
+    let enough : c.args.at.read + group_symbols c.args.entries.join.now.width ≤ c.args.len =
+    omega (
+      arith,
+      ap group_symbols by.reads.width_is,
+      c.if-not-is_padded_at.ensures.within refl,
+    ) in
+    let len = length-part c.args.at.read c.group_symbols.result c.args.part.now
+    (omega (arith, c.group_symbols.ensures, enough, c.requires.few)) in
+    rw (len, c.group_symbols.ensures, by.reads.width_is)
+    (group-room (join-group by.join) c.args.self.now by.reads.width_is c.args.part.now c.args.len
+    c.requires.few c.args.output.now c.args.output.now c.requires.at enough)
 
-pub overflow_mul-result : goal.overflow_mul-result
-overflow_mul-result g c =
-    let len = length-part c.args.at.read c.SYMBOLS.result c.args.part.now
-    (omega (arith, c.SYMBOLS.ensures, c.if-not-is_padded_at.ensures.within refl, c.requires.few)) in
-    record {
-      fits = omega (
-        arith,
-        few-bits g.G.GroupSize.is_group c.WIDTH.ensures c.in-Ok.count
-            (omega (arith, len, c.SYMBOLS.ensures, c.in-Ok.ensures.sound.within)),
-      );
-    }
+-- the bits of the symbols
+few : (g : Over) (c : In-Ok g) → c.args.entries.join.now.width * c.in-Ok.count ≤ 48
+few g c =
+    let by = c.requires.entries in
+    let own = ap group_symbols by.reads.width_is in
+    let len = length-part c.args.at.read c.group_symbols.result c.args.part.now
+    (omega (
+      arith,
+      own,
+      c.group_symbols.ensures,
+      c.if-not-is_padded_at.ensures.within refl,
+      c.requires.few,
+    )) in
+    symbol-bits by.join (sym by.reads.width_is) c.in-Ok.ensures.sound.within
+    (omega (arith, len, own, c.group_symbols.ensures))
 
-pub overflow_add-result-in-Ok : goal.overflow_add-result-in-Ok
-overflow_add-result-in-Ok g c =
-    let len = length-part c.args.at.read c.SYMBOLS.result c.args.part.now
-    (omega (arith, c.SYMBOLS.ensures, c.if-not-is_padded_at.ensures.within refl, c.requires.few)) in
+pub bytes_len-requires : goal.bytes_len-requires
+bytes_len-requires g c = record { fits = omega (arith, few g c) }
+
+pub overflow_add-result : goal.overflow_add-result
+overflow_add-result g c =
+    let by = c.requires.entries in
     record {
       fits = omega (
         arith,
         c.requires.few,
-        reads-few g.G.GroupSize.is_group c.args.self.now c.requires.entries.reads.width_is
-            c.args.part.now c.args.len c.requires.few c.args.output.now c.args.output.now
-            c.requires.at,
-        few-bits g.G.GroupSize.is_group c.WIDTH.ensures c.in-Ok.count
-            (omega (arith, len, c.SYMBOLS.ensures, c.in-Ok.ensures.sound.within)),
+        c.bytes_len.ensures,
+        reads-few (join-group by.join) c.args.self.now by.reads.width_is c.args.part.now
+            c.args.len c.requires.few c.args.output.now c.args.output.now c.requires.at,
+        few g (goal.at.overflow_add-result g c).In-Ok,
       );
     }
 
-pub decode_group-requires-clause-entries : goal.decode_group-requires-clause-entries
-decode_group-requires-clause-entries g c =
-    let entries = c.requires.entries in
-    record {
-      reads = record {
-        width_is = entries.reads.width_is;
-        order_is = entries.reads.order_is ∙ sym entries.order_is;
-        holds = entries.reads.holds;
-      };
-      held = entries.held;
-      join = entries.join;
-      width_is = entries.width_is;
-      order_is = refl;
-      ignored = entries.ignored;
-    }
+pub returns-in-Ok-clause-on : goal.returns-in-Ok-clause-on
+returns-in-Ok-clause-on g c =
+    let by = c.requires.entries in
+    rw (c.group_symbols.ensures, c.bytes_len.ensures)
+    (reads-group (join-group by.join) c.args.self.now by.reads.width_is c.args.part.now c.args.len
+    c.requires.few c.args.output.now c.decode_group.new.output c.requires.at
+    c.decode_group.auto.output
+    (omega (
+      arith,
+      ap group_symbols by.reads.width_is,
+      c.if-not-is_padded_at.ensures.within refl,
+    ))
+    (c.if-not-is_padded_at.ensures.concatenates refl) {count = c.in-Ok.count}
+    (rw c.group_symbols.ensures at c.in-Ok.ensures.sound))

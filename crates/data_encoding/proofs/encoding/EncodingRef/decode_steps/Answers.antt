@@ -92,6 +92,6 @@ loop-at-smaller g c =
 pub returns : goal.returns
 returns g c =
     let at = c.loop-at.invariant.reached in
-    let now = under_way g.G.GroupSize.is_group c.requires.entries.reads.width_is at.exact
+    let now = under_way c.requires.entries.reads.holds.is_width at.exact
     at.so_far in
     decoded-after now at.front c.loop-at-test.false

@@ -14,7 +14,7 @@ returns-then-left-eq0 c =
     let none : ignores_some c.args.self.now ≡ false =
     ap ignores_some (sym c.self.view_is) ∙ sym c.self.invariant.ignores ∙ c.if-not-self.true in (
       0,
-      ends-full (joins-width c.requires.join) c.requires.front 0
+      ends-full (joins-width c.requires.join) c.requires.front c.requires.few 0
           (omega (arith, c.requires.front.within, c.if-left-eq0.true)) (c.requires.valid none)
           (inl refl),
     )
@@ -25,7 +25,7 @@ returns-else-left-eq0 c =
     let none : ignores_some c.args.self.now ≡ false =
     ap ignores_some (sym c.self.view_is) ∙ sym c.self.invariant.ignores ∙ c.if-not-self.true in (
       length c.args.rest.now - c.args.front.now.symbols,
-      ends-full (joins-width c.requires.join) c.requires.front
+      ends-full (joins-width c.requires.join) c.requires.front c.requires.few
           (length c.args.rest.now - c.args.front.now.symbols)
           (omega (arith, c.requires.front.within)) (c.requires.valid none)
           (inr (c.is_padded_by.ensures h)),
@@ -54,7 +54,7 @@ returns-then-is_padded_by c =
       | else-is_valid_length w ↦ cc (w.value-is, c.if-is_padded_by.true)
     ] in (
       padding,
-      ends-after (joins-width c.requires.join) c.requires.front padding
+      ends-after (joins-width c.requires.join) c.requires.front c.requires.few padding
           (omega (arith, c.requires.front.within, c.padding_after-padding.ensures.few)) valid how
           (rw (take_rest rest (count + padding)) at (c.are_ignored.ensures h)),
     )

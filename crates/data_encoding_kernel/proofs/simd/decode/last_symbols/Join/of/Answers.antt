@@ -1,13 +1,17 @@
-use Rattle.std.proofs.Common.{ℕ, ◌+◌, ◌*◌, List, [], ◌∷◌, replicate, get_or, refl, sym, subst, arith}
+use Rattle.std.proofs.Common.{◌≡◌, ℕ, ◌+◌, ◌*◌, ◌%◌, ◌^◌, ◌==◌, ◌≤◌, if◌then◌else◌, List, [], ◌∷◌, replicate, get_or, refl, sym, subst, arith}
 use Rattle.data_encoding_meaning.specs.declared.encoding.BitOrder.{BitOrder}
 use Rattle.data_encoding_meaning.specs.declared.encoding.BitOrder.TheVariants.{MostSignificantFirst, LeastSignificantFirst}
-use Rattle.data_encoding_meaning.specs.text.Base.{IsWidth, group_symbols}
+use Rattle.data_encoding_meaning.specs.text.Base.{IsWidth, group_bytes, group_symbols}
 use Rattle.data_encoding_meaning.proofs.digits.WidthLemmas.{by_width}
 use Rattle.data_encoding_kernel.specs.declared.simd.decode.last_symbols.Join.{Join}
 use Rattle.data_encoding_kernel.specs.Joins.{byte_places, higher_weights, lower_weights, IsJoin}
 use Rattle.data_encoding_kernel.specs.Words.{weight}
 use Rattle.data_encoding_kernel.proofs.simd.decode.last_symbols.Join.of.Goals.{in-LeastSignificantFirst, in-MostSignificantFirst}
 use Rattle.data_encoding_kernel.proofs.simd.decode.last_symbols.Join.of.Goals as goal
+
+-- the binary logarithm of the number of symbols of a group
+abbrev log : ℕ → ℕ
+log width = if width % 2 == 1 then 3 else if width == 4 then 1 else 2
 
 -- the join of a width and an order
 abbrev made : BitOrder → ℕ → Join
@@ -19,12 +23,15 @@ made order width = record {
   first_up = weight order (4 * width) 2 0;
   second_up = weight order (4 * width) 2 1;
   group = group_symbols width;
+  group_log = log width;
+  group_bytes = group_bytes width;
   order = order;
   width = width;
 }
 
-made-is : (order : BitOrder) (width : ℕ) → IsWidth width → IsJoin (made order width)
-made-is order width h = record {
+made-is : (order : BitOrder) (width : ℕ) → IsWidth width
+    → 2 ^ log width ≡ group_symbols width → log width ≤ 3 → IsJoin (made order width)
+made-is order width h log_is few = record {
   some = h.some;
   few = h.few;
   higher = refl;
@@ -34,6 +41,9 @@ made-is order width h = record {
   first_up = refl;
   second_up = refl;
   group = refl;
+  group_log = log_is;
+  few_log = few;
+  group_bytes = refl;
 }
 
 abbrev none : Join
@@ -45,6 +55,8 @@ none = record {
   first_up = 0;
   second_up = 0;
   group = 0;
+  group_log = 0;
+  group_bytes = 0;
   order = MostSignificantFirst;
   width = 0;
 }
@@ -67,6 +79,8 @@ outside = record {
   first_up = 0;
   second_up = 0;
   group = 0;
+  group_log = 0;
+  group_bytes = 0;
   order = MostSignificantFirst;
   width = 0;
 }
@@ -77,14 +91,14 @@ At start width = IsJoin (get_or joins (start + width) outside)
 most : (width : ℕ) → IsWidth width → At 0 width
 most =
     let is = made-is MostSignificantFirst in
-    by_width (At 0) (is 1 (search arith)) (is 2 (search arith)) (is 3 (search arith))
-    (is 4 (search arith)) (is 5 (search arith)) (is 6 (search arith))
+    by_width (At 0) (is 1 (search arith) refl (search arith)) (is 2 (search arith) refl (search arith)) (is 3 (search arith) refl (search arith))
+    (is 4 (search arith) refl (search arith)) (is 5 (search arith) refl (search arith)) (is 6 (search arith) refl (search arith))
 
 least : (width : ℕ) → IsWidth width → At 8 width
 least =
     let is = made-is LeastSignificantFirst in
-    by_width (At 8) (is 1 (search arith)) (is 2 (search arith)) (is 3 (search arith))
-    (is 4 (search arith)) (is 5 (search arith)) (is 6 (search arith))
+    by_width (At 8) (is 1 (search arith) refl (search arith)) (is 2 (search arith) refl (search arith)) (is 3 (search arith) refl (search arith))
+    (is 4 (search arith) refl (search arith)) (is 5 (search arith) refl (search arith)) (is 6 (search arith) refl (search arith))
 
 pub returns-clause-join : goal.returns-clause-join
 returns-clause-join c =

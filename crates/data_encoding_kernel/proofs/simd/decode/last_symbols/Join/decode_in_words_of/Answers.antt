@@ -1,8 +1,9 @@
-use Rattle.std.proofs.Common.{◌≡◌, ◌*◌, ◌/◌, ◌≤◌, length, refl, sym, ap, ◌∙◌, subst, arith}
+use Rattle.std.proofs.Common.{◌≡◌, ◌*◌, ◌/◌, ◌%◌, ◌≤◌, length, refl, sym, ap, ◌∙◌, subst, arith}
+use Rattle.std.proofs.Math.Nat.{mul-mod_left}
 use Rattle.data_encoding_meaning.proofs.digits.SizeLemmas.{IsGroup-same}
-use Rattle.data_encoding_kernel.proofs.decoding.SymbolRunLemmas.{group-next, run-kept}
-use Rattle.data_encoding_meaning.proofs.lists.PartLemmas.{IsWhole-same, group-before, group-room, groups-within, length-part}
-use Rattle.data_encoding_kernel.proofs.decode.decode_in_words.Goals as goal
+use Rattle.data_encoding_kernel.proofs.decoding.SymbolRunLemmas.{group-next, groups-of_product, run-kept}
+use Rattle.data_encoding_meaning.proofs.lists.PartLemmas.{IsWhole-group, IsWhole-same, group-before, group-room, groups-within, length-part}
+use Rattle.data_encoding_kernel.proofs.simd.decode.last_symbols.Join.decode_in_words_of.Goals as goal
 
 pub slice_bounds-decode_entries-end : goal.slice_bounds-decode_entries-end
 slice_bounds-decode_entries-end g c =
@@ -70,10 +71,12 @@ returns-then-entries-ge128-clause-run g c = λ base reads.
     c.BYTES-bytes.ensures c.SYMBOLS-symbols.ensures c.requires.room c.loop-index-test.true in
     let group = IsGroup-same refl c.BYTES-bytes.ensures c.SYMBOLS-symbols.ensures
     g.G.GroupSize.is_group in
-    run-kept base reads.holds.is_width g.G.GroupSize.WIDTH c.BYTES-bytes.result
+    let some = (IsWhole-group _ _ _ g.G.GroupSize.is_group).some_symbols in
+    rw (groups-of_product c.loop-index.index c.SYMBOLS-symbols.result c.SYMBOLS-symbols.ensures some)
+    (run-kept base reads.holds.is_width g.G.GroupSize.WIDTH c.BYTES-bytes.result
     c.SYMBOLS-symbols.result group reads.width_is c.args.input.now _
     c.loop-index.output c.decode_entries-entries.new.output c.loop-index.index _ (omega arith)
-    (c.loop-index.invariant.run base reads)
+    (c.loop-index.invariant.run base reads))
 
 pub returns-then-entries-ge128-clause-within :
     goal.returns-then-entries-ge128-clause-within
@@ -121,7 +124,10 @@ returns-clause-run g c = λ base reads.
     (sym c.SYMBOLS-symbols.ensures) c.decode_whole_turns-first.ensures.within in
     let all : c.loop-index.index ≡ (length c.args.input.now) / c.SYMBOLS-symbols.result =
     omega (arith, within, c.loop-index-test.false, c.loop-index.auto.index-end) in
-    rw all at (c.loop-index.invariant.run base reads)
+    let some = (IsWhole-group _ _ _ g.G.GroupSize.is_group).some_symbols in
+    let count = length c.args.input.now / c.SYMBOLS-symbols.result in
+    rw (groups-of_product count c.SYMBOLS-symbols.result c.SYMBOLS-symbols.ensures some)
+    (rw all at (c.loop-index.invariant.run base reads))
 
 pub returns-clause-within : goal.returns-clause-within
 returns-clause-within g c =
@@ -130,3 +136,13 @@ returns-clause-within g c =
       groups-within (length c.args.input.now) c.SYMBOLS-symbols.result,
       ap (λ s. (length c.args.input.now) / c.SYMBOLS-symbols.result * s) c.SYMBOLS-symbols.ensures,
     )
+
+pub returns-then-entries-ge128-clause-whole : goal.returns-then-entries-ge128-clause-whole
+returns-then-entries-ge128-clause-whole g c =
+    rw c.SYMBOLS-symbols.ensures (mul-mod_left c.loop-index.index g.G.GroupSize.SYMBOLS)
+
+pub returns-clause-whole : goal.returns-clause-whole
+returns-clause-whole g c =
+    let symbols = c.SYMBOLS-symbols.result in
+    ap (λ n. length c.args.input.now / symbols * symbols % n) (sym c.SYMBOLS-symbols.ensures)
+    ∙ mul-mod_left (length c.args.input.now / symbols) symbols

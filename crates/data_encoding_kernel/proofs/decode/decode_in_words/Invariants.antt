@@ -1,8 +1,0 @@
-use Rattle.data_encoding_kernel.specs.Runs.{IsRunBy}
-use Rattle.data_encoding_kernel.proofs.decode.decode_in_words.Given as goal
-
-abbrev pub invariant-loop-index : goal.invariant-loop-index
-invariant-loop-index g l = record {
-  run : IsRunBy l.values g.G.GroupSize.WIDTH l.order l.input l.index l.fn.output
-      l.output;
-}
