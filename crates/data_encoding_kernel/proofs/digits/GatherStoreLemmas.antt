@@ -1,8 +1,9 @@
 -- The bytes of words in lanes.
-use Rattle.std.proofs.Common.{◌≡◌, ℕ, ◌+◌, ◌-◌, ◌*◌, ◌/◌, ◌%◌, ◌^◌, ◌<◌, ◌≤◌, List, [], ◌∷◌, ◌++◌, length, length-append, length-take-le, take, drop, map, refl, sym, ap, ◌∙◌, subst, arith}
-use Rattle.std.proofs.lemmas.List.{append-nil, length-drop, length-map, map-id, nil_from_length, take_at}
+use Rattle.std.proofs.Common.{◌≡◌, ℕ, ◌+◌, ◌-◌, ◌*◌, ◌/◌, ◌%◌, ◌^◌, ◌<◌, ◌≤◌, List, [], ◌∷◌, ◌++◌, length, length-append, length-take-le, take, drop, get_or, map, w8, ⊎_elim, refl, sym, ap, ◌∙◌, subst, arith}
+use Rattle.std.proofs.lemmas.Bool.{cases_lt}
+use Rattle.std.proofs.lemmas.List.{append-nil, get_or_past, length-drop, length-map, map-id, nil_from_length, take_all, take_at, take-take}
 use Rattle.std.proofs.Math.Nat.{mod-lt}
-use Rattle.std.proofs.lemmas.Simd.{put_chunk_is, put_chunk_whole}
+use Rattle.std.proofs.lemmas.Simd.{Each1-get_or, length-put_chunk, pick_l_left, put_chunk_is, put_chunk_whole, take_more_put_chunk}
 use mir.Syntax.{Width}
 use mir.Val.{bits, Fits}
 use Rattle.std.specs.Prelude.{flat_map}
@@ -12,7 +13,8 @@ use Rattle.data_encoding_meaning.specs.declared.encoding.BitOrder.{BitOrder}
 use Rattle.data_encoding_meaning.specs.declared.encoding.BitOrder.TheVariants.{MostSignificantFirst, LeastSignificantFirst}
 use Rattle.data_encoding_kernel.specs.Lanes.{digits_of}
 use Rattle.data_encoding_kernel.specs.Words.{digit}
-use Rattle.data_encoding_kernel.proofs.digits.LaneLemmas.{by_eight, bytes-of-lanes, digits_of-below, map-same}
+use Rattle.data_encoding_kernel.proofs.digits.LaneLemmas.{all_mapped, by_eight, bytes-of-lanes, digits_of-below, digits-of-number, map-same, number-of-wide}
+use Rattle.data_encoding_kernel.proofs.digits.AffineLemmas.{lanes-from_function}
 use Rattle.data_encoding_kernel.proofs.digits.GatherWordLemmas.{number-of-digits}
 
 -- narrower lanes hold them
@@ -53,6 +55,84 @@ stored-parts n m output front back f b long =
     ∙ put_chunk_is n whole back (omega (arith, whole_len, b))
     ∙ (λ i. take_at front rest n f i ++ (back ++ last i))
     ∙ ap (λ l. front ++ l) (append-nil back)
+
+-- the four bytes of the seventh lane of 32 bits
+module _ (parts : List ℕ) (long : length parts ≡ 32) (fit : Each1 (Fits w8) parts) where
+  abbrev byte : ℕ → ℕ
+  byte k = get_or parts k 0
+
+  abbrev lane_of : ℕ → List ℕ
+  lane_of lane =
+      byte (4 * lane) ∷ byte (4 * lane + 1) ∷ byte (4 * lane + 2) ∷ byte (4 * lane + 3) ∷ []
+
+  byte-small : (k : ℕ) → byte k < 256
+  byte-small k =
+      ⊎_elim
+      (λ (h : k < 32). (Each1-get_or (Fits w8) parts k 0 (omega (arith, h, long)) fit).fits)
+      (λ (h : 32 ≤ k). omega (arith, get_or_past parts k 0 (omega (arith, h, long))))
+      (cases_lt k 32)
+
+  lane-small : (lane : ℕ) → AllByRecursion (λ x. x < 256) (lane_of lane)
+  lane-small lane = (
+    byte-small (4 * lane),
+    (
+      byte-small (4 * lane + 1),
+      (
+        byte-small (4 * lane + 2),
+        (byte-small (4 * lane + 3), tt),
+      ),
+    ),
+  )
+
+  abbrev lanes : List ℕ
+  lanes = digits_l 4294967296 8 (number_l 256 parts)
+
+  abbrev numbers : List ℕ
+  numbers = map (λ lane. number_l 256 (lane_of lane)) (range_with_len 0 8)
+
+  lanes-are : lanes ≡ numbers
+  lanes-are =
+      ap (λ l. digits_l 4294967296 8 (number_l 256 l))
+      (lanes-from_function byte 32 parts long (λ k h. refl))
+      ∙ ap (digits_l 4294967296 8)
+      (sym (number-of-wide 256 4 4294967296 refl lane_of (range_with_len 0 8) (λ lane. refl)))
+      ∙ digits-of-number 4294967296 numbers
+      (all_mapped (λ x. x < 4294967296) (λ lane. number_l 256 (lane_of lane)) (range_with_len 0 8)
+      (λ lane. omega (arith, lane-small lane)))
+
+  lane-bytes : digits_l 256 4 (number_l 4294967296 (pick_l 0 (lanes ++ lanes) (6 ∷ [])))
+      ≡ lane_of 6
+  lane-bytes =
+      ap (λ l. digits_l 256 4 (number_l 4294967296 (pick_l 0 (l ++ l) (6 ∷ [])))) lanes-are
+      ∙ bytes-of-lanes 4 4294967296 4 refl lane_of (6 ∷ []) refl (λ lane. refl) lane-small
+
+  -- twelve bytes of each half, stored one over the end of the other
+  pub stored-twelves : (output : List ℕ) → length output ≡ 24
+      → put_chunk 20 (put_chunk 12
+      (put_chunk 0 output (pick_l 0 (parts ++ parts) (range_with_len 0 16)))
+      (pick_l 0 (parts ++ parts) (range_with_len 16 8)))
+      (digits_l 256 4 (number_l 4294967296 (pick_l 0 (lanes ++ lanes) (6 ∷ []))))
+      ≡ pick_l 0 parts (range_with_len 0 12) ++ pick_l 0 parts (range_with_len 16 12)
+  stored-twelves output room =
+      let picks = λ (ks : List ℕ). pick_l 0 (parts ++ parts) ks in
+      let first = put_chunk 0 output (picks (range_with_len 0 16)) in
+      let second = put_chunk 12 first (picks (range_with_len 16 8)) in
+      let back = digits_l 256 4 (number_l 4294967296 (pick_l 0 (lanes ++ lanes) (6 ∷ []))) in
+      let all = put_chunk 20 second back in
+      let in_first : length first ≡ 24 = length-put_chunk 0 output _ ∙ room in
+      let in_second : length second ≡ 24 = length-put_chunk 12 first _ ∙ in_first in
+      let in_all : length all ≡ 24 = length-put_chunk 20 second back ∙ in_second in
+      sym (take_all 24 all (omega (arith, in_all)))
+      ∙ take_more_put_chunk 20 second back 24 refl (omega (arith, in_second))
+      ∙ (λ i. (take_more_put_chunk 12 first (picks (range_with_len 16 8)) 20 refl
+      (omega (arith, in_first))
+      ∙ ap (λ l. l ++ picks (range_with_len 16 8))
+      (sym (take-take 12 16 first (omega arith))
+      ∙ ap (take 12) (take_more_put_chunk 0 output (picks (range_with_len 0 16)) 16 refl
+      (omega (arith, room))))) i
+      ++ lane-bytes i)
+      ∙ (λ i. pick_l_left 0 parts parts 32 (range_with_len 0 12) long tt i
+      ++ pick_l_left 0 parts parts 32 (range_with_len 16 8) long tt i ++ lane_of 6)
 
 -- the bytes of words
 abbrev pub bytes_of_words : BitOrder → ℕ → List ℕ → List ℕ

@@ -161,24 +161,22 @@ fn store_three(order: BitOrder, words: u64x8, output: &mut [u8])
         ≡ flat_map (λ word. map (digit order 8 3 word) (range_with_len 0 3)) words }
 {
     let bytes = low_bits(32, words).cast::<u32>().to_le_bytes();
-    match order {
-        BitOrder::MostSignificantFirst => {
-            bytes
-                .swizzle::<16>([2, 1, 0, 6, 5, 4, 10, 9, 8, 14, 13, 12, 18, 17, 16, 22])
-                .copy_to_slice(&mut output[..16]);
-            bytes
-                .swizzle::<8>([21, 20, 26, 25, 24, 30, 29, 28])
-                .copy_to_slice(&mut output[16..]);
-        }
-        BitOrder::LeastSignificantFirst => {
-            bytes
-                .swizzle::<16>([0, 1, 2, 4, 5, 6, 8, 9, 10, 12, 13, 14, 16, 17, 18, 20])
-                .copy_to_slice(&mut output[..16]);
-            bytes
-                .swizzle::<8>([21, 22, 24, 25, 26, 28, 29, 30])
-                .copy_to_slice(&mut output[16..]);
-        }
-    }
+    // Twelve bytes of each half, and four that are written over.
+    let parts = match order {
+        BitOrder::MostSignificantFirst => bytes.swizzle::<32>([
+            2, 1, 0, 6, 5, 4, 10, 9, 8, 14, 13, 12, 0, 0, 0, 0, 18, 17, 16, 22, 21, 20, 26, 25, 24,
+            30, 29, 28, 16, 16, 16, 16,
+        ]),
+        BitOrder::LeastSignificantFirst => bytes.swizzle::<32>([
+            0, 1, 2, 4, 5, 6, 8, 9, 10, 12, 13, 14, 0, 0, 0, 0, 16, 17, 18, 20, 21, 22, 24, 25, 26,
+            28, 29, 30, 16, 16, 16, 16,
+        ]),
+    };
+    parts.extract::<0, 16>().copy_to_slice(output);
+    parts.extract::<16, 8>().copy_to_slice(&mut output[12..]);
+    // As a lane of 32 bits: the compiler would shuffle four bytes once more.
+    let last = u32x8::from_le_bytes(parts).extract::<6, 1>();
+    last.to_le_bytes().copy_to_slice(&mut output[20..]);
 }
 
 /// Writes the lowest five bytes of each of eight words.
