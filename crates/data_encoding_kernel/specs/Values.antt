@@ -52,6 +52,10 @@ AreValues values width =
 abbrev pub in_row : List ℕ → ℕ → ℕ → ℕ
 in_row values start byte = slice_index values (start + byte % 16)
 
+-- The same for a byte below 128, or else 0.
+abbrev pub low_entry : List ℕ → ℕ → ℕ → ℕ
+low_entry values start byte = if nat_le 128 byte then 0 else in_row values start byte
+
 -- `f byte` if the highest bit of `byte`, shifted up by `up`, is set, or else `g byte`.
 abbrev pub chosen_by : ℕ → (ℕ → ℕ) → (ℕ → ℕ) → ℕ → ℕ
 chosen_by up f g byte = if nat_le 128 (byte * 2 ^ up % 2 ^ 8) then f byte else g byte

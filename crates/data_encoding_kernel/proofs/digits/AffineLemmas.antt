@@ -1,5 +1,5 @@
 -- Entries of a table that is affine by rows of sixteen, at bytes in lanes.
-use Rattle.std.proofs.Common.{◌≡◌, ℕ, ◌+◌, ◌-◌, ◌*◌, ◌/◌, ◌%◌, ◌^◌, ◌<◌, ◌≤◌, Bool, true, false, cond, eqb, eqb-true, List, length, map, take, drop, get_or, slice_index, replicate, bit_and, w8, refl, sym, ap, ◌∙◌, subst, arith, ⊎_elim}
+use Rattle.std.proofs.Common.{◌≡◌, ℕ, ◌+◌, ◌-◌, ◌*◌, ◌/◌, ◌%◌, ◌^◌, ◌<◌, ◌≤◌, Bool, true, false, cond, eqb, leb, eqb-true, List, length, map, take, drop, get_or, slice_index, replicate, bit_and, w8, refl, sym, ap, ◌∙◌, subst, arith, ⊎_elim}
 use Rattle.std.proofs.lemmas.Bool.{cases_lt}
 use Rattle.std.proofs.lemmas.Nat.{and_le_l, and_le_r}
 use Rattle.std.proofs.lemmas.List.{get_or-drop, get_or-replicate, map-id, ext_get_or}
@@ -8,10 +8,10 @@ use Rattle.std.proofs.lemmas.Simd.{length-chunk, zip2_of_maps, zip2_splat, splat
 use Rattle.std.specs.List.{AllByRecursion, range_with_len}
 use Rattle.std.specs.Simd.Lanes.{chunk, zip2, sel_l, top}
 use Rattle.data_encoding_kernel.specs.declared.simd.decode.affine.Affine.{Affine}
-use Rattle.data_encoding_kernel.specs.Affine.{HoldsAffine, affine_entry, affine_value, bits_of_rows, moved_byte, symbol_bit}
-use Rattle.data_encoding_kernel.specs.Values.{IsExact, IsRow, in_row}
-use Rattle.data_encoding_kernel.proofs.digits.GatherRowLemmas.{at_most, chosen-high, exact-none, exact-same, row-loaded, upper-entry}
-use Rattle.data_encoding_kernel.proofs.digits.LaneLemmas.{select-mapped}
+use Rattle.data_encoding_kernel.specs.Affine.{HoldsAffine, affine_entry, affine_value, bits_of_rows, moved_byte}
+use Rattle.data_encoding_kernel.specs.Values.{IsExact, IsRow, in_row, low_entry}
+use Rattle.data_encoding_kernel.proofs.digits.GatherRowLemmas.{at_most, chosen-high, exact-none, exact-same, low-same, row-loaded, upper-entry}
+use Rattle.data_encoding_kernel.proofs.digits.LaneLemmas.{map-same, select-mapped}
 use Rattle.data_encoding_kernel.proofs.digits.WordLemmas.{map-range-same}
 use Rattle.data_encoding_meaning.proofs.lists.EachLemmas.{all-at}
 
@@ -43,58 +43,40 @@ abbrev pub down : ℕ → ℕ → ℕ
 down a b = a / 2 ^ b
 
 pub entries-at_rows : (row : List ℕ) (count : ℕ) (bytes entries : List ℕ) → length bytes ≡ count
-    → entries ≡ map (in_row row 0) (zip2 down bytes (replicate count 4))
+    → AllByRecursion (λ byte. byte < 256) bytes
+    → entries ≡ map (low_entry row 0) (zip2 down bytes (replicate count 4))
     → entries ≡ map (at_row row) bytes
-entries-at_rows row count bytes entries long e =
-    e ∙ ap (map (in_row row 0)) (zip2_splat down bytes count 4 long)
-    ∙ map-map (in_row row 0) (λ byte. down byte 4) bytes
+entries-at_rows row count bytes entries long below e =
+    e ∙ ap (map (low_entry row 0)) (zip2_splat down bytes count 4 long)
+    ∙ map-map (low_entry row 0) (λ byte. down byte 4) bytes
+    ∙ map-same (λ byte. byte < 256) (λ byte. low_entry row 0 (down byte 4)) (at_row row)
+    (λ byte h. low-same row 0 (down byte 4) (omega (arith, h))) bytes below
 
 -- the entries of a row, by positions
 abbrev LooksUp : List ℕ → List ℕ → List ℕ → Type 0
 LooksUp row places found =
     (values : List ℕ) (start : ℕ) → IsRow values start row
-    → found ≡ map (in_row values start) places
+    → found ≡ map (low_entry values start) places
 
 -- the four look-ups for the entries of bytes
 pub rows-found : (affine : Affine) (count : ℕ) (bytes bits : List ℕ)
     {symbols found deltas shared : List ℕ}
-    → bits ≡ bits_of_rows → length bytes ≡ count → LooksUp affine.symbols bytes symbols
+    → bits ≡ bits_of_rows → length bytes ≡ count → AllByRecursion (λ byte. byte < 256) bytes
+    → LooksUp affine.symbols bytes symbols
     → LooksUp bits (zip2 down bytes (replicate count 4)) found
     → LooksUp affine.deltas (zip2 down bytes (replicate count 4)) deltas
     → LooksUp affine.shared bytes shared
-    → (symbols ≡ map (in_row affine.symbols 0) bytes) × (found ≡ map (at_row bits_of_rows) bytes)
-    × (deltas ≡ map (at_row affine.deltas) bytes) × (shared ≡ map (in_row affine.shared 0) bytes)
-rows-found affine count bytes bits {symbols} {found} {deltas} {shared} is long first second third
-    fourth = (
+    → (symbols ≡ map (low_entry affine.symbols 0) bytes) × (found ≡ map (at_row bits_of_rows) bytes)
+    × (deltas ≡ map (at_row affine.deltas) bytes) × (shared ≡ map (low_entry affine.shared 0) bytes)
+rows-found affine count bytes bits {symbols} {found} {deltas} {shared} is long below first second
+    third fourth = (
       first affine.symbols 0 (own-row affine.symbols),
-      entries-at_rows bits_of_rows count bytes found long
+      entries-at_rows bits_of_rows count bytes found long below
           (second bits_of_rows 0 (subst (IsRow bits_of_rows 0) (sym is) (own-row bits_of_rows))),
-      entries-at_rows affine.deltas count bytes deltas long
+      entries-at_rows affine.deltas count bytes deltas long below
           (third affine.deltas 0 (own-row affine.deltas)),
       fourth affine.shared 0 (own-row affine.shared),
     )
-
-pub found-are : (affine : Affine) (count : ℕ) (bytes symbols bits deltas shared : List ℕ)
-    → length bytes ≡ count → symbols ≡ map (in_row affine.symbols 0) bytes
-    → bits ≡ map (at_row bits_of_rows) bytes → deltas ≡ map (at_row affine.deltas) bytes
-    → shared ≡ map (in_row affine.shared 0) bytes
-    → sel_l (map (top 7) (zip2 equal (zip2 bit_and symbols bits) (replicate count 0)))
-    (replicate count 255)
-    (sel_l (map (top 7) (zip2 at_most (replicate count 128) (zip2 plus bytes deltas))) shared
-    (zip2 plus bytes deltas))
-    ≡ map (affine_entry affine) bytes
-found-are affine count bytes symbols bits deltas shared long at_symbols at_bits at_deltas
-    at_shared =
-    let own : bytes ≡ map (λ (byte : ℕ). byte) bytes = sym (map-id bytes) in
-    let moved : zip2 plus bytes deltas ≡ map (moved_byte affine) bytes =
-    zip2_of_maps plus (λ byte. byte) (at_row affine.deltas) bytes own at_deltas in
-    chosen-equal (symbol_bit affine) (λ _. 0) (λ _. 255) (affine_value affine) bytes _ _
-    (zip2_of_maps bit_and (in_row affine.symbols 0) (at_row bits_of_rows) bytes at_symbols at_bits)
-    (splat_is_map bytes count 0 long) (splat_is_map bytes count 255 long)
-    ((λ i. sel_l (map (top 7) (zip2 at_most (replicate count 128) (zip2 plus bytes deltas)))
-    (at_shared i) (moved i))
-    ∙ chosen-high count (moved_byte affine) (in_row affine.shared 0) (moved_byte affine) bytes
-    (zip2 plus bytes deltas) long moved)
 
 -- no row from 128 on has a bit
 pub no-bit : (row : ℕ) → 8 ≤ row → row < 16 → get_or bits_of_rows row 0 ≡ 0
@@ -104,16 +86,82 @@ no-bit row high low =
     ∙ get_or-replicate 8 (row - 8) 0 0 (omega (arith, high, low))
 
 -- and a byte there is not a symbol
+no-symbol : (symbols byte : ℕ) → 128 ≤ byte → byte < 256
+    → bit_and symbols (at_row bits_of_rows byte) ≡ 0
+no-symbol symbols byte high fits =
+    ap (bit_and symbols)
+    (ap (λ k. get_or bits_of_rows k 0) (omega arith)
+    ∙ no-bit (byte / 16 % 16) (omega (arith, high, fits)) (omega arith))
+    ∙ omega (arith, and_le_r symbols 0)
+
 high-entry : (affine : Affine) (byte : ℕ) → 128 ≤ byte → byte < 256
     → affine_entry affine byte ≡ 255
 high-entry affine byte high fits =
-    let bit : in_row bits_of_rows 0 (byte / 16) ≡ 0 =
-    ap (λ k. get_or bits_of_rows k 0) (omega arith)
-    ∙ no-bit (byte / 16 % 16) (omega (arith, high, fits)) (omega arith) in
-    let none : symbol_bit affine byte ≡ 0 =
-    ap (bit_and (in_row affine.symbols 0 byte)) bit
-    ∙ omega (arith, and_le_r (in_row affine.symbols 0 byte) 0) in
-    ap (λ n. cond (eqb n 0) 255 (affine_value affine byte)) none
+    ap (λ n. cond (eqb n 0) 255 (affine_value affine byte))
+    (no-symbol (in_row affine.symbols 0 byte) byte high fits)
+
+-- a bit of its row, as it is computed
+pub bit-computed : (row : List ℕ) (byte : ℕ) → byte < 256
+    → bit_and (low_entry row 0 byte) (at_row bits_of_rows byte)
+    ≡ bit_and (in_row row 0 byte) (at_row bits_of_rows byte)
+bit-computed row byte fits =
+    ⊎_elim
+    (λ (low : byte < 128). ap (λ n. bit_and n (at_row bits_of_rows byte)) (low-same row 0 byte low))
+    (λ (high : 128 ≤ byte).
+    no-symbol (low_entry row 0 byte) byte high fits
+    ∙ sym (no-symbol (in_row row 0 byte) byte high fits))
+    (cases_lt byte 128)
+
+-- the entry of a byte, as it is computed
+abbrev low_bit : Affine → ℕ → ℕ
+low_bit affine byte = bit_and (low_entry affine.symbols 0 byte) (at_row bits_of_rows byte)
+
+abbrev low_value : Affine → ℕ → ℕ
+low_value affine byte =
+    cond (leb 128 (moved_byte affine byte)) (low_entry affine.shared 0 byte)
+    (moved_byte affine byte)
+
+computed-entry : (affine : Affine) (byte : ℕ) → byte < 256
+    → cond (eqb (low_bit affine byte) 0) 255 (low_value affine byte) ≡ affine_entry affine byte
+computed-entry affine byte fits =
+    let moved = moved_byte affine byte in
+    ⊎_elim
+    (λ (low : byte < 128).
+    λ i. cond
+    (eqb (bit_and (low-same affine.symbols 0 byte low i) (at_row bits_of_rows byte)) 0) 255
+    (cond (leb 128 moved) (low-same affine.shared 0 byte low i) moved))
+    (λ (high : 128 ≤ byte).
+    ap (λ n. cond (eqb n 0) 255 (low_value affine byte))
+    (no-symbol (low_entry affine.symbols 0 byte) byte high fits)
+    ∙ sym (high-entry affine byte high fits))
+    (cases_lt byte 128)
+
+pub found-are : (affine : Affine) (count : ℕ) (bytes symbols bits deltas shared : List ℕ)
+    → length bytes ≡ count → AllByRecursion (λ byte. byte < 256) bytes
+    → symbols ≡ map (low_entry affine.symbols 0) bytes
+    → bits ≡ map (at_row bits_of_rows) bytes → deltas ≡ map (at_row affine.deltas) bytes
+    → shared ≡ map (low_entry affine.shared 0) bytes
+    → sel_l (map (top 7) (zip2 equal (zip2 bit_and symbols bits) (replicate count 0)))
+    (replicate count 255)
+    (sel_l (map (top 7) (zip2 at_most (replicate count 128) (zip2 plus bytes deltas))) shared
+    (zip2 plus bytes deltas))
+    ≡ map (affine_entry affine) bytes
+found-are affine count bytes symbols bits deltas shared long below at_symbols at_bits at_deltas
+    at_shared =
+    let own : bytes ≡ map (λ (byte : ℕ). byte) bytes = sym (map-id bytes) in
+    let moved : zip2 plus bytes deltas ≡ map (moved_byte affine) bytes =
+    zip2_of_maps plus (λ byte. byte) (at_row affine.deltas) bytes own at_deltas in
+    chosen-equal (low_bit affine) (λ _. 0) (λ _. 255) (low_value affine) bytes _ _
+    (zip2_of_maps bit_and (low_entry affine.symbols 0) (at_row bits_of_rows) bytes at_symbols
+    at_bits)
+    (splat_is_map bytes count 0 long) (splat_is_map bytes count 255 long)
+    ((λ i. sel_l (map (top 7) (zip2 at_most (replicate count 128) (zip2 plus bytes deltas)))
+    (at_shared i) (moved i))
+    ∙ chosen-high count (moved_byte affine) (low_entry affine.shared 0) (moved_byte affine) bytes
+    (zip2 plus bytes deltas) long moved)
+    ∙ map-same (λ byte. byte < 256)
+    (λ byte. cond (eqb (low_bit affine byte) 0) 255 (low_value affine byte)) (affine_entry affine)
+    (computed-entry affine) bytes below
 
 pub entry-exact : (values : List ℕ) (affine : Affine) → HoldsAffine values affine → (byte : ℕ)
     → byte < 256 → IsExact (affine_entry affine byte) (slice_index values byte)

@@ -1,11 +1,11 @@
 -- Entries of a table at bytes in lanes, from rows of sixteen, and the test of them all.
-use Rattle.std.proofs.Common.{◌≡◌, ℕ, zero, suc, ◌+◌, ◌-◌, ◌*◌, ◌/◌, ◌%◌, ◌^◌, ◌<◌, ◌≤◌, Bool, true, false, not, cond, eqb, leb, List, [], ◌∷◌, ◌++◌, length, map, take, drop, get_or, slice_index, replicate, bit_and, bit_or, w8, refl, sym, ap, ◌∙◌, subst, arith, eqb-true, leb-false, length-append, ⊎_elim}
-use Rattle.std.proofs.lemmas.Bool.{cases_lt, leb-true}
+use Rattle.std.proofs.Common.{◌≡◌, ℕ, zero, suc, ◌+◌, ◌-◌, ◌*◌, ◌/◌, ◌%◌, ◌^◌, ◌<◌, ◌≤◌, Bool, true, false, not, cond, eqb, leb, ltb, ◌||◌, Fits, List, [], ◌∷◌, ◌++◌, length, map, take, drop, get_or, slice_index, replicate, bit_and, bit_or, w8, refl, sym, ap, ◌∙◌, subst, arith, eqb-true, leb-false, length-append, ⊎_elim}
+use Rattle.std.proofs.lemmas.Bool.{cases_lt, le-leb, leb-true, lt-leb, lt-ltb}
 use Rattle.std.proofs.lemmas.Bool.Decides.{nat_tests}
-use Rattle.std.proofs.lemmas.Nat.{and_mask, and_le_r, le_or_r}
+use Rattle.std.proofs.lemmas.Nat.{and_block, and_mask, and_le_r, le_or_r}
 use Rattle.std.proofs.lemmas.Nat.Bits.{and_high}
 use Rattle.std.proofs.lemmas.List.{get_or-replicate, length-map, get_or-map, get_or-take, get_or-drop, ext_get_or, map-append, take_at}
-use Rattle.std.proofs.lemmas.Simd.{swz_l, SwzOk, SwzOk-from_below, length-swz_l, get_or-swz_l_below, zip2_splat, zip2_splat_left, tops_compared, Each1-all, Each1-get_or, Each1-zip2, Each2-splat, map-map, mask_l-mod, pick_l-range_with_len, trailing_mask_l}
+use Rattle.std.proofs.lemmas.Simd.{swz_l, SwzOk, SwzOk-from_Each1, SwzOk-from_below, get_or-swz_l, length-swz_l, get_or-swz_l_below, zip2_splat, zip2_splat_left, tops_compared, Each1-all, Each1-get_or, Each1-zip2, Each2-splat, map-map, mask_l-mod, pick_l-range_with_len, trailing_mask_l}
 use Rattle.std.proofs.lemmas.List.Sums.{prefix_len-le-length, prefix_len_passes, prefix_len_stops}
 use Rattle.std.specs.Bool.{IsTrue}
 use Rattle.std.specs.Int.Bits.{or_zero_r}
@@ -13,7 +13,8 @@ use Rattle.std.specs.List.{AllByRecursion, concat, range_with_len}
 use Rattle.std.specs.Simd.Lanes.{Each1, zip2, sel_l, mask_l, pick_l, top}
 use Rattle.std.specs.List.{prefix_len}
 use lib.Count.{count_trailing_zeros}
-use Rattle.data_encoding_kernel.specs.Values.{AreExact, IsAsciiTable, IsExact, IsRow, chosen_by, in_row}
+use lib.Dec.{T}
+use Rattle.data_encoding_kernel.specs.Values.{AreExact, IsAsciiTable, IsExact, IsRow, chosen_by, in_row, low_entry}
 use Rattle.data_encoding_kernel.proofs.digits.LaneLemmas.{select-mapped}
 use Rattle.data_encoding_meaning.proofs.lists.RepeatLemmas.{get_or-repeats}
 
@@ -185,16 +186,86 @@ repeated-looked_up times entry table bytes long has =
     ∙ has place (omega (arith, here, within, long)) ∙ ap entry (omega (arith, here))
     ∙ sym (get_or-map shown bytes i 0 0 within))
 
--- the entries of bytes in a row
-pub row-looked_up : (times : ℕ) (values row bytes : List ℕ) (start : ℕ) → length row ≡ 16
-    → length bytes ≡ times * 16 → IsRow values start row
-    → swz_l w8 16 (repeats times row) 0 (places (times * 16) bytes)
-    ≡ map (in_row values start) bytes
-row-looked_up times values row bytes start sixteen long is_row =
-    repeated-looked_up times (λ k. slice_index values (start + k)) (repeats times row) bytes long
-    (λ place h.
-    get_or-repeats times row place (subst (λ n. place < times * n) (sym sixteen) h)
-    ∙ ap (λ n. get_or row (place % n) 0) sixteen ∙ is_row (place % 16) (omega arith))
+-- the entry of a byte below 128
+pub low-same : (values : List ℕ) (start byte : ℕ) → byte < 128
+    → low_entry values start byte ≡ in_row values start byte
+low-same values start byte h =
+    λ i. cond (lt-leb 128 byte h i) 0 (in_row values start byte)
+
+-- the lowest four bits and the highest one of a byte
+low-place : (byte : ℕ) → bit_and byte 143 ≡ byte / 128 % 2 * 128 + byte % 16
+low-place byte =
+    let high = byte / 16 in
+    ap (λ n. bit_and n 143) (omega arith)
+    ∙ and_block 4 high 8 (byte % 16) 15 (omega arith) (omega arith)
+    ∙ omega (arith, and_high high 1 3, and_mask (byte % 16) 4)
+
+-- the positions of bytes in a row of sixteen. Those of bytes from 128 on give zeros
+module _ (times : ℕ) (bytes : List ℕ) (long : length bytes ≡ times * 16)
+    (fit : Each1 (Fits w8) bytes) where
+  abbrev low_places : List ℕ
+  low_places = zip2 bit_and bytes (replicate (times * 16) 143)
+
+  low_places-are : low_places ≡ map (λ byte. bit_and byte 143) bytes
+  low_places-are = zip2_splat bit_and bytes (times * 16) 143 long
+
+  length-low_places : length low_places ≡ times * 16
+  length-low_places =
+      ap length low_places-are ∙ length-map bytes (λ byte. bit_and byte 143) ∙ long
+
+  low_place-ok : (byte : ℕ) → T (leb 128 (bit_and byte 143) || ltb (bit_and byte 143) 16)
+  low_place-ok byte =
+      let j = bit_and byte 143 in
+      ⊎_elim
+      (λ (low : j < 128).
+      subst (λ b. T (b || ltb j 16)) (sym (lt-leb 128 j low))
+      (subst T (sym (lt-ltb j 16 (omega (arith, low, low-place byte)))) tt))
+      (λ (high : 128 ≤ j). subst (λ b. T (b || ltb j 16)) (sym (le-leb 128 j high)) tt)
+      (cases_lt j 128)
+
+  pub low_places-ok : SwzOk w8 16 (times * 16) 0 low_places
+  low_places-ok =
+      SwzOk-from_Each1 w8 16 times (times * 16) 0 low_places refl
+      (omega (arith, length-low_places))
+      (Each1-zip2 bit_and (λ j. T (leb 128 j || ltb j 16)) bytes (replicate (times * 16) 143)
+      (Each2-splat (λ a b. T (leb 128 (bit_and a b) || ltb (bit_and a b) 16)) bytes (times * 16)
+      143 (Each1-all (λ byte. T (leb 128 (bit_and byte 143) || ltb (bit_and byte 143) 16))
+      low_place-ok bytes)))
+
+  -- the entries of bytes in a row
+  pub row-looked_up : (values row : List ℕ) (start : ℕ) → length row ≡ 16 → IsRow values start row
+      → swz_l w8 16 (repeats times row) 0 low_places ≡ map (low_entry values start) bytes
+  row-looked_up values row start sixteen is_row =
+      let table = repeats times row in
+      let shown = low_entry values start in
+      let len : length (swz_l w8 16 table 0 low_places) ≡ times * 16 =
+      length-swz_l w8 16 table 0 low_places ∙ length-low_places in
+      ext_get_or 0 (swz_l w8 16 table 0 low_places) (map shown bytes)
+      (len ∙ sym (length-map bytes shown ∙ long))
+      (λ i h.
+      let within : i < length bytes = omega (arith, h, len, long) in
+      let byte = get_or bytes i 0 in
+      let j = get_or low_places i 0 in
+      let place = 16 * ((0 + i) / 16) + j in
+      let here : j ≡ byte / 128 % 2 * 128 + byte % 16 =
+      ap (λ l. get_or l i 0) low_places-are
+      ∙ get_or-map (λ b. bit_and b 143) bytes i 0 0 within ∙ low-place byte in
+      let fits : byte < 256 = (Each1-get_or (Fits w8) bytes i 0 within fit).fits in
+      get_or-swz_l w8 16 table 0 low_places i (omega (arith, within, long, length-low_places))
+      ∙ ⊎_elim
+      (λ (low : byte < 128).
+      let inside : place < times * 16 = omega (arith, here, low, within, long) in
+      (λ k. cond (lt-leb 128 j (omega (arith, here, low)) k) 0 (get_or table place 0))
+      ∙ get_or-repeats times row place (subst (λ n. place < times * n) (sym sixteen) inside)
+      ∙ ap (λ n. get_or row (place % n) 0) sixteen
+      ∙ is_row (place % 16) (omega arith)
+      ∙ ap (λ n. slice_index values (start + n)) (omega (arith, here, low))
+      ∙ sym (low-same values start byte low))
+      (λ (high : 128 ≤ byte).
+      (λ k. cond (le-leb 128 j (omega (arith, here, high, fits)) k) 0 (get_or table place 0))
+      ∙ sym (λ k. cond (le-leb 128 byte high k) 0 (in_row values start byte)))
+      (cases_lt byte 128)
+      ∙ sym (get_or-map shown bytes i 0 0 within))
 
 -- the lanes with a bit that is set
 abbrev pub up : ℕ → ℕ → ℕ
@@ -227,10 +298,10 @@ chosen-lanes shift count f g bytes long =
 abbrev pub of_rows : List ℕ → ℕ → ℕ
 of_rows values =
     chosen_by 1
-    (chosen_by 2 (chosen_by 3 (in_row values 112) (in_row values 96))
-    (chosen_by 3 (in_row values 80) (in_row values 64)))
-    (chosen_by 2 (chosen_by 3 (in_row values 48) (in_row values 32))
-    (chosen_by 3 (in_row values 16) (in_row values 0)))
+    (chosen_by 2 (chosen_by 3 (low_entry values 112) (low_entry values 96))
+    (chosen_by 3 (low_entry values 80) (low_entry values 64)))
+    (chosen_by 2 (chosen_by 3 (low_entry values 48) (low_entry values 32))
+    (chosen_by 3 (low_entry values 16) (low_entry values 0)))
 
 -- a choice by a bit, if both sides are right where they are chosen
 chosen-by_bit : (byte is shift x y : ℕ) → (128 ≤ up byte shift → x ≡ is)
@@ -253,8 +324,8 @@ of_rows-is values byte h =
     (λ b. by 3 _ _ (λ c. at 16 (omega arith)) (λ c. at 0 (omega arith))))
   where
     at : (start : ℕ) → start + byte % 16 ≡ byte
-        → in_row values start byte ≡ slice_index values byte
-    at start e = ap (slice_index values) e
+        → low_entry values start byte ≡ slice_index values byte
+    at start e = low-same values start byte h ∙ ap (slice_index values) e
 
 -- a byte from 128 on keeps its highest bit
 abbrev pub of_byte : List ℕ → ℕ → ℕ

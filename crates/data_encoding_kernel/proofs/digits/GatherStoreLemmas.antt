@@ -1,8 +1,9 @@
 -- The bytes of words in lanes.
-use Rattle.std.proofs.Common.{◌≡◌, ℕ, ◌+◌, ◌-◌, ◌*◌, ◌/◌, ◌%◌, ◌^◌, ◌<◌, ◌≤◌, List, [], ◌∷◌, ◌++◌, length, length-append, length-take-le, take, drop, map, refl, sym, ap, ◌∙◌, subst, arith}
-use Rattle.std.proofs.lemmas.List.{append-nil, length-drop, length-map, map-id, nil_from_length, take_at}
+use Rattle.std.proofs.Common.{◌≡◌, ℕ, ◌+◌, ◌-◌, ◌*◌, ◌/◌, ◌%◌, ◌^◌, ◌<◌, ◌≤◌, List, [], ◌∷◌, ◌++◌, length, take, drop, get_or, map, w8, ⊎_elim, refl, sym, ap, ◌∙◌, subst, arith}
+use Rattle.std.proofs.lemmas.Bool.{cases_lt}
+use Rattle.std.proofs.lemmas.List.{get_or_past, length-map, map-id, take_all, take-take}
 use Rattle.std.proofs.Math.Nat.{mod-lt}
-use Rattle.std.proofs.lemmas.Simd.{put_chunk_is, put_chunk_whole}
+use Rattle.std.proofs.lemmas.Simd.{Each1-get_or, length-put_chunk, pick_l_left, put_chunk_whole, take_more_put_chunk}
 use mir.Syntax.{Width}
 use mir.Val.{bits, Fits}
 use Rattle.std.specs.Prelude.{flat_map}
@@ -12,7 +13,8 @@ use Rattle.data_encoding_meaning.specs.declared.encoding.BitOrder.{BitOrder}
 use Rattle.data_encoding_meaning.specs.declared.encoding.BitOrder.TheVariants.{MostSignificantFirst, LeastSignificantFirst}
 use Rattle.data_encoding_kernel.specs.Lanes.{digits_of}
 use Rattle.data_encoding_kernel.specs.Words.{digit}
-use Rattle.data_encoding_kernel.proofs.digits.LaneLemmas.{by_eight, bytes-of-lanes, digits_of-below, map-same}
+use Rattle.data_encoding_kernel.proofs.digits.LaneLemmas.{all_mapped, by_eight, bytes-of-lanes, digits_of-below, digits-of-number, map-same, number-of-wide}
+use Rattle.data_encoding_kernel.proofs.digits.AffineLemmas.{lanes-from_function}
 use Rattle.data_encoding_kernel.proofs.digits.GatherWordLemmas.{number-of-digits}
 
 -- narrower lanes hold them
@@ -32,27 +34,119 @@ lanes-below w (word ∷ words) all = (all.0.fits, lanes-below w words all.1)
 abbrev pub picked : List ℕ → List ℕ → List ℕ → List ℕ
 picked front back bytes = pick_l 0 (bytes ++ bytes) front ++ pick_l 0 (bytes ++ bytes) back
 
--- both selections, stored one after another in an output
-pub stored-parts : (n m : ℕ) (output front back : List ℕ) → length front ≡ n → length back ≡ m
-    → length output ≡ n + m
-    → put_chunk n (put_chunk 0 (take n output) front ++ drop n output) back ≡ front ++ back
-stored-parts n m output front back f b long =
-    let rest = drop n output in
-    let whole = front ++ rest in
-    let first : put_chunk 0 (take n output) front ≡ front =
-    put_chunk_whole (take n output) front
-    (length-take-le n output (omega (arith, long)) ∙ sym f) in
-    let rest_len : length rest ≡ m = length-drop n output ∙ omega (arith, long) in
-    let whole_len : length whole ≡ n + m =
-    length-append front rest ∙ (λ i. f i + rest_len i) in
-    let last : drop (length back) (drop n whole) ≡ [] =
-    nil_from_length (drop (length back) (drop n whole))
-    (length-drop (length back) (drop n whole)
-    ∙ omega (arith, length-drop n whole, whole_len, b)) in
-    ap (λ l. put_chunk n (l ++ rest) back) first
-    ∙ put_chunk_is n whole back (omega (arith, whole_len, b))
-    ∙ (λ i. take_at front rest n f i ++ (back ++ last i))
-    ∙ ap (λ l. front ++ l) (append-nil back)
+-- a selection, stored over the end of what is stored
+stored-more : (i : ℕ) (output stored more : List ℕ) → i ≤ length stored
+    → take (length stored) output ≡ stored → i + length more ≤ length output
+    → take (i + length more) (put_chunk i output more) ≡ take i stored ++ more
+stored-more i output stored more within is room =
+    take_more_put_chunk i output more (i + length more) refl room
+    ∙ ap (λ l. l ++ more) (sym (take-take i (length stored) output within) ∙ ap (take i) is)
+
+-- the four bytes of the seventh lane of 32 bits
+module _ (parts : List ℕ) (long : length parts ≡ 32) (fit : Each1 (Fits w8) parts) where
+  abbrev byte : ℕ → ℕ
+  byte k = get_or parts k 0
+
+  abbrev lane_of : ℕ → List ℕ
+  lane_of lane =
+      byte (4 * lane) ∷ byte (4 * lane + 1) ∷ byte (4 * lane + 2) ∷ byte (4 * lane + 3) ∷ []
+
+  byte-small : (k : ℕ) → byte k < 256
+  byte-small k =
+      ⊎_elim
+      (λ (h : k < 32). (Each1-get_or (Fits w8) parts k 0 (omega (arith, h, long)) fit).fits)
+      (λ (h : 32 ≤ k). omega (arith, get_or_past parts k 0 (omega (arith, h, long))))
+      (cases_lt k 32)
+
+  lane-small : (lane : ℕ) → AllByRecursion (λ x. x < 256) (lane_of lane)
+  lane-small lane = (
+    byte-small (4 * lane),
+    (
+      byte-small (4 * lane + 1),
+      (
+        byte-small (4 * lane + 2),
+        (byte-small (4 * lane + 3), tt),
+      ),
+    ),
+  )
+
+  abbrev lanes : List ℕ
+  lanes = digits_l 4294967296 8 (number_l 256 parts)
+
+  abbrev numbers : List ℕ
+  numbers = map (λ lane. number_l 256 (lane_of lane)) (range_with_len 0 8)
+
+  lanes-are : lanes ≡ numbers
+  lanes-are =
+      ap (λ l. digits_l 4294967296 8 (number_l 256 l))
+      (lanes-from_function byte 32 parts long (λ k h. refl))
+      ∙ ap (digits_l 4294967296 8)
+      (sym (number-of-wide 256 4 4294967296 refl lane_of (range_with_len 0 8) (λ lane. refl)))
+      ∙ digits-of-number 4294967296 numbers
+      (all_mapped (λ x. x < 4294967296) (λ lane. number_l 256 (lane_of lane)) (range_with_len 0 8)
+      (λ lane. omega (arith, lane-small lane)))
+
+  lane-bytes : digits_l 256 4 (number_l 4294967296 (pick_l 0 (lanes ++ lanes) (6 ∷ [])))
+      ≡ lane_of 6
+  lane-bytes =
+      ap (λ l. digits_l 256 4 (number_l 4294967296 (pick_l 0 (l ++ l) (6 ∷ [])))) lanes-are
+      ∙ bytes-of-lanes 4 4294967296 4 refl lane_of (6 ∷ []) refl (λ lane. refl) lane-small
+
+  -- twelve bytes of each half, stored one over the end of the other
+  pub stored-twelves : (output : List ℕ) → length output ≡ 24
+      → put_chunk 20 (put_chunk 12
+      (put_chunk 0 output (pick_l 0 (parts ++ parts) (range_with_len 0 16)))
+      (pick_l 0 (parts ++ parts) (range_with_len 16 8)))
+      (digits_l 256 4 (number_l 4294967296 (pick_l 0 (lanes ++ lanes) (6 ∷ []))))
+      ≡ pick_l 0 parts (range_with_len 0 12) ++ pick_l 0 parts (range_with_len 16 12)
+  stored-twelves output room =
+      let picks = λ (ks : List ℕ). pick_l 0 (parts ++ parts) ks in
+      let first = put_chunk 0 output (picks (range_with_len 0 16)) in
+      let second = put_chunk 12 first (picks (range_with_len 16 8)) in
+      let back = digits_l 256 4 (number_l 4294967296 (pick_l 0 (lanes ++ lanes) (6 ∷ []))) in
+      let all = put_chunk 20 second back in
+      let in_first : length first ≡ 24 = length-put_chunk 0 output _ ∙ room in
+      let in_second : length second ≡ 24 = length-put_chunk 12 first _ ∙ in_first in
+      let in_all : length all ≡ 24 = length-put_chunk 20 second back ∙ in_second in
+      sym (take_all 24 all (omega (arith, in_all)))
+      ∙ take_more_put_chunk 20 second back 24 refl (omega (arith, in_second))
+      ∙ (λ i. stored-more 12 first (picks (range_with_len 0 16)) (picks (range_with_len 16 8))
+      (omega arith)
+      (take_more_put_chunk 0 output (picks (range_with_len 0 16)) 16 refl (omega (arith, room)))
+      (omega (arith, in_first)) i
+      ++ lane-bytes i)
+      ∙ (λ i. pick_l_left 0 parts parts 32 (range_with_len 0 12) long tt i
+      ++ pick_l_left 0 parts parts 32 (range_with_len 16 8) long tt i ++ lane_of 6)
+
+-- ten bytes of each quarter, each stored over the end of the one before
+pub stored-tens : (parts output : List ℕ) → length output ≡ 40
+    → (let picks = λ (start count : ℕ). pick_l 0 (parts ++ parts) (range_with_len start count) in
+    put_chunk 38 (put_chunk 30 (put_chunk 20 (put_chunk 10 (put_chunk 0 output (picks 0 16))
+    (picks 16 16)) (picks 32 16)) (picks 48 8)) (picks 56 2)
+    ≡ picks 0 10 ++ picks 16 10 ++ picks 32 10 ++ picks 48 10)
+stored-tens parts output room =
+    let picks = λ (start count : ℕ). pick_l 0 (parts ++ parts) (range_with_len start count) in
+    let first = put_chunk 0 output (picks 0 16) in
+    let second = put_chunk 10 first (picks 16 16) in
+    let third = put_chunk 20 second (picks 32 16) in
+    let fourth = put_chunk 30 third (picks 48 8) in
+    let last = put_chunk 38 fourth (picks 56 2) in
+    let in_first : length first ≡ 40 = length-put_chunk 0 output (picks 0 16) ∙ room in
+    let in_second : length second ≡ 40 = length-put_chunk 10 first (picks 16 16) ∙ in_first in
+    let in_third : length third ≡ 40 = length-put_chunk 20 second (picks 32 16) ∙ in_second in
+    let in_fourth : length fourth ≡ 40 = length-put_chunk 30 third (picks 48 8) ∙ in_third in
+    let in_last : length last ≡ 40 = length-put_chunk 38 fourth (picks 56 2) ∙ in_fourth in
+    let two = picks 0 10 ++ picks 16 16 in
+    let three = picks 0 10 ++ picks 16 10 ++ picks 32 16 in
+    let four = picks 0 10 ++ picks 16 10 ++ picks 32 10 ++ picks 48 8 in
+    sym (take_all 40 last (omega (arith, in_last)))
+    ∙ stored-more 38 fourth four (picks 56 2) (omega arith)
+    (stored-more 30 third three (picks 48 8) (omega arith)
+    (stored-more 20 second two (picks 32 16) (omega arith)
+    (stored-more 10 first (picks 0 16) (picks 16 16) (omega arith)
+    (take_more_put_chunk 0 output (picks 0 16) 16 refl (omega (arith, room)))
+    (omega (arith, in_first))) (omega (arith, in_second))) (omega (arith, in_third)))
+    (omega (arith, in_fourth))
 
 -- the bytes of words
 abbrev pub bytes_of_words : BitOrder → ℕ → List ℕ → List ℕ

@@ -1,16 +1,17 @@
 -- Symbols as sums, at values in lanes.
-use Rattle.std.proofs.Common.{◌≡◌, ℕ, zero, suc, ◌+◌, ◌-◌, ◌*◌, ◌/◌, ◌%◌, ◌^◌, ◌<◌, ◌≤◌, ◌==◌, Bool, true, false, cond, eqb, ltb, List, [], ◌∷◌, ◌++◌, length, map, get_or, slice_index, replicate, Fits, w8, refl, sym, ap, ◌∙◌, subst, arith, ltb-true, ltb-false, take, length-take-le}
+use Rattle.std.proofs.Common.{◌≡◌, ℕ, zero, suc, ◌+◌, ◌-◌, ◌*◌, ◌/◌, ◌%◌, ◌^◌, ◌<◌, ◌≤◌, ◌==◌, Bool, true, false, cond, eqb, leb, ltb, List, [], ◌∷◌, ◌++◌, length, map, get_or, slice_index, replicate, Fits, w8, refl, sym, ap, ◌∙◌, subst, arith, ltb-true, ltb-false, take, length-take-le, ⊎_elim}
+use Rattle.std.proofs.lemmas.Bool.{cases_lt, cond_above, cond_below, le-leb, lt-leb}
 use Rattle.std.proofs.lemmas.Bool.Decides.{nat_tests}
 use Rattle.std.proofs.lemmas.List.{length-map, get_or-map, get_or-take, ext_get_or, map-id}
 use Rattle.std.proofs.lemmas.List.FromFn.{length-map-range_with_len}
-use Rattle.std.proofs.lemmas.Simd.{swz_l, SwzOk, SwzOk-from_below, length-swz_l, get_or-swz_l_below, tops_compared, zip2_splat, zip2_of_maps, splat_is_map, length-chunk, map-map}
+use Rattle.std.proofs.lemmas.Simd.{swz_l, SwzOk, SwzOk-from_below, length-swz_l, get_or-swz_l_below, tops_compared, zip2_splat_left, zip2_of_maps, splat_is_map, length-chunk, map-map}
 use Rattle.std.specs.Cmp.{first_so, second_so}
 use Rattle.std.specs.List.{AllByRecursion, range_with_len}
 use Rattle.std.specs.Simd.Lanes.{Each1, chunk, zip2, sel_l, pick_l, top}
 use Rattle.data_encoding_kernel.specs.declared.simd.encode.offset_alphabet.OffsetAlphabet.{OffsetAlphabet}
 use Rattle.data_encoding_kernel.specs.OffsetAlphabet.{HoldsOffsetAlphabet, offset_symbol, first_of, sums_from}
 use Rattle.data_encoding_kernel.proofs.digits.AffineLemmas.{chosen-equal, function-at, equal, lanes-from_function}
-use Rattle.data_encoding_kernel.proofs.digits.GatherRowLemmas.{repeated-row, repeats}
+use Rattle.data_encoding_kernel.proofs.digits.GatherRowLemmas.{at_most, repeated-row, repeats}
 use Rattle.data_encoding_kernel.proofs.digits.LaneLemmas.{select-mapped}
 use Rattle.data_encoding_meaning.proofs.lists.EachLemmas.{all-at}
 use Rattle.data_encoding_meaning.proofs.lists.RepeatLemmas.{get_or-repeats}
@@ -84,17 +85,30 @@ row-at_places row places sixteen long below =
 
 -- the additional offsets of the values below a bound
 pub firsts-are : (alphabet : OffsetAlphabet) (values : List ℕ) → length values ≡ 64
-    → sel_l (map (top 7) (zip2 is_less values (replicate 64 alphabet.bound)))
-    (replicate 64 alphabet.first) (replicate 64 0)
+    → sel_l (map (top 7) (zip2 at_most (replicate 64 alphabet.bound) values))
+    (replicate 64 0) (replicate 64 alphabet.first)
     ≡ map (first_of alphabet) values
 firsts-are alphabet values long =
-    let below = λ (value : ℕ). ltb value alphabet.bound in
-    let tests : map (top 7) (zip2 is_less values (replicate 64 alphabet.bound)) ≡ map below values =
-    tops_compared w8 ltb values (replicate 64 alphabet.bound)
-    ∙ zip2_splat ltb values 64 alphabet.bound long in
-    (λ i. sel_l (tests i) (splat_is_map values 64 alphabet.first long i)
-    (splat_is_map values 64 0 long i))
-    ∙ select-mapped below (λ _. alphabet.first) (λ _. 0) values
+    let others = leb alphabet.bound in
+    let tests : map (top 7) (zip2 at_most (replicate 64 alphabet.bound) values) ≡ map others values =
+    tops_compared w8 leb (replicate 64 alphabet.bound) values
+    ∙ zip2_splat_left leb alphabet.bound 64 values long in
+    (λ i. sel_l (tests i) (splat_is_map values 64 0 long i)
+    (splat_is_map values 64 alphabet.first long i))
+    ∙ select-mapped others (λ _. 0) (λ _. alphabet.first) values
+    ∙ ap (λ f. map f values) (λ i value. first-of value i)
+  where
+    first-of : (value : ℕ) → cond (leb alphabet.bound value) 0 alphabet.first
+        ≡ first_of alphabet value
+    first-of value =
+        ⊎_elim
+        (λ (low : value < alphabet.bound).
+        (λ i. cond (lt-leb alphabet.bound value low i) 0 alphabet.first)
+        ∙ cond_below value alphabet.bound alphabet.first 0 low)
+        (λ (high : alphabet.bound ≤ value).
+        (λ i. cond (le-leb alphabet.bound value high i) 0 alphabet.first)
+        ∙ cond_above value alphabet.bound alphabet.first 0 0 high refl)
+        (cases_lt value alphabet.bound)
 
 -- and the sums
 pub sums-are : (alphabet : OffsetAlphabet) (values : List ℕ) {places numbers firsts : List ℕ}

@@ -1,8 +1,8 @@
 -- Pairs of digits in lanes of sixteen bits, moved to a byte each by products.
-use Rattle.std.proofs.Common.{◌≡◌, ℕ, zero, suc, ◌+◌, ◌*◌, ◌/◌, ◌%◌, ◌^◌, ◌<◌, ◌≤◌, ◌-◌, List, [], ◌∷◌, length, map, take, get_or, replicate, bit_and, bit_or, Fits, w16, refl, sym, ap, ◌∙◌, arith}
+use Rattle.std.proofs.Common.{◌≡◌, ℕ, zero, suc, ◌+◌, ◌*◌, ◌/◌, ◌%◌, ◌^◌, ◌<◌, ◌≤◌, ◌-◌, List, [], ◌∷◌, ◌++◌, length, map, take, get_or, replicate, bit_and, bit_or, Fits, w16, refl, sym, ap, ◌∙◌, arith, length-take-le}
 use Rattle.std.proofs.Math.Nat.{mod-lt}
 use Rattle.std.proofs.Math.Pow.{pow_mono}
-use Rattle.std.proofs.lemmas.List.{get_or-take, map-id}
+use Rattle.std.proofs.lemmas.List.{get_or-take, get_or_append_left, get_or-append_right, map-id}
 use Rattle.std.proofs.lemmas.Nat.{pow_pos}
 use Rattle.std.proofs.lemmas.Nat.Bits.{and_high}
 use Rattle.std.proofs.lemmas.Simd.{zip2_splat, length-zip2}
@@ -17,7 +17,7 @@ use Rattle.data_encoding_kernel.specs.DigitPairs.{high_half, low_half, split_lan
 use Rattle.data_encoding_kernel.specs.Words.{digit, weight}
 use Rattle.data_encoding_kernel.proofs.digits.GatherWordLemmas.{pairs-of}
 use Rattle.data_encoding_kernel.proofs.digits.GroupWordLemmas.{lane-word}
-use Rattle.data_encoding_kernel.proofs.digits.LaneLemmas.{bytes-of-lanes}
+use Rattle.data_encoding_kernel.proofs.digits.LaneLemmas.{bytes-of-lanes, map-same}
 
 abbrev product : ℕ → ℕ → ℕ
 product a b = a * b % 2 ^ 32
@@ -42,24 +42,24 @@ halves (lane ∷ lanes) (factor ∷ factors) =
     ap (λ l. high_half lane factor ∷ l) (halves lanes factors)
 
 -- lanes that are split in two, as they are computed
-pub split-are : (masks downs ups kept lanes : List ℕ) → length lanes ≡ 8 → length masks ≡ 8
-    → length downs ≡ 8
+pub split-are : (masks downs ups kept lanes : List ℕ) → length lanes ≡ 16 → length masks ≡ 16
+    → length downs ≡ 16
     → zip2 bit_or (map (λ (n : ℕ). n)
     (zip2 down (zip2 product (map (λ (n : ℕ). n) (zip2 bit_and lanes masks))
-    (map (λ (n : ℕ). n) downs)) (replicate 8 16)))
+    (map (λ (n : ℕ). n) downs)) (replicate 16 16)))
     (zip2 bit_and (zip2 low_half lanes ups) kept)
     ≡ split_lanes masks downs ups kept lanes
 split-are masks downs ups kept lanes long long_masks long_downs =
     let first = zip2 bit_and lanes masks in
-    let long_first : length first ≡ 8 =
+    let long_first : length first ≡ 16 =
     length-zip2 bit_and lanes masks (long ∙ sym long_masks) ∙ long in
-    let long_product : length (zip2 product first downs) ≡ 8 =
+    let long_product : length (zip2 product first downs) ≡ 16 =
     length-zip2 product first downs (long_first ∙ sym long_downs) ∙ long_first in
     ap (λ l. zip2 bit_or l (zip2 bit_and (zip2 low_half lanes ups) kept))
     (map-id (zip2 down (zip2 product (map (λ (n : ℕ). n) first) (map (λ (n : ℕ). n) downs))
-    (replicate 8 16))
-    ∙ (λ i. zip2 down (zip2 product (map-id first i) (map-id downs i)) (replicate 8 16))
-    ∙ zip2_splat down (zip2 product first downs) 8 16 long_product
+    (replicate 16 16))
+    ∙ (λ i. zip2 down (zip2 product (map-id first i) (map-id downs i)) (replicate 16 16))
+    ∙ zip2_splat down (zip2 product first downs) 16 16 long_product
     ∙ halves first downs)
 
 -- a lane that is split
@@ -85,11 +85,11 @@ one-lane width high low factor up lane narrow lifted raised =
     ∙ omega arith
 
 -- two digits of a word, by the index of the first
-abbrev six : ℕ → ℕ → List ℕ
+abbrev pub six : ℕ → ℕ → List ℕ
 six word index =
     digit MostSignificantFirst 6 4 word index ∷ digit MostSignificantFirst 6 4 word (index + 1) ∷ []
 
-abbrev five : ℕ → ℕ → List ℕ
+abbrev pub five : ℕ → ℕ → List ℕ
 five word index =
     digit MostSignificantFirst 5 8 word index ∷ digit MostSignificantFirst 5 8 word (index + 1) ∷ []
 
@@ -192,18 +192,18 @@ module _ (word : ℕ) {a b c d e : ℕ} (small_a : a < 256) (small_b : b < 256) 
 
 -- lanes of two bytes each, split to the digits of words
 pub pairs-are : (bytes : List ℕ) (pair : ℕ → List ℕ) (masks downs ups kept : List ℕ)
-    → length bytes ≡ 16 → AllByRecursion (λ x. x < 256) bytes
+    → length bytes ≡ 32 → AllByRecursion (λ x. x < 256) bytes
     → ((k : ℕ) → length (pair k) ≡ 2) → ((k : ℕ) → AllByRecursion (λ x. x < 256) (pair k))
-    → split_lanes masks downs ups kept (map (number_l 256) (first_chunks 2 8 bytes))
-    ≡ map (λ k. number_l 256 (pair k)) (range_with_len 0 8)
-    → digits_l 256 16 (number_l 65536 (split_lanes masks downs ups kept
-    (digits_l 65536 8 (number_l 256 bytes))))
-    ≡ flat_map pair (range_with_len 0 8)
+    → split_lanes masks downs ups kept (map (number_l 256) (first_chunks 2 16 bytes))
+    ≡ map (λ k. number_l 256 (pair k)) (range_with_len 0 16)
+    → digits_l 256 32 (number_l 65536 (split_lanes masks downs ups kept
+    (digits_l 65536 16 (number_l 256 bytes))))
+    ≡ flat_map pair (range_with_len 0 16)
 pairs-are bytes pair masks downs ups kept long below two fit is =
-    ap (λ l. digits_l 256 16 (number_l 65536 (split_lanes masks downs ups kept l)))
-    (pairs-of 256 8 bytes below long)
-    ∙ ap (λ l. digits_l 256 16 (number_l 65536 l)) is
-    ∙ bytes-of-lanes 2 65536 16 refl pair (range_with_len 0 8) refl two fit
+    ap (λ l. digits_l 256 32 (number_l 65536 (split_lanes masks downs ups kept l)))
+    (pairs-of 256 16 bytes below long)
+    ∙ ap (λ l. digits_l 256 32 (number_l 65536 l)) is
+    ∙ bytes-of-lanes 2 65536 32 refl pair (range_with_len 0 16) refl two fit
 
 -- the groups of the first sixteen bytes
 module _ (input : List ℕ) (long : 16 ≤ length input)
@@ -219,7 +219,7 @@ module _ (input : List ℕ) (long : 16 ≤ length input)
   bytes-below [] h = tt
   bytes-below (place ∷ places) h = (byte-below place h.0, bytes-below places h.1)
 
-  abbrev pub six_of : ℕ → ℕ → List ℕ
+  abbrev six_of : ℕ → ℕ → List ℕ
   six_of group index = six (group_word MostSignificantFirst 3 input group) index
 
   abbrev SixOf : ℕ → ℕ → ℕ → ℕ → Type 0
@@ -238,7 +238,7 @@ module _ (input : List ℕ) (long : 16 ≤ length input)
       let is = lane-word MostSignificantFirst 3 0 input long small k h in
       (six-first word a b c is, six-second word a b c is)
 
-  abbrev pub five_of : ℕ → ℕ → List ℕ
+  abbrev five_of : ℕ → ℕ → List ℕ
   five_of group index = five (group_word MostSignificantFirst 5 input group) index
 
   abbrev FiveOf : ℕ → ℕ → ℕ → ℕ → ℕ → ℕ → Type 0
@@ -267,3 +267,22 @@ module _ (input : List ℕ) (long : 16 ≤ length input)
         five-third word a b c d e is,
         five-fourth word a b c d e is,
       )
+
+-- the bytes at places of the first and the second sixteen of two joined loads
+pub both-bytes : (first second : List ℕ) → 16 ≤ length first → (places : List ℕ)
+    → AllByRecursion (λ place. place < 16) places
+    → map (λ k. get_or (take 16 first ++ take 16 second) k 0) places
+    ++ map (λ k. get_or (take 16 first ++ take 16 second) (16 + k) 0) places
+    ≡ map (λ k. get_or (take 16 first) k 0) places ++ map (λ k. get_or (take 16 second) k 0) places
+both-bytes first second long places few =
+    let both = take 16 first ++ take 16 second in
+    let size : length (take 16 first) ≡ 16 = length-take-le 16 first long in
+    (λ i. map-same (λ place. place < 16) (λ k. get_or both k 0)
+    (λ k. get_or (take 16 first) k 0)
+    (λ k h. get_or_append_left (take 16 first) (take 16 second) 0 k (omega (arith, h, size)))
+    places few i
+    ++ map-same (λ place. place < 16) (λ k. get_or both (16 + k) 0)
+    (λ k. get_or (take 16 second) k 0)
+    (λ k h. get_or-append_right (take 16 first) (take 16 second) 16 (16 + k) 0 size (omega arith)
+    ∙ ap (λ n. get_or (take 16 second) n 0) (omega arith))
+    places few i)

@@ -2,7 +2,7 @@
 use Rattle.std.proofs.Common.{◌≡◌, ℕ, ◌+◌, ◌*◌, ◌/◌, ◌%◌, ◌^◌, ◌<◌, ◌≤◌, Bool, true, false, cond, eqb, List, ◌∷◌, length, map, get_or, slice_index, replicate, bit_and, w8, refl, sym, ap, ◌∙◌, subst, arith, ⊎_elim}
 use Rattle.std.proofs.lemmas.List.{get_or_past, length-map}
 use Rattle.std.proofs.lemmas.Simd.{bitmask_splat, splat_is_map, zip2_of_maps, map-map, mask_l-lt, bit_mask_l}
-use Rattle.std.specs.List.{range_with_len}
+use Rattle.std.specs.List.{AllByRecursion, range_with_len}
 use Rattle.std.specs.Prelude.{◌==◌, ◌-◌, suc, not}
 use Rattle.std.specs.Simd.Lanes.{mask_l, sel_l, top, zip2}
 use Rattle.data_encoding_kernel.specs.declared.ignore.IgnoredBytes.{IgnoredBytes}
@@ -17,27 +17,31 @@ use Rattle.std.proofs.lemmas.Bool.Decides.{nat_tests}
 use Rattle.std.proofs.lemmas.Nat.{and_le_r, pow_pos}
 use Rattle.std.proofs.lemmas.Nat.Bits.{and_pow}
 use Rattle.data_encoding_meaning.specs.declared.encoding.Character.TheVariants.{Invalid}
-use Rattle.data_encoding_kernel.specs.Values.{IsRow, in_row}
-use Rattle.data_encoding_kernel.proofs.digits.AffineLemmas.{entries-at_rows, at_row, chosen-equal, function-at, down, equal, no-bit, own-row, plus}
+use Rattle.data_encoding_kernel.specs.Values.{IsRow, in_row, low_entry}
+use Rattle.data_encoding_kernel.proofs.digits.AffineLemmas.{bit-computed, entries-at_rows, at_row, chosen-equal, function-at, down, equal, no-bit, own-row, plus}
+use Rattle.data_encoding_kernel.proofs.digits.LaneLemmas.{map-same}
 use Rattle.data_encoding_kernel.proofs.digits.WordLemmas.{map-range-same}
 
 pub mask-kept : (ignored : IgnoredBytes) (bytes bits : List ℕ) {found row_bits : List ℕ}
-    → bits ≡ bits_of_rows → length bytes ≡ 16
+    → bits ≡ bits_of_rows → length bytes ≡ 16 → AllByRecursion (λ byte. byte < 256) bytes
     → ((values : List ℕ) (start : ℕ) → IsRow values start ignored.rows
-    → found ≡ map (in_row values start) bytes)
+    → found ≡ map (low_entry values start) bytes)
     → ((values : List ℕ) (start : ℕ) → IsRow values start bits
-    → row_bits ≡ map (in_row values start) (zip2 down bytes (replicate 16 4)))
+    → row_bits ≡ map (low_entry values start) (zip2 down bytes (replicate 16 4)))
     → mask_l (map (top 7) (zip2 equal (zip2 bit_and found row_bits) (replicate 16 0)))
     % 18446744073709551616
     ≡ mask_l (map (λ byte. ignored_bit ignored byte == 0) bytes)
-mask-kept ignored bytes bits {found} {row_bits} is long first second =
-    let found_are : found ≡ map (in_row ignored.rows 0) bytes =
+mask-kept ignored bytes bits {found} {row_bits} is long below first second =
+    let found_are : found ≡ map (low_entry ignored.rows 0) bytes =
     first ignored.rows 0 (own-row ignored.rows) in
     let bits_are : row_bits ≡ map (at_row bits_of_rows) bytes =
-    entries-at_rows bits_of_rows 16 bytes row_bits long
+    entries-at_rows bits_of_rows 16 bytes row_bits long below
     (second bits_of_rows 0 (subst (IsRow bits_of_rows 0) (sym is) (own-row bits_of_rows))) in
     let hits : zip2 bit_and found row_bits ≡ map (ignored_bit ignored) bytes =
-    zip2_of_maps bit_and (in_row ignored.rows 0) (at_row bits_of_rows) bytes found_are bits_are in
+    zip2_of_maps bit_and (low_entry ignored.rows 0) (at_row bits_of_rows) bytes found_are bits_are
+    ∙ map-same (λ byte. byte < 256)
+    (λ byte. bit_and (low_entry ignored.rows 0 byte) (at_row bits_of_rows byte))
+    (ignored_bit ignored) (bit-computed ignored.rows) bytes below in
     bitmask_splat w8 eqb (zip2 bit_and found row_bits) 16 0
     (ap length hits ∙ length-map bytes (ignored_bit ignored) ∙ long) (omega arith)
     ∙ ap (λ l. mask_l (map (λ bit. eqb bit 0) l)) hits

@@ -161,24 +161,22 @@ fn store_three(order: BitOrder, words: u64x8, output: &mut [u8])
         ≡ flat_map (λ word. map (digit order 8 3 word) (range_with_len 0 3)) words }
 {
     let bytes = low_bits(32, words).cast::<u32>().to_le_bytes();
-    match order {
-        BitOrder::MostSignificantFirst => {
-            bytes
-                .swizzle::<16>([2, 1, 0, 6, 5, 4, 10, 9, 8, 14, 13, 12, 18, 17, 16, 22])
-                .copy_to_slice(&mut output[..16]);
-            bytes
-                .swizzle::<8>([21, 20, 26, 25, 24, 30, 29, 28])
-                .copy_to_slice(&mut output[16..]);
-        }
-        BitOrder::LeastSignificantFirst => {
-            bytes
-                .swizzle::<16>([0, 1, 2, 4, 5, 6, 8, 9, 10, 12, 13, 14, 16, 17, 18, 20])
-                .copy_to_slice(&mut output[..16]);
-            bytes
-                .swizzle::<8>([21, 22, 24, 25, 26, 28, 29, 30])
-                .copy_to_slice(&mut output[16..]);
-        }
-    }
+    // Twelve bytes of each half, and four that are written over.
+    let parts = match order {
+        BitOrder::MostSignificantFirst => bytes.swizzle::<32>([
+            2, 1, 0, 6, 5, 4, 10, 9, 8, 14, 13, 12, 0, 0, 0, 0, 18, 17, 16, 22, 21, 20, 26, 25, 24,
+            30, 29, 28, 16, 16, 16, 16,
+        ]),
+        BitOrder::LeastSignificantFirst => bytes.swizzle::<32>([
+            0, 1, 2, 4, 5, 6, 8, 9, 10, 12, 13, 14, 0, 0, 0, 0, 16, 17, 18, 20, 21, 22, 24, 25, 26,
+            28, 29, 30, 16, 16, 16, 16,
+        ]),
+    };
+    parts.extract::<0, 16>().copy_to_slice(output);
+    parts.extract::<16, 8>().copy_to_slice(&mut output[12..]);
+    // As a lane of 32 bits: the compiler would shuffle four bytes once more.
+    let last = u32x8::from_le_bytes(parts).extract::<6, 1>();
+    last.to_le_bytes().copy_to_slice(&mut output[20..]);
 }
 
 /// Writes the lowest five bytes of each of eight words.
@@ -189,30 +187,24 @@ fn store_five(order: BitOrder, words: u64x8, output: &mut [u8])
         ≡ flat_map (λ word. map (digit order 8 5 word) (range_with_len 0 5)) words }
 {
     let bytes = words.to_le_bytes();
-    match order {
-        BitOrder::MostSignificantFirst => {
-            bytes
-                .swizzle::<32>([
-                    4, 3, 2, 1, 0, 12, 11, 10, 9, 8, 20, 19, 18, 17, 16, 28, 27, 26, 25, 24, 36,
-                    35, 34, 33, 32, 44, 43, 42, 41, 40, 52, 51,
-                ])
-                .copy_to_slice(&mut output[..32]);
-            bytes
-                .swizzle::<8>([50, 49, 48, 60, 59, 58, 57, 56])
-                .copy_to_slice(&mut output[32..]);
-        }
-        BitOrder::LeastSignificantFirst => {
-            bytes
-                .swizzle::<32>([
-                    0, 1, 2, 3, 4, 8, 9, 10, 11, 12, 16, 17, 18, 19, 20, 24, 25, 26, 27, 28, 32,
-                    33, 34, 35, 36, 40, 41, 42, 43, 44, 48, 49,
-                ])
-                .copy_to_slice(&mut output[..32]);
-            bytes
-                .swizzle::<8>([50, 51, 52, 56, 57, 58, 59, 60])
-                .copy_to_slice(&mut output[32..]);
-        }
-    }
+    // Ten bytes of each quarter, and six that are written over.
+    let parts = match order {
+        BitOrder::MostSignificantFirst => bytes.swizzle::<64>([
+            4, 3, 2, 1, 0, 12, 11, 10, 9, 8, 0, 0, 0, 0, 0, 0, 20, 19, 18, 17, 16, 28, 27, 26, 25,
+            24, 16, 16, 16, 16, 16, 16, 36, 35, 34, 33, 32, 44, 43, 42, 41, 40, 32, 32, 32, 32, 32,
+            32, 52, 51, 50, 49, 48, 60, 59, 58, 57, 56, 48, 48, 48, 48, 48, 48,
+        ]),
+        BitOrder::LeastSignificantFirst => bytes.swizzle::<64>([
+            0, 1, 2, 3, 4, 8, 9, 10, 11, 12, 0, 0, 0, 0, 0, 0, 16, 17, 18, 19, 20, 24, 25, 26, 27,
+            28, 16, 16, 16, 16, 16, 16, 32, 33, 34, 35, 36, 40, 41, 42, 43, 44, 32, 32, 32, 32, 32,
+            32, 48, 49, 50, 51, 52, 56, 57, 58, 59, 60, 48, 48, 48, 48, 48, 48,
+        ]),
+    };
+    parts.extract::<0, 16>().copy_to_slice(output);
+    parts.extract::<16, 16>().copy_to_slice(&mut output[10..]);
+    parts.extract::<32, 16>().copy_to_slice(&mut output[20..]);
+    parts.extract::<48, 8>().copy_to_slice(&mut output[30..]);
+    parts.extract::<56, 2>().copy_to_slice(&mut output[38..]);
 }
 
 /// Writes the lowest `G::BYTES` bytes of each of eight words.

@@ -3,7 +3,7 @@
 ghost use Rattle.std.specs.Prelude.{◌≡◌, ℕ, ◌+◌, ◌*◌, ◌%◌, ◌/◌, ◌<◌, List, map, slice_index, IsTrue, IfSome};
 ghost use Rattle.std.specs.List.{range_with_len};
 ghost use Rattle.data_encoding_kernel.specs.Affine.{AgreesWith, HoldsAffine, affine_entry, agrees, bits_of_rows, form_of};
-ghost use Rattle.data_encoding_kernel.specs.Values.{AreExact, IsExact, in_row};
+ghost use Rattle.data_encoding_kernel.specs.Values.{AreExact, IsExact, in_row, low_entry};
 
 use crate::simd::compare::are_below;
 use crate::simd::decode::table_rows::{in_row_16, in_row_32, in_row_64};
@@ -213,10 +213,10 @@ fn found<const N: usize>(
     deltas: Simd<u8, N>,
     shared: Simd<u8, N>,
 ) -> Simd<u8, N>
-    requires symbols { symbols ≡ map (in_row affine.now.symbols 0) bytes }
+    requires symbols { symbols ≡ map (low_entry affine.now.symbols 0) bytes }
     requires bits { bits ≡ map (λ byte. in_row bits_of_rows 0 (byte / 16)) bytes }
     requires deltas { deltas ≡ map (λ byte. in_row affine.now.deltas 0 (byte / 16)) bytes }
-    requires shared { shared ≡ map (in_row affine.now.shared 0) bytes }
+    requires shared { shared ≡ map (low_entry affine.now.shared 0) bytes }
     ensures { result ≡ map (affine_entry affine.now) bytes.entry }
 {
     let moved = bytes + deltas;

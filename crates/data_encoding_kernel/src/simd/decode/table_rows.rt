@@ -1,7 +1,7 @@
 //! The entries of bytes, from a look-up table in rows of sixteen entries.
 
 ghost use Rattle.std.specs.Prelude.{◌≡◌, ℕ, ◌+◌, ◌%◌, ◌<◌, List, map, slice_index};
-ghost use Rattle.data_encoding_kernel.specs.Values.{AreExact, HoldsRows, IsAsciiTable, IsRow, chosen_by};
+ghost use Rattle.data_encoding_kernel.specs.Values.{AreExact, HoldsRows, IsAsciiTable, IsRow, chosen_by, low_entry};
 
 use std::simd::prelude::*;
 
@@ -36,40 +36,41 @@ pub fn rows_of(values: &[u8; 256]) -> Rows
     }
 }
 
-/// Returns the entry of `row` at the lowest four bits of each byte.
+/// Returns the entry of `row` at the lowest four bits of each byte, or 0 if its highest bit is set.
+// `pshufb` reads only these bits of an index, so the compiler drops the mask where it can.
 #[inline(always)]
 pub fn in_row_16(row: u8x16, bytes: u8x16) -> u8x16
     ensures { (values : List ℕ) → (start : ℕ) → IsRow values start row
-        → result ≡ map (λ byte. slice_index values (start + byte % 16)) bytes }
+        → result ≡ map (low_entry values start) bytes }
 {
-    row.swizzle_dyn_within::<16>(bytes & u8x16::splat(15))
+    row.swizzle_dyn_within::<16>(bytes & u8x16::splat(0x8f))
 }
 
 /// Like [`in_row_16`], for 32 bytes.
 #[inline(always)]
 pub fn in_row_32(row: u8x16, bytes: u8x32) -> u8x32
     ensures { (values : List ℕ) → (start : ℕ) → IsRow values start row
-        → result ≡ map (λ byte. slice_index values (start + byte % 16)) bytes }
+        → result ≡ map (low_entry values start) bytes }
 {
     let repeated = row.swizzle::<32>([
         0, 1, 2, 3, 4, 5, 6, 7, 8, 9, 10, 11, 12, 13, 14, 15, 0, 1, 2, 3, 4, 5, 6, 7, 8, 9, 10, 11,
         12, 13, 14, 15,
     ]);
-    repeated.swizzle_dyn_within::<16>(bytes & u8x32::splat(15))
+    repeated.swizzle_dyn_within::<16>(bytes & u8x32::splat(0x8f))
 }
 
 /// Like [`in_row_16`], for 64 bytes.
 #[inline(always)]
 pub fn in_row_64(row: u8x16, bytes: u8x64) -> u8x64
     ensures { (values : List ℕ) → (start : ℕ) → IsRow values start row
-        → result ≡ map (λ byte. slice_index values (start + byte % 16)) bytes }
+        → result ≡ map (low_entry values start) bytes }
 {
     let repeated = row.swizzle::<64>([
         0, 1, 2, 3, 4, 5, 6, 7, 8, 9, 10, 11, 12, 13, 14, 15, 0, 1, 2, 3, 4, 5, 6, 7, 8, 9, 10, 11,
         12, 13, 14, 15, 0, 1, 2, 3, 4, 5, 6, 7, 8, 9, 10, 11, 12, 13, 14, 15, 0, 1, 2, 3, 4, 5, 6,
         7, 8, 9, 10, 11, 12, 13, 14, 15,
     ]);
-    repeated.swizzle_dyn_within::<16>(bytes & u8x64::splat(15))
+    repeated.swizzle_dyn_within::<16>(bytes & u8x64::splat(0x8f))
 }
 
 /// Returns the lanes of `ones` where a shift by `up` sets the highest bit of the byte, and the

@@ -3,7 +3,7 @@
 //! Each lane of sixteen bits has the two digits of a pair. Two multiplications move them to a byte
 //! each.
 
-ghost use Rattle.std.specs.Prelude.{◌≡◌, ◌≤◌, length, flat_map};
+ghost use Rattle.std.specs.Prelude.{◌≡◌, ◌≤◌, ◌++◌, length, flat_map};
 ghost use Rattle.data_encoding_meaning.specs.declared.encoding.BitOrder.TheVariants.{MostSignificantFirst};
 ghost use Rattle.data_encoding_kernel.specs.Lanes.{group_words, digits_of};
 ghost use Rattle.data_encoding_kernel.specs.DigitPairs.{split_lanes};
@@ -13,10 +13,15 @@ use std::simd::prelude::*;
 /// The index of the byte for each byte of a lane of 16 bits, the lower first.
 ///
 /// The two digits of a pair are in two consecutive bytes.
-const SIX_BIT_PAIRS: [u8; 16] = [1, 0, 2, 1, 4, 3, 5, 4, 7, 6, 8, 7, 10, 9, 11, 10];
+const SIX_BIT_PAIRS: [u8; 32] = [
+    1, 0, 2, 1, 4, 3, 5, 4, 7, 6, 8, 7, 10, 9, 11, 10, 1, 0, 2, 1, 4, 3, 5, 4, 7, 6, 8, 7, 10, 9,
+    11, 10,
+];
 
 /// Like `SIX_BIT_PAIRS`, for digits of five bits.
-const FIVE_BIT_PAIRS: [u8; 16] = [1, 0, 2, 1, 3, 2, 4, 3, 6, 5, 7, 6, 8, 7, 9, 8];
+const FIVE_BIT_PAIRS: [u8; 32] = [
+    1, 0, 2, 1, 3, 2, 4, 3, 6, 5, 7, 6, 8, 7, 9, 8, 1, 0, 2, 1, 3, 2, 4, 3, 6, 5, 7, 6, 8, 7, 9, 8,
+];
 
 /// The indexes from 0 to 31.
 const FIRST_32: [usize; 32] = [
@@ -34,16 +39,16 @@ const FIRST_64: [usize; 64] = [
 /// The masks and factors that move the two digits of each lane to a byte each.
 struct Split {
     /// The bits of the first digit.
-    masks: [u16; 8],
+    masks: [u16; 16],
 
     /// The factors that move the first digit up, to bit 16 and the next ones.
-    downs: [u16; 8],
+    downs: [u16; 16],
 
     /// The factors that move the second digit to the higher byte.
-    ups: [u16; 8],
+    ups: [u16; 16],
 
     /// The bits of the second digit in the higher byte.
-    kept: [u16; 8],
+    kept: [u16; 16],
 }
 
 /// The split of digits of six bits.
@@ -51,77 +56,78 @@ struct Split {
 // several shifts and choices.
 const SIX_BIT_SPLIT: Split = Split {
     masks: [
-        0xfc00, 0x0fc0, 0xfc00, 0x0fc0, 0xfc00, 0x0fc0, 0xfc00, 0x0fc0,
+        0xfc00, 0x0fc0, 0xfc00, 0x0fc0, 0xfc00, 0x0fc0, 0xfc00, 0x0fc0, 0xfc00, 0x0fc0, 0xfc00,
+        0x0fc0, 0xfc00, 0x0fc0, 0xfc00, 0x0fc0,
     ],
     downs: [
-        0x0041, 0x0401, 0x0041, 0x0401, 0x0041, 0x0401, 0x0041, 0x0401,
+        0x0041, 0x0401, 0x0041, 0x0401, 0x0041, 0x0401, 0x0041, 0x0401, 0x0041, 0x0401, 0x0041,
+        0x0401, 0x0041, 0x0401, 0x0041, 0x0401,
     ],
     ups: [
-        0x8010, 0x8100, 0x8010, 0x8100, 0x8010, 0x8100, 0x8010, 0x8100,
+        0x8010, 0x8100, 0x8010, 0x8100, 0x8010, 0x8100, 0x8010, 0x8100, 0x8010, 0x8100, 0x8010,
+        0x8100, 0x8010, 0x8100, 0x8010, 0x8100,
     ],
-    kept: [0x3f00; 8],
+    kept: [0x3f00; 16],
 };
 
 /// The split of digits of five bits.
 const FIVE_BIT_SPLIT: Split = Split {
     masks: [
-        0xf800, 0x3e00, 0x0f80, 0x03e0, 0xf800, 0x3e00, 0x0f80, 0x03e0,
+        0xf800, 0x3e00, 0x0f80, 0x03e0, 0xf800, 0x3e00, 0x0f80, 0x03e0, 0xf800, 0x3e00, 0x0f80,
+        0x03e0, 0xf800, 0x3e00, 0x0f80, 0x03e0,
     ],
     downs: [
-        0x0021, 0x0081, 0x0201, 0x0801, 0x0021, 0x0081, 0x0201, 0x0801,
+        0x0021, 0x0081, 0x0201, 0x0801, 0x0021, 0x0081, 0x0201, 0x0801, 0x0021, 0x0081, 0x0201,
+        0x0801, 0x0021, 0x0081, 0x0201, 0x0801,
     ],
     ups: [
-        0x8004, 0x8010, 0x8040, 0x8100, 0x8004, 0x8010, 0x8040, 0x8100,
+        0x8004, 0x8010, 0x8040, 0x8100, 0x8004, 0x8010, 0x8040, 0x8100, 0x8004, 0x8010, 0x8040,
+        0x8100, 0x8004, 0x8010, 0x8040, 0x8100,
     ],
-    kept: [0x1f00; 8],
+    kept: [0x1f00; 16],
 };
 
 /// Returns the two digits of each lane, in a byte each.
 #[inline(always)]
-fn split_pairs(by: &Split, lanes: u16x8) -> u16x8
+fn split_pairs(by: &Split, lanes: u16x16) -> u16x16
     ensures { result ≡ split_lanes by.now.masks by.now.downs by.now.ups by.now.kept lanes }
 {
-    let first = lanes & u16x8::from_array(by.masks);
-    let lifted = first.cast::<u32>() * u16x8::from_array(by.downs).cast::<u32>();
-    let second = lanes * u16x8::from_array(by.ups);
-    (lifted >> u32x8::splat(16)).cast::<u16>() | (second & u16x8::from_array(by.kept))
+    let first = lanes & u16x16::from_array(by.masks);
+    let lifted = first.cast::<u32>() * u16x16::from_array(by.downs).cast::<u32>();
+    let second = lanes * u16x16::from_array(by.ups);
+    (lifted >> u32x16::splat(16)).cast::<u16>() | (second & u16x16::from_array(by.kept))
 }
 
-/// Returns the six-bit digits of the first four groups, one after another. Loads four bytes after
-/// them, too.
+/// Returns the six-bit digits of the first four groups of each input, one after another. Loads four
+/// bytes after them, too.
+// The loads are joined before the products: otherwise the compiler takes products of wide vectors
+// apart.
 #[inline(always)]
-pub fn six_bit_digits_of_four(input: &[u8]) -> u8x16
-    requires { 16 ≤ length input.now }
+pub fn six_bit_digits_of_fours(first: &[u8], second: &[u8]) -> u8x32
+    requires first { 16 ≤ length first.now }
+    requires second { 16 ≤ length second.now }
     ensures { result ≡ flat_map (digits_of MostSignificantFirst 6 4)
-        (group_words MostSignificantFirst 3 4 input.now) }
+        (group_words MostSignificantFirst 3 4 first.now
+        ++ group_words MostSignificantFirst 3 4 second.now) }
 {
-    let bytes = u8x16::from_slice(input).swizzle_dyn(u8x16::from_array(SIX_BIT_PAIRS));
-    split_pairs(&SIX_BIT_SPLIT, u16x8::from_le_bytes(bytes)).to_le_bytes()
+    let bytes = u8x16::from_slice(first).shuffle::<32>(u8x16::from_slice(second), FIRST_32);
+    let pairs = bytes.swizzle_dyn_within::<16>(u8x32::from_array(SIX_BIT_PAIRS));
+    split_pairs(&SIX_BIT_SPLIT, u16x16::from_le_bytes(pairs)).to_le_bytes()
 }
 
-/// Returns the five-bit digits of the first two groups, one after another. Loads six bytes after
-/// them, too.
+/// Returns the five-bit digits of the first two groups of each input, one after another. Loads six
+/// bytes after them, too.
 #[inline(always)]
-pub fn five_bit_digits_of_two(input: &[u8]) -> u8x16
-    requires { 16 ≤ length input.now }
+pub fn five_bit_digits_of_twos(first: &[u8], second: &[u8]) -> u8x32
+    requires first { 16 ≤ length first.now }
+    requires second { 16 ≤ length second.now }
     ensures { result ≡ flat_map (digits_of MostSignificantFirst 5 8)
-        (group_words MostSignificantFirst 5 2 input.now) }
+        (group_words MostSignificantFirst 5 2 first.now
+        ++ group_words MostSignificantFirst 5 2 second.now) }
 {
-    let bytes = u8x16::from_slice(input).swizzle_dyn(u8x16::from_array(FIVE_BIT_PAIRS));
-    split_pairs(&FIVE_BIT_SPLIT, u16x8::from_le_bytes(bytes)).to_le_bytes()
-}
-
-/// Returns the six-bit digits of the first eight groups, one after another. Loads four bytes after
-/// them, too.
-#[inline(always)]
-pub fn six_bit_digits_of_eight(input: &[u8]) -> u8x32
-    requires { 28 ≤ length input.now }
-    ensures { result ≡ flat_map (digits_of MostSignificantFirst 6 4)
-        (group_words MostSignificantFirst 3 8 input.now) }
-{
-    let low = six_bit_digits_of_four(input);
-    let high = six_bit_digits_of_four(&input[12..]);
-    low.shuffle::<32>(high, FIRST_32)
+    let bytes = u8x16::from_slice(first).shuffle::<32>(u8x16::from_slice(second), FIRST_32);
+    let pairs = bytes.swizzle_dyn_within::<16>(u8x32::from_array(FIVE_BIT_PAIRS));
+    split_pairs(&FIVE_BIT_SPLIT, u16x16::from_le_bytes(pairs)).to_le_bytes()
 }
 
 /// Returns the five-bit digits of the first eight groups, one after another. Loads six bytes after
@@ -132,11 +138,7 @@ pub fn five_bit_digits_of_eight(input: &[u8]) -> u8x64
     ensures { result ≡ flat_map (digits_of MostSignificantFirst 5 8)
         (group_words MostSignificantFirst 5 8 input.now) }
 {
-    let first = five_bit_digits_of_two(input);
-    let second = five_bit_digits_of_two(&input[10..]);
-    let third = five_bit_digits_of_two(&input[20..]);
-    let fourth = five_bit_digits_of_two(&input[30..]);
-    let low = first.shuffle::<32>(second, FIRST_32);
-    let high = third.shuffle::<32>(fourth, FIRST_32);
+    let low = five_bit_digits_of_twos(input, &input[10..]);
+    let high = five_bit_digits_of_twos(&input[20..], &input[30..]);
     low.shuffle::<64>(high, FIRST_64)
 }

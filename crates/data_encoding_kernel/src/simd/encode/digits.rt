@@ -6,8 +6,7 @@ ghost use Rattle.data_encoding_kernel.specs.Lanes.{group_words, digits_of, sprea
 
 use crate::group_size::GroupSize;
 use crate::simd::encode::digit_pairs::{
-    five_bit_digits_of_eight, five_bit_digits_of_two, six_bit_digits_of_eight,
-    six_bit_digits_of_four,
+    five_bit_digits_of_eight, five_bit_digits_of_twos, six_bit_digits_of_fours,
 };
 use crate::simd::encode::groups::{eight_fives, eight_ones, eight_threes, four_threes, two_fives};
 use data_encoding_meaning::encoding::BitOrder;
@@ -246,7 +245,7 @@ fn six_bit_digits(order: BitOrder, input: &[u8]) -> u8x64
 {
     match order {
         BitOrder::MostSignificantFirst => {
-            six_bit_digits_of_eight(input).swizzle::<64>(FOURS_FROM_FIRST)
+            six_bit_digits_of_fours(input, &input[12..]).swizzle::<64>(FOURS_FROM_FIRST)
         }
         BitOrder::LeastSignificantFirst => {
             join_fours(order, spread_six_bits(eight_threes(order, input)))
@@ -296,7 +295,7 @@ pub fn digits_of_four(order: BitOrder, input: &[u8]) -> u8x64
 {
     match order {
         BitOrder::MostSignificantFirst => {
-            six_bit_digits_of_four(input).swizzle::<64>(TWOS_FROM_FIRST)
+            six_bit_digits_of_fours(input, input).swizzle::<64>(FOURS_FROM_FIRST)
         }
         BitOrder::LeastSignificantFirst => {
             let words = four_threes(order, input).swizzle::<8>([0, 1, 2, 3, 0, 1, 2, 3]);
@@ -329,7 +328,7 @@ pub fn digits_of_two(order: BitOrder, input: &[u8]) -> u8x64
 {
     match order {
         BitOrder::MostSignificantFirst => {
-            five_bit_digits_of_two(input).swizzle::<64>(TWOS_FROM_FIRST)
+            five_bit_digits_of_twos(input, input).swizzle::<64>(FOURS_FROM_FIRST)
         }
         BitOrder::LeastSignificantFirst => {
             let words = two_fives(order, input).swizzle::<8>([0, 1, 0, 1, 0, 1, 0, 1]);

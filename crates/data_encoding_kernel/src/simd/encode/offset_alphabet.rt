@@ -150,6 +150,7 @@ fn numbers_at(numbers: u8x16, places: u8x64) -> u8x64
 fn firsts(alphabet: &OffsetAlphabet, values: u8x64) -> u8x64
     ensures { result ≡ map (first_of alphabet.now) values }
 {
-    let are_first = values.simd_lt(u8x64::splat(alphabet.bound));
-    are_first.select(u8x64::splat(alphabet.first), u8x64::splat(0))
+    // The bound is on the left: then SSE compares by `pminub`, without a copy of the values.
+    let are_others = u8x64::splat(alphabet.bound).simd_le(values);
+    are_others.select(u8x64::splat(0), u8x64::splat(alphabet.first))
 }

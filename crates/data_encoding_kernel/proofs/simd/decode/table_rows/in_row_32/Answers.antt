@@ -1,14 +1,15 @@
 use Rattle.std.proofs.Common.{bit_and, replicate, w8, ap, ◌∙◌}
 use Rattle.std.proofs.lemmas.Simd.{swz_l}
 use Rattle.std.specs.Simd.Lanes.{zip2}
-use Rattle.data_encoding_kernel.proofs.digits.GatherRowLemmas.{row-looked_up, places-ok, repeated-row}
+use Rattle.data_encoding_kernel.proofs.digits.GatherRowLemmas.{low_places-ok, row-looked_up, repeated-row}
 use Rattle.data_encoding_kernel.proofs.simd.decode.table_rows.in_row_32.Goals as goal
 
 pub swizzle : goal.swizzle
-swizzle c = places-ok 2 c.args.bytes c.fits-bytes.0
+swizzle c = low_places-ok 2 c.args.bytes c.fits-bytes.0 c.fits-bytes.1
 
 pub returns : goal.returns
 returns c = λ values start is_row.
-    ap (λ l. swz_l w8 16 l 0 (zip2 bit_and c.args.bytes (replicate 32 15)))
+    ap (λ l. swz_l w8 16 l 0 (zip2 bit_and c.args.bytes (replicate 32 143)))
     (repeated-row 2 c.args.row c.fits-row.0)
-    ∙ row-looked_up 2 values c.args.row c.args.bytes start c.fits-row.0 c.fits-bytes.0 is_row
+    ∙ row-looked_up 2 c.args.bytes c.fits-bytes.0 c.fits-bytes.1 values c.args.row start
+    c.fits-row.0 is_row

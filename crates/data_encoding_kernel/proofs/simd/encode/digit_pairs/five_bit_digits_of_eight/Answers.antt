@@ -12,11 +12,8 @@ returns c =
     let input = c.args.input.now in
     let word = group_word MostSignificantFirst 5 input in
     let later = word-later MostSignificantFirst 5 in
-    let places = range_with_len 0 32 in
-    (λ i. pick_l 0 (pick_l 0 (c.five_bit_digits_of_two-first.ensures i
-    ++ c.five_bit_digits_of_two-second.ensures i) places
-    ++ pick_l 0 (c.five_bit_digits_of_two-third.ensures i
-    ++ c.five_bit_digits_of_two-fourth.ensures i) places) (range_with_len 0 64))
+    (λ i. pick_l 0 (c.five_bit_digits_of_twos-low.ensures i
+    ++ c.five_bit_digits_of_twos-high.ensures i) (range_with_len 0 64))
     ∙ (λ i. flat_map (digits_of MostSignificantFirst 5 8) (word 0 ∷ word 1
     ∷ later 10 input 0 2 refl i ∷ later 10 input 1 3 refl i ∷ later 20 input 0 4 refl i
     ∷ later 20 input 1 5 refl i ∷ later 30 input 0 6 refl i ∷ later 30 input 1 7 refl i ∷ []))

@@ -3,7 +3,7 @@ use Rattle.data_encoding_kernel.proofs.digits.PairLemmas.{halves-fit, split-are}
 use Rattle.data_encoding_kernel.proofs.simd.encode.digit_pairs.split_pairs.Goals as goal
 
 pub overflow_cast-result : goal.overflow_cast-result
-overflow_cast-result c = halves-fit 8 _ _
+overflow_cast-result c = halves-fit 16 _ _
 
 pub returns : goal.returns
 returns c =

@@ -40,7 +40,7 @@ returns c =
     (elim c.match-order.branch [
       | in-MostSignificantFirst w ↦
           w.result-is
-          ∙ ap (λ l. pick_l 0 (l ++ l) (from_first 2)) w.six_bit_digits_of_four.ensures
+          ∙ ap (λ l. pick_l 0 (l ++ l) (from_first 4)) w.six_bit_digits_of_fours.ensures
           ∙ ap (λ order. flat_map (digits_of order 6 4)
           (eight (group_words order 3 4 input) ++ eight (group_words order 3 4 input)))
           (sym w.in-MostSignificantFirst.is)

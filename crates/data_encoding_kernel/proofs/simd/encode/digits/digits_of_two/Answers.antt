@@ -39,7 +39,7 @@ returns c =
     (elim c.match-order.branch [
       | in-MostSignificantFirst w ↦
           w.result-is
-          ∙ ap (λ l. pick_l 0 (l ++ l) (from_first 2)) w.five_bit_digits_of_two.ensures
+          ∙ ap (λ l. pick_l 0 (l ++ l) (from_first 4)) w.five_bit_digits_of_twos.ensures
           ∙ ap (λ order. flat_map (digits_of order 5 8) (eight (group_words order 5 2 input)))
           (sym w.in-MostSignificantFirst.is)
       | in-LeastSignificantFirst w ↦
