@@ -73,12 +73,11 @@ impl EncodingRef<'_> {
         }
         let rest = len - missing;
         let block = self.encode_len(block_len);
-        let whole = rest - rest % block_len;
-        let total = block + self.encode_len(whole);
+        let count = rest / block_len;
         DueLen {
             block,
-            total,
-            whole,
+            total: block + count * block,
+            whole: count * block_len,
         }
     }
 
