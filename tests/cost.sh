@@ -8,8 +8,9 @@
 # is the number of instructions for each byte.
 #
 # Each bound is the ratio of the worst text, and at most a tenth more. The worst are, of `gaps`, lines
-# that get shorter by one group each, of `ignored`, its only text, and of `padded`, padded texts of
-# one byte. Change a bound if that text takes less, or more for a reason.
+# that get shorter by one group each, of `ignored`, its only text, of `padded`, padded texts of one
+# byte, and of `pieces`, base32 without padding. Change a bound if that text takes less, or more for a
+# reason.
 #
 # usage: tests/cost.sh [--numbers] [LIB]: where build.sh left the library. Without a folder it is
 # built. With --numbers it also prints the ratio of each text.
@@ -35,6 +36,7 @@ plain 2.65 1.35
 gaps 2.95 4.60
 ignored 1.80 3.40
 padded 13.6 27.7
+pieces 2.80 4.70
 '
 
 # count NAME: decodes each text with 16 KiB, and then with 64 KiB, where DE_CPU is NAME. Writes a

@@ -45,12 +45,6 @@ static size_t width;
 static size_t group_symbols;
 static size_t group_bytes;
 
-/* True if it ignores bytes, has no padding and checks trailing bits. Where a piece of a text with
- * ignored bytes ends in a group, what runs depends on whether the last bits before the end are zeros:
- * they are checked as if the text ended there. An output that is shorter than de_decode_len writes is
- * decoded in pieces too. So such calls are not compared. */
-static bool checks_cut_groups;
-
 /* The bytes that it ignores, and for each byte one that is translated to it, or the byte itself. */
 static char ignored[8];
 static size_t ignored_len;
@@ -172,22 +166,10 @@ static bool is_ignored(char byte) {
     return memchr(ignored, byte, ignored_len) != NULL;
 }
 
-static bool has_ignored(void) {
-    for (size_t at = 0; at < given_len; at++) {
-        if (is_ignored(given[at])) {
-            return true;
-        }
-    }
-    return false;
-}
-
 /* Decodes the text of len bytes to outputs with more room than it needs, with just enough and, if
  * there can be, with too little. */
 static void decode_valid(size_t len) {
     decode(sizeof data, DE_OK, "decode");
-    if (checks_cut_groups && has_ignored()) {
-        return;
-    }
     decode(len, DE_OK, "decode to just enough room");
     if (len > 0) {
         decode(len - 1, DE_SHORT_BUFFER, "decode to a byte too little");
@@ -201,9 +183,6 @@ static void decode_valid(size_t len) {
 /* Decodes a faulty text, made of the text of len bytes. */
 static void decode_faulty(size_t len, de_status wanted) {
     decode(sizeof data, wanted, "decode");
-    if (checks_cut_groups && has_ignored()) {
-        return;
-    }
     decode(len, wanted, "decode to the room of the data");
     decode(len / 2, wanted, "decode to half the room");
     if (len <= PIECES_LEN) {
@@ -365,14 +344,12 @@ static void describe(void) {
         twin[(unsigned char)parts.translate_to[index]] = parts.translate_from[index];
     }
     ignored_len = 0;
-    checks_cut_groups = false;
     for (const char *byte = candidates; *byte != 0; byte++) {
         de_decoded decoded;
         if ((by < NUMBERS ? de_decode(by, byte, 1, data, sizeof data, &decoded)
                           : de_encoding_decode(its_own(), byte, 1, data, sizeof data,
                                                &decoded)) == DE_OK) {
             ignored[ignored_len++] = *byte;
-            checks_cut_groups = parts.padding < 0 && parts.check_trailing_bits;
         }
     }
 }

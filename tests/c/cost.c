@@ -1,6 +1,7 @@
 /* Decodes texts with ignored bytes, for tests/cost.sh, which counts the instructions of each call
  * of `counted`. Prints a line for each of these calls, in their order: the name of its bound,
  * its length and its name. A second line has the bound `same`, for a plain text of that length.
+ * Texts of the bound `pieces` are decoded in pieces of PIECE_LEN bytes, which end anywhere in a group.
  *
  * usage: cost LEN..: the lengths that the texts have at least. */
 #include "data_encoding.h"
@@ -10,6 +11,8 @@
 
 /* The greatest LEN, and the room for the last part of a text. */
 enum { LEN_LIMIT = 65536, PART_LIMIT = 2048 };
+
+enum { PIECE_LEN = 4097 };
 
 static char text[LEN_LIMIT + PART_LIMIT];
 static size_t len;
@@ -35,6 +38,17 @@ static struct kind base64 = {
 };
 static struct kind base32 = {
     DE_BASE32, "ABCDEFGHIJKLMNOPQRSTUVWXYZ234567", "\n", 8, {{0}, {0}},
+};
+
+static struct kind base64_nopad = {
+    DE_BASE64_NOPAD,
+    "ABCDEFGHIJKLMNOPQRSTUVWXYZabcdefghijklmnopqrstuvwxyz0123456789+/",
+    "\n",
+    4,
+    {{0}, {0}},
+};
+static struct kind base32_nopad = {
+    DE_BASE32_NOPAD, "ABCDEFGHIJKLMNOPQRSTUVWXYZ234567", "\n", 8, {{0}, {0}},
 };
 
 /* A text is made of parts: `part` appends the one that `turn` others come before. */
@@ -92,6 +106,18 @@ static void lines_of_12(size_t turn) {
 static void lines_of_16(size_t turn) {
     (void)turn;
     line(16, "\n");
+}
+
+static void lines_of_64(size_t turn) {
+    (void)turn;
+    line(64, "\n");
+}
+
+/* The data is zeros, and so are the trailing bits where a piece ends. */
+static void zeros_in_lines_of_64(size_t turn) {
+    (void)turn;
+    repeat("A", 64);
+    repeat("\n", 1);
 }
 
 static void lines_of_36(size_t turn) {
@@ -197,6 +223,10 @@ static const struct row rows[] = {
     {"padded", "lines of 32, each fourth with padding", &base64, padded_lines, DE_OK},
     {"padded", "padded texts of one byte", &base64, padded_bytes, DE_OK},
     {"padded", "padded texts of 20 bytes", &base64, padded_texts_of_20, DE_OK},
+    {"pieces", "lines of 64, in pieces", &base64, lines_of_64, DE_OK},
+    {"pieces", "lines of 64 without padding, in pieces", &base64_nopad, lines_of_64, DE_OK},
+    {"pieces", "zeros without padding, in pieces", &base64_nopad, zeros_in_lines_of_64, DE_OK},
+    {"pieces", "base32 zeros without padding, in pieces", &base32_nopad, zeros_in_lines_of_64, DE_OK},
     {"plain", "plain", &base64, plain, DE_OK},
 };
 
@@ -232,19 +262,44 @@ static void make(const struct row *row, size_t wanted) {
     }
 }
 
+static de_status decode_pieces(const de_encoding *encoding, de_decoded *decoded) {
+    de_decoder decoder;
+    size_t read;
+    size_t total = 0;
+    de_status status;
+    de_decoder_new(&decoder);
+    for (read = 0; read < len; read += PIECE_LEN) {
+        size_t piece_len = len - read < PIECE_LEN ? len - read : PIECE_LEN;
+        size_t written;
+        status = de_encoding_decoder_read(encoding, &decoder, text + read, piece_len, data + total,
+                                          sizeof data - total, &written);
+        if (status != DE_OK) {
+            return status;
+        }
+        total += written;
+    }
+    status = de_encoding_decoder_finish(encoding, &decoder, data + total, sizeof data - total,
+                                        decoded);
+    decoded->written += total;
+    return status;
+}
+
 /* The function whose instructions are counted. */
-de_status counted(const de_encoding *encoding, de_decoded *decoded) {
+de_status counted(const struct row *row, de_decoded *decoded) {
+    const de_encoding *encoding = &row->kind->encoding;
+    if (strcmp(row->bound, "pieces") == 0) {
+        return decode_pieces(encoding, decoded);
+    }
     return de_encoding_decode(encoding, text, len, data, sizeof data, decoded);
 }
 
 static void decode(const struct row *row) {
-    const de_encoding *encoding = &row->kind->encoding;
     de_decoded decoded;
     de_decoded again;
     /* The first call of a program also finds the functions that it calls. */
     is(row->name, row->status,
-       de_encoding_decode(encoding, text, len, data, sizeof data, &decoded));
-    is(row->name, row->status, counted(encoding, &again));
+       de_encoding_decode(&row->kind->encoding, text, len, data, sizeof data, &decoded));
+    is(row->name, row->status, counted(row, &again));
     is(row->name, decoded.written, again.written);
     holds(row->name, row->status != DE_OK || again.read == len);
     printf("%s\t%lu\t%s\n", row->bound, (unsigned long)len, row->name);
@@ -262,6 +317,8 @@ int main(int count, char **words) {
     int each;
     make_encoding(&base64);
     make_encoding(&base32);
+    make_encoding(&base64_nopad);
+    make_encoding(&base32_nopad);
     for (each = 1; each < count; each++) {
         size_t wanted = strtoul(words[each], NULL, 10);
         size_t index;

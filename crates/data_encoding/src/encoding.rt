@@ -4,6 +4,7 @@ mod calls;
 mod equality;
 pub(crate) mod lent_encoding;
 pub(crate) mod plain_encoding;
+mod whole_groups;
 
 ghost use Rattle.std.specs.Prelude.{◌≡◌, ◌<◌, ◌≤◌, ◌-◌, ◌==◌, ◌||◌, length};
 ghost use Rattle.data_encoding.specs.Calls.{IsBitWidth, IsGroupBytes, IsGroupLen};

@@ -13,7 +13,12 @@ pub fn copy_short(input: &[u8], output: &mut [u8])
     ensures { output.new ≡ input.now }
 {
     let len = input.len();
-    if !has_simd() || len < 2 || 128 < len {
+    if len == 0 {
+        return;
+    }
+    if len == 1 {
+        output[0] = input[0];
+    } else if !has_simd() || 128 < len {
         output.copy_from_slice(input);
     } else if len <= 4 {
         copy_ends::<2>(input, output);

@@ -1,6 +1,6 @@
 -- Lemmas on whole groups that are decoded in place.
 use Rattle.std.proofs.Common.{◌≡◌, ℕ, ◌+◌, ◌*◌, ◌/◌, ◌%◌, ◌<◌, ◌≤◌, Bool, true, false, if◌then◌else◌, List, [], Option, None, Some, Ok, is_some, length, refl, sym, subst, ap, arith, IsOkAnd}
-use Rattle.std.proofs.Math.Nat.{div-mul-le_self, le-div_iff_mul-le, le_of_mul-le-mul_left, mul-le-mul_left, mul-le-mul_right}
+use Rattle.std.proofs.Math.Nat.{div-mul-le_self, le-div_iff_mul-le, le_of_mul-le-mul_left, mul-le-mul_left, mul-le-mul_right, mul-mod_left}
 use Rattle.data_encoding.specs.declared.error.DecodeError.{DecodeError}
 use Rattle.data_encoding.specs.declared.error.DecodePartial.{DecodePartial}
 use Rattle.data_encoding.specs.Base.{Base, IsWidth, group_bytes, group_symbols, is_padded}
@@ -30,11 +30,11 @@ nothing-held count positions bytes none = ap (λ n. at_positions n positions byt
 
 -- where nothing is held and no group has a fault, there is room for what is due
 pub due-fits : (pieces : BufferDecoder) (len : ℕ) {due room : ℕ} → pieces.kept.count ≡ 0
-    → is_some pieces.kept.fault ≡ false → due ≡ bytes_due (base_of_pieces pieces) len
+    → is_some pieces.kept.fault ≡ false → due ≤ bytes_due (base_of_pieces pieces) len
     → most_completed (base_of_pieces pieces) pieces.kept len ≤ room → due ≤ room
 due-fits pieces len none sound is within =
     let all : pieces.kept.count + len ≡ len = omega (arith, none) in
-    rw is (rw (sound, all) at within)
+    omega (arith, is, rw (sound, all) at within)
 
 -- the positions and bytes that are not held may be any
 pub reads-run : (base : Base) → IsWidth base.width → (old : Kept) → IsFresh old
@@ -89,22 +89,24 @@ fills-by_padding base padded read written most =
       bytes = all;
     }
 
--- whole groups by their length
-pub fills-by_length : (base : Base) → IsSpecified base → CountsGroups → (read written : ℕ)
-    → read % group_symbols base.width ≡ 0 → 0 < group_symbols base.width
-    → written ≤ most_bytes base read → FillsGroups base 0 read 0 written
-fills-by_length base is law read written divides some most =
-    let count = read / group_symbols base.width in
-    let all : count * group_symbols base.width ≡ read = omega (arith, divides, some) in
-    let due : count * group_bytes base.width ≡ most_bytes base read =
-    due-most base read (count * group_bytes base.width)
-    (subst (λ n. decoded_len base n ≡ Ok (count * group_bytes base.width)) all (law base is count))
-    in
-    record {
-      groups = count;
-      symbols = omega (arith, all);
-      bytes = omega (arith, due, most);
-    }
+either : {A : Type 0} (padding : Option ℕ) → (is_some padding ≡ true → A)
+    → (padding ≡ None → A) → A
+either None padded unpadded = unpadded refl
+either (Some character) padded unpadded = padded refl
+
+-- whole groups of symbols are whole groups of bytes
+pub due-whole : (base : Base) → IsSpecified base → CountsGroups → {most : ℕ} (count : ℕ)
+    → decoded_len base (count * group_symbols base.width) ≡ Ok most
+    → most % group_bytes base.width ≡ 0
+due-whole base is law count due =
+    let len = count * group_symbols base.width in
+    rw (due-most base len _ due, ← due-most base len _ (law base is count))
+    (mul-mod_left count (group_bytes base.width))
+
+-- what holds with padding and without it
+pub by_padding : {A : Type 0} (base : Base) → (is_padded base ≡ true → A)
+    → (base.padding ≡ None → A) → A
+by_padding base padded unpadded = either base.padding padded unpadded
 
 -- groups of that many symbols within what was read, whose bytes are those written or more
 fills-by : (padded : Bool) (width symbols bytes read written : ℕ) → 0 < width → 0 < bytes
@@ -166,3 +168,12 @@ stopped-within base width len most due partial bounds is =
     grows-by (is_padded base) base.width (group_symbols base.width) (group_bytes base.width)
     partial.read len (symbols-some base.width width) (omega (arith, bounds.0, bounds.1)) in
     omega (arith, here, grows, due-most base len most due)
+
+-- a shorter text has no more bytes
+pub due-grows : (base : Base) → IsWidth base.width → {read len few most : ℕ} → read ≤ len
+    → decoded_len base read ≡ Ok few → decoded_len base len ≡ Ok most → few ≤ most
+due-grows base width {read} {len} {few} {most} within fewer due =
+    let grows =
+    grows-by (is_padded base) base.width (group_symbols base.width) (group_bytes base.width)
+    read len (symbols-some base.width width) within in
+    omega (arith, grows, due-most base read few fewer, due-most base len most due)

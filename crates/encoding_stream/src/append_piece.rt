@@ -33,8 +33,6 @@ pub(crate) fn append_piece<A: Allocator + Copy>(
         pieces.new.kept piece.now output.old.items output.new.items) }
     ensures unchanged { OnErr result (output.new.items ≡ output.old.items) }
     ensures capacity { OnErr result (vec_capacity output.new ≡ vec_capacity output.old) }
-    ensures room { vec_len output.old + most_completed (base_of_pieces pieces.old)
-        pieces.old.kept (length piece.now) ≤ vec_capacity output.old → IsOk result }
     ensures no_group { (text : List ℕ)
         → Keeps (base_of_pieces pieces.old) pieces.old.kept text
         → CompletesNothing (base_of_pieces pieces.old) text piece.now → IsOk result }
@@ -48,6 +46,28 @@ pub(crate) fn append_piece<A: Allocator + Copy>(
         read = end;
     }
     Ok(())
+}
+
+/// Decodes a piece to the end of `output`, which has room for the `most` bytes that the piece may
+/// complete.
+pub(crate) fn append_within<A: Allocator + Copy>(
+    pieces: &mut BufferDecoder<'_>,
+    piece: &[u8],
+    most: usize,
+    output: &mut Vec<u8, A>,
+)
+    requires limit { pieces.old.kept.len + length piece.now ≤ DECODE_LIMIT }
+    requires most { most ≡ most_completed (base_of_pieces pieces.old) pieces.old.kept
+        (length piece.now) }
+    requires room { vec_len output.old + most ≤ vec_capacity output.old }
+    ensures base { base_of_pieces pieces.new ≡ base_of_pieces pieces.old }
+    ensures appends { AppendsPiece (base_of_pieces pieces.old) pieces.old.kept
+        pieces.new.kept piece.now output.old.items output.new.items }
+{
+    let start = output.len();
+    output.resize(start + most, 0).unwrap();
+    let written = pieces.read(piece, &mut output[start..]);
+    output.truncate(start + written);
 }
 
 /// Decodes a part of a piece to `buffer`, and appends the decoded bytes to `output`.

@@ -81,12 +81,17 @@ impl<'a> BufferEncoder<'a> {
         ensures few { IfSome result (λ _. kept.count ≤ 188) }
         ensures refused { (result ≡ None) ↔ (alignment encoding.now ≤ kept.count) }
     {
-        let mut encoder = BufferEncoder::new_by_ref(encoding);
-        if kept.count >= encoder.block {
+        specification_again();
+        let block = encoding.encode_align();
+        if kept.count >= block {
             return None;
         }
-        encoder.kept = kept;
-        Some(encoder)
+        let lent = encoding.lend();
+        Some(BufferEncoder {
+            encoding: lent,
+            block,
+            kept,
+        })
     }
 
     /// Returns the state of the encoder. `resumed` makes the encoder again from it.

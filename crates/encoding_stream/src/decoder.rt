@@ -5,7 +5,7 @@ ghost use Rattle.data_encoding.specs.declared.decode.TheConstants.{DECODE_LIMIT}
 ghost use Rattle.encoding_stream.specs.BufferDecoder.{base_of_pieces, Keeps};
 ghost use Rattle.encoding_stream.specs.Reading.{AppendsLast, HasNoLastBytes, HasVerdict};
 
-use crate::append_piece::append_piece;
+use crate::append_piece::{append_piece, append_within};
 use crate::buffer_decoder::BufferDecoder;
 use data_encoding::{DECODE_LIMIT, DecodeError, Encoding};
 use std::alloc::{AllocError, Allocator};
@@ -78,8 +78,9 @@ impl<'a> Decoder<'a> {
         ensures no_group { (text : List ℕ) → HasConsumed self.old text
             → CompletesNothing (base_of_decoder self.old) text piece.now → IsOk result }
     {
-        if self.pieces.most(piece.len()) <= output.capacity() - output.len() {
-            append_piece(&mut self.pieces, piece, output).unwrap();
+        let most = self.pieces.most(piece.len());
+        if most <= output.capacity() - output.len() {
+            append_within(&mut self.pieces, piece, most, output);
             return Ok(());
         }
         let mut pieces = self.pieces;

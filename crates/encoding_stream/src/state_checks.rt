@@ -1,9 +1,11 @@
 //! Checks of a state that a caller passes back, before a decoder continues from it.
 
 ghost use Rattle.std.specs.Prelude.{◌≡◌, ◌≤◌, true, false};
+ghost use Rattle.data_encoding.specs.Base.{is_ignored, meaning};
 ghost use Rattle.encoding_stream.specs.Resume.{held_positions, is_of_group, Ascend, HasPossibleFault, HoldsNoIgnored};
 
 use crate::buffer_decoder::Kept;
+use data_encoding::laws::steps::whole_groups;
 use data_encoding::{DecodeKind, EncodingRef};
 
 impl Kept {
@@ -31,7 +33,7 @@ impl Kept {
     {
         self.bytes[..self.count]
             .iter()
-            .any(|byte| encoding.interpret_byte(*byte).is_ignored())
+            .any(|byte| is_ignored(encoding, *byte))
     }
 
     /// Returns `true` if a decoder of `encoding` may keep this fault, or none, in this state.
@@ -58,4 +60,14 @@ fn is_of_group(encoding: &EncodingRef<'_>, kind: DecodeKind) -> bool
         DecodeKind::Trailing => encoding.checks_trailing_bits(),
         DecodeKind::Padding => encoding.is_padded(),
     }
+}
+
+/// Returns `true` if `byte` is ignored.
+// Most encodings ignore no byte. They need no look-up.
+#[inline(always)]
+pub(crate) fn is_ignored(encoding: &EncodingRef<'_>, byte: u8) -> bool
+    ensures { result ≡ is_ignored (meaning encoding.now byte) }
+{
+    whole_groups();
+    encoding.ignores_bytes() && encoding.interpret_byte(byte).is_ignored()
 }

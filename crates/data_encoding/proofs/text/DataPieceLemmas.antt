@@ -1,8 +1,8 @@
 -- Data in pieces: whole blocks, and the bytes after them.
-use Rattle.std.proofs.Common.{◌≡◌, ℕ, ◌+◌, ◌*◌, ◌/◌, ◌%◌, ◌-◌, ◌<◌, ◌≤◌, List, [], ◌++◌, length, take, drop, refl, sym, ap, ◌∙◌, subst, arith, append_assoc, length-append, length-take-le, take-append-drop}
-use Rattle.std.proofs.Math.Nat.{mod-add-mod, mod-eq_of_lt, mod_self, mul-mod_left, zero-add}
+use Rattle.std.proofs.Common.{◌≡◌, ℕ, zero, suc, ◌+◌, ◌*◌, ◌/◌, ◌%◌, ◌-◌, ◌<◌, ◌≤◌, List, [], ◌++◌, length, take, drop, refl, sym, ap, ◌∙◌, subst, arith, append_assoc, length-append, length-take-le, take-append-drop}
+use Rattle.std.proofs.Math.Nat.{mod-add-mod, mod-eq_of_lt, mod_self, mul-mod_left, suc-mul, zero-add, zero-mul}
 use Rattle.std.proofs.Math.Seq.{drop-append_seam, take-append_seam}
-use Rattle.std.proofs.lemmas.List.{length-drop}
+use Rattle.std.proofs.lemmas.List.{length-drop, nil_from_length}
 use Rattle.std.proofs.lemmas.Nat.{div-add-mod', mod_below}
 use Rattle.data_encoding_meaning.specs.text.Base.{Base}
 use Rattle.data_encoding_meaning.specs.text.EncodedPieces.{HasEncoded}
@@ -52,6 +52,30 @@ module _ (base : Base) (ruled : IsRuled base) where
             HasEncoded-whole base ruled before bytes written held has piece whole left cut aligned
             short;
       }
+
+  -- the text of whole blocks is as many times as long as the text of one
+  pub blocks-text : (one count : ℕ) (bytes : List ℕ)
+      → ((block : List ℕ) → length block ≡ alignment base → length (text_of base block) ≡ one)
+      → length bytes ≡ count * alignment base → length (text_of base bytes) ≡ count * one
+  blocks-text one zero bytes each len =
+      ap (λ b. length (text_of base b)) (nil_from_length bytes (len ∙ zero-mul (alignment base)))
+      ∙ ap length (text_of-nil base ruled) ∙ sym (zero-mul one)
+  blocks-text one (suc count) bytes each len =
+      let size = alignment base in
+      let all : length bytes ≡ count * size + size = len ∙ suc-mul count size in
+      let block = take size bytes in
+      let more = drop size bytes in
+      let block-len : length block ≡ size = length-take-le size bytes (omega (arith, all)) in
+      ap (λ b. length (text_of base b)) (sym (take-append-drop size bytes))
+      ∙ ap length (text_of-join base ruled block more
+      (ap (λ n. n % size) block-len ∙ mod_self size))
+      ∙ length-append (text_of base block) (text_of base more)
+      ∙ omega (
+        arith,
+        each block block-len,
+        blocks-text one count more each (length-drop size bytes ∙ omega (arith, all)),
+        suc-mul count one,
+      )
 
   -- no block is whole
   pub reads-none : (held piece : List ℕ) → length held + length piece < alignment base

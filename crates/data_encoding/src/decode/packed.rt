@@ -55,7 +55,7 @@ impl EncodingRef<'_> {
 /// Returns the end of the byte before the last `last` bytes of `part`, where ignored bytes do not
 /// count, or 0 if there is no such byte.
 #[inline(always)]
-fn span_before(ignored: &IgnoredBytes, part: &[u8], last: usize) -> usize
+pub(crate) fn span_before(ignored: &IgnoredBytes, part: &[u8], last: usize) -> usize
     ensures within { result ≤ length part.now }
     ensures ends { (base : Base) → HoldsIgnored base ignored.now
         → last ≤ length (kept base part.now) → EndsBefore base part.now last result }
@@ -67,7 +67,7 @@ fn span_before(ignored: &IgnoredBytes, part: &[u8], last: usize) -> usize
 /// Returns the length of a part without chunks of sixteen at its end that have at most `last` kept
 /// bytes in all, and the number of those bytes that are left.
 #[inline(always)]
-fn skip_sixteens(ignored: &IgnoredBytes, part: &[u8], last: usize) -> (usize, usize)
+pub(crate) fn skip_sixteens(ignored: &IgnoredBytes, part: &[u8], last: usize) -> (usize, usize)
     ensures within { result.0 ≤ length part.now }
     ensures few { result.1 ≤ last }
     ensures kept { (base : Base) → HoldsIgnored base ignored.now

@@ -8,6 +8,7 @@ ghost use Rattle.data_encoding_meaning.specs.text.Text.{text_of};
 
 use crate::encode::ENCODE_LIMIT;
 use crate::encoding::EncodingRef;
+use data_encoding_kernel::copy::copy_short;
 
 /// The state of an encoder between two pieces of data, as plain numbers.
 #[repr(C)]
@@ -41,7 +42,7 @@ impl KeptData {
         ensures count { self.new.count ≡ self.old.count + length more.now }
     {
         let end = self.count + more.len();
-        self.bytes[self.count..end].copy_from_slice(more);
+        copy_short(more, &mut self.bytes[self.count..end]);
         self.count = end;
     }
 }
@@ -72,12 +73,11 @@ impl EncodingRef<'_> {
         }
         let rest = len - missing;
         let block = self.encode_len(block_len);
-        let whole = rest - rest % block_len;
-        let total = block + self.encode_len(whole);
+        let count = rest / block_len;
         DueLen {
             block,
-            total,
-            whole,
+            total: block + count * block,
+            whole: count * block_len,
         }
     }
 
@@ -121,10 +121,7 @@ impl EncodingRef<'_> {
         let (blocks, left) = rest.split_at(due.whole);
         kept.hold(first);
         self.encode_both(&kept.bytes[..block_len], due.block, blocks, output);
-        *kept = KeptData {
-            count: 0,
-            bytes: [0; 189],
-        };
+        kept.count = 0;
         kept.hold(left);
     }
 

@@ -1,6 +1,6 @@
 //! Whole groups of a text in pieces, decoded in place.
 
-ghost use Rattle.std.specs.Prelude.{◌≡◌, ℕ, ◌+◌, ◌≤◌, ◌<◌, ◌%◌, true, false, List, length, take, IfOk, IfErr, None, Ok, Some};
+ghost use Rattle.std.specs.Prelude.{◌≡◌, ◌⊎◌, ℕ, ◌+◌, ◌-◌, ◌≤◌, ◌<◌, ◌%◌, true, false, List, length, take, IfOk, IfErr, None, Ok, Some};
 ghost use Rattle.data_encoding.specs.declared.decode.TheConstants.{DECODE_LIMIT};
 ghost use Rattle.data_encoding.specs.Base.{group_bytes, group_symbols, ignores_some, is_padded};
 ghost use Rattle.data_encoding.specs.Grammar.{Means};
@@ -47,7 +47,7 @@ impl BufferDecoder<'_> {
         if self.kept.count != 0 || self.kept.fault.is_some() || self.kept.ended {
             return (0, 0);
         }
-        let (len, output_len) = self.completed_groups(piece.len());
+        let (len, output_len) = self.run_len(piece);
         if len == 0 {
             return (0, 0);
         }
@@ -62,12 +62,40 @@ impl BufferDecoder<'_> {
                 return (len, partial.written);
             }
         };
-        if !self.are_whole(len, read, written) {
+        if !self.are_whole(written) {
             return (0, 0);
         }
         self.kept.len += read;
         self.kept.ended = self.has_final(written);
         (read, written)
+    }
+
+    /// Returns the length of the whole groups at the start of `piece`, with the ignored bytes among
+    /// them, and the greatest number of bytes of their data.
+    // An unfinished group of an unpadded encoding may be valid. It is found before, so that what
+    // runs does not depend on its trailing bits.
+    fn run_len(&self, piece: &[u8]) -> (usize, usize)
+        requires limit { length piece.now ≤ DECODE_LIMIT }
+        ensures few { result.0 ≤ length piece.now }
+        ensures len { (ignores_some (base_of_pieces self.now) ≡ false)
+            ⊎ (most_bytes (base_of_pieces self.now)
+            (group_symbols (base_of_pieces self.now).width - 1) ≡ 0)
+            → result.0 ≡ whole_len (base_of_pieces self.now) (length piece.now) }
+        ensures whole { ignores_some (base_of_pieces self.now) ≡ false
+            → result.0 % group_symbols (base_of_pieces self.now).width ≡ 0 }
+        ensures due { decoded_len (base_of_pieces self.now) result.0 ≡ Ok result.1 }
+        ensures bytes { result.1 ≤ bytes_due (base_of_pieces self.now) (length piece.now) }
+    {
+        let (len, output_len) = self.completed_groups(piece.len());
+        let encoding = self.encoding.by_ref();
+        if !encoding.ignores_bytes() || encoding.completes_groups() {
+            return (len, output_len);
+        }
+        let len = encoding.whole_groups_len(&piece[..len]);
+        match encoding.decode_len(len) {
+            Ok(output_len) => (len, output_len),
+            Err(_) => unreachable!(),
+        }
     }
 
     /// Decodes whole groups up to the first fault, and returns the numbers of bytes read and
@@ -76,7 +104,8 @@ impl BufferDecoder<'_> {
     /// Returns an error only if a whole group has the fault.
     fn decode_run(&self, text: &[u8], output: &mut [u8]) -> Result<(usize, usize), DecodePartial>
         requires limit { length text.now ≤ DECODE_LIMIT }
-        requires whole { length text.now % group_symbols (base_of_pieces self.now).width ≡ 0 }
+        requires whole { ignores_some (base_of_pieces self.now) ≡ false
+            → length text.now % group_symbols (base_of_pieces self.now).width ≡ 0 }
         requires exact { decoded_len (base_of_pieces self.now) (length text.now)
             ≡ Ok (length output.old) }
         ensures means { IfOk result (λ run. Means (base_of_pieces self.now) (take run.0 text.now)
@@ -84,8 +113,14 @@ impl BufferDecoder<'_> {
         ensures most { IfOk result (λ run. run.1 ≤ most_bytes (base_of_pieces self.now) run.0) }
         ensures all { IfOk result (λ run. (bytes : List ℕ)
             → Means (base_of_pieces self.now) text.now bytes → run.0 ≡ length text.now) }
+        ensures full { IfOk result (λ run. (bytes : List ℕ)
+            → Means (base_of_pieces self.now) text.now bytes
+            → (base_of_pieces self.now).padding ≡ None
+            → ignores_some (base_of_pieces self.now) ≡ false → run.1 ≡ length output.new) }
         ensures read { IfOk result (λ run. run.0 ≤ length text.now) }
         ensures written { IfOk result (λ run. run.1 ≤ length output.new) }
+        ensures group { IfErr result (λ partial. IsOfWholeGroup (base_of_pieces self.now)
+            (length text.now) partial.error.kind) }
         ensures fault { IfErr result (λ partial. ReadsRun (base_of_pieces self.now) text.now
             (take partial.written output.new) (Some partial.error)) }
         ensures position { IfErr result (λ partial. partial.error.position < length text.now) }
@@ -103,9 +138,11 @@ impl BufferDecoder<'_> {
     /// Returns `true` if a fault of the given kind, in a piece of `len` bytes, must be in a whole
     /// group.
     ///
-    /// `len` is the length of whole groups. An unfinished group has a fault of its length.
+    /// If no byte is ignored, `len` is the length of whole groups. An unfinished group has a fault
+    /// of its length.
     fn is_of_whole_group(&self, len: usize, kind: DecodeKind) -> bool
-        requires whole { len % group_symbols (base_of_pieces self.now).width ≡ 0 }
+        requires whole { ignores_some (base_of_pieces self.now) ≡ false
+            → len % group_symbols (base_of_pieces self.now).width ≡ 0 }
         ensures { result ≡ true → IsOfWholeGroup (base_of_pieces self.now) len kind }
     {
         let encoding = self.encoding.by_ref();
@@ -115,25 +152,19 @@ impl BufferDecoder<'_> {
         !encoding.ignores_bytes() || encoding.completes_groups()
     }
 
-    /// Returns `true` if a valid text of `read` bytes that decodes to `written` bytes ends at a
-    /// group boundary.
-    fn are_whole(&self, len: usize, read: usize, written: usize) -> bool
-        requires len { len % group_symbols (base_of_pieces self.now).width ≡ 0 }
-        ensures whole { result ≡ true → (text bytes : List ℕ) → length text ≡ read
-            → length bytes ≡ written → Means (base_of_pieces self.now) text bytes
+    /// Returns `true` if a valid text that decodes to `written` bytes ends at a group boundary.
+    fn are_whole(&self, written: usize) -> bool
+        ensures whole { result ≡ true → (text bytes : List ℕ) → length bytes ≡ written
+            → Means (base_of_pieces self.now) text bytes
             → HasOnlyWholeGroups (base_of_pieces self.now) text }
-        ensures few { result ≡ true → written ≤ most_bytes (base_of_pieces self.now) read
+        ensures few { result ≡ true → (read : ℕ)
+            → written ≤ most_bytes (base_of_pieces self.now) read
             → FillsGroups (base_of_pieces self.now) 0 read 0 written }
         ensures by_padding { is_padded (base_of_pieces self.now) ≡ true → result ≡ true }
         ensures by_bytes { written % group_bytes (base_of_pieces self.now).width ≡ 0
             → result ≡ true }
-        ensures by_length { ignores_some (base_of_pieces self.now) ≡ false
-            → read ≡ len → result ≡ true }
     {
         let encoding = self.encoding.by_ref();
-        if !encoding.ignores_bytes() && read == len {
-            return true;
-        }
         encoding.is_padded() || written % encoding.group_bytes() == 0
     }
 

@@ -6,6 +6,7 @@ ghost use Rattle.encoding_stream.specs.BufferDecoder.{base_of_pieces, most_compl
 ghost use Rattle.encoding_stream.specs.Reading.{ReadsOn};
 
 use crate::buffer_decoder::BufferDecoder;
+use crate::state_checks::is_ignored;
 use data_encoding::DECODE_LIMIT;
 
 impl BufferDecoder<'_> {
@@ -76,7 +77,7 @@ impl BufferDecoder<'_> {
         let position = self.kept.len;
         self.kept.len += 1;
         let encoding = self.encoding.by_ref();
-        if self.kept.fault.is_some() || encoding.interpret_byte(byte).is_ignored() {
+        if self.kept.fault.is_some() || is_ignored(&encoding, byte) {
             return 0;
         }
         let size = encoding.group_len();

@@ -1,8 +1,8 @@
-use Rattle.std.proofs.Common.{◌≡◌, ◌+◌, ◌-◌, ◌≤◌, ◌++◌, length, take, vec_capacity, vec_len, refl, subst, ◌∙◌, arith, inl, inr, ⊎_elim, Result, Ok, Err}
+use Rattle.std.proofs.Common.{◌≤◌, ◌++◌, length, take, vec_capacity, vec_len, refl, subst, ◌∙◌, arith, inl, inr, ⊎_elim, Result, Ok, Err}
 use Rattle.std.proofs.lemmas.Bool.{false≢true}
 use Rattle.std.proofs.lemmas.List.{take_all}
 use Rattle.std.specs.Prelude.{OnErr}
-use Rattle.encoding_stream.specs.BufferDecoder.{base_of_pieces, most_completed}
+use Rattle.encoding_stream.specs.BufferDecoder.{base_of_pieces}
 use Rattle.encoding_stream.specs.Reading.{AppendsPiece}
 use Rattle.encoding_stream.proofs.DecoderLemmas.{appends-next, appends-nothing, part-adds-none, room-both}
 use Rattle.encoding_stream.proofs.ReadByteLemmas.{is-specified, keeps-bytes}
@@ -11,14 +11,10 @@ use Rattle.encoding_stream.proofs.append_piece.append_piece.Goals as goal
 pub loop-read-init : goal.loop-read-init
 loop-read-init g c =
     let base = base_of_pieces c.args.pieces.now in
-    let whole : length c.args.piece.now ≡ length c.args.piece.now - 0 = omega arith in
     record {
       base = refl;
       appends = appends-nothing base c.args.pieces.now.kept c.args.output.now.items;
       within = omega arith;
-      room =
-          subst (λ n. vec_len c.args.output.now + most_completed base c.args.pieces.now.kept n
-          ≤ vec_capacity c.args.output.now) whole;
       grown = inl (record { items = refl; capacity = refl });
     }
 
@@ -66,16 +62,6 @@ returns-in_err-append_chunk-clause-capacity g c =
     room))))
     now.grown)
 
-pub returns-in_err-append_chunk-clause-room : goal.returns-in_err-append_chunk-clause-room
-returns-in_err-append_chunk-clause-room g c = λ room.
-    let now = c.loop-read.invariant in
-    absurd (false≢true
-    (c.in_err-append_chunk.ensures.room
-    (room-both c.loop-read.pieces.kept c.args.piece.now c.loop-read.read c.min-end.result
-    (vec_len c.loop-read.output) (vec_capacity c.loop-read.output) now.base
-    (omega (arith, c.min-end.ensures, now.within)) (omega (arith, c.min-end.ensures))
-    (now.room room))))
-
 pub loop-read-preserved : goal.loop-read-preserved
 loop-read-preserved g c =
     let base = base_of_pieces c.args.pieces.now in
@@ -97,7 +83,6 @@ loop-read-preserved g c =
           within now.appends
           (rw now.base at c.in_ok-append_chunk.ensures.appends);
       within = inside;
-      room = λ room. rw now.base at (c.in_ok-append_chunk.ensures.rest (here (now.room room)));
       grown =
           ⊎_elim
           (λ same. ⊎_elim

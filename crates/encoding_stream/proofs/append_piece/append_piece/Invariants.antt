@@ -10,10 +10,6 @@ invariant-loop-read g l = record {
   appends : AppendsPiece (base_of_pieces l.initial.pieces) l.initial.pieces.kept l.pieces.kept
       (take l.read l.piece) l.initial.output.items l.output.items;
   within : l.read ≤ length l.piece;
-  room : vec_len l.initial.output + most_completed (base_of_pieces l.initial.pieces)
-      l.initial.pieces.kept (length l.piece) ≤ vec_capacity l.initial.output
-      → vec_len l.output + most_completed (base_of_pieces l.initial.pieces) l.pieces.kept
-      (length l.piece - l.read) ≤ vec_capacity l.output;
   grown : IsAsBefore l.initial.output l.output
       ⊎ (vec_len l.output
       + most_completed (base_of_pieces l.initial.pieces) l.pieces.kept (length l.piece - l.read)

@@ -1,10 +1,11 @@
-use Rattle.std.proofs.Common.{◌≡◌, ◌≤◌, ◌-◌, ◌%◌, ◌++◌, ℕ, length, take, drop, refl, sym, ap, ◌∙◌, arith, length-append, length-take-le}
+use Rattle.std.proofs.Common.{◌≡◌, ◌≤◌, ◌-◌, ◌*◌, ◌/◌, ◌%◌, ◌++◌, ℕ, length, take, drop, refl, sym, ap, ◌∙◌, arith, length-append, length-take-le}
+use Rattle.std.proofs.Math.Nat.{div-mul-le_self, mod-eq-sub-div-mul, mul-le-mul_left, mul_left_comm}
 use Rattle.std.proofs.lemmas.List.{length-drop}
 use Rattle.data_encoding.specs.KeptData.{held_data}
 use Rattle.data_encoding_meaning.specs.text.Text.{text_of}
 use Rattle.data_encoding_meaning.proofs.judgement.RuleLemmas.{IsRuled-built}
 use Rattle.data_encoding.proofs.tables.TableRuleLemmas.{is_base_of}
-use Rattle.data_encoding.proofs.text.DataPieceLemmas.{reads-cut, reads-none}
+use Rattle.data_encoding.proofs.text.DataPieceLemmas.{blocks-text, reads-cut, reads-none}
 use Rattle.data_encoding.proofs.text.LineTableLemmas.{IsRuled-seen}
 use Rattle.data_encoding.proofs.encoding.EncodingRef.due_len.Goals as goal
 
@@ -27,6 +28,9 @@ returns-then-len-missing c =
       none = λ _. refl;
       base = rw (← c.self.view_is) (is_base_of _ c.self.invariant);
     }
+
+blocks-len : (len size : ℕ) → len - len % size ≡ len / size * size
+blocks-len len size = omega (arith, mod-eq-sub-div-mul len size, div-mul-le_self len size)
 
 pub returns : goal.returns
 returns c =
@@ -54,8 +58,13 @@ returns c =
           let one = c.encode_len-block.ensures.length (held ++ first)
           (length-append held first
           ∙ omega (arith, length-take-le missing piece few, size, c.requires.short)) in
-          let others = c.encode_len.ensures.length (take end rest)
-          (length-take-le end rest (omega arith) ∙ ap (λ n. n - n % block_len) left) in
+          let count = (c.args.len - missing) / block_len in
+          let others =
+          blocks-text base (IsRuled-built specified.fields base specified.is_built)
+          c.encode_len-block.result count (take end rest)
+          (λ block long. c.encode_len-block.ensures.length block (long ∙ sym c.requires.block))
+          (length-take-le end rest (omega arith) ∙ ap (λ n. n - n % block_len) left
+          ∙ blocks-len (c.args.len - missing) block_len ∙ ap (λ n. count * n) c.requires.block) in
           ap length reads.text_is
           ∙ length-append (text_of base (held ++ first)) (text_of base (take end rest))
           ∙ omega (arith, one, others);
@@ -64,7 +73,8 @@ returns c =
       whole = λ rest is.
           let left : c.args.len - missing ≡ rest =
           omega (arith, is, c.requires.block, c.requires.short) in
-          ap (λ n. n - n % block_len) left ∙ ap (λ n. rest - rest % n) c.requires.block;
+          sym (blocks-len (c.args.len - missing) block_len)
+          ∙ ap (λ n. n - n % block_len) left ∙ ap (λ n. rest - rest % n) c.requires.block;
       none = λ short.
           absurd (omega (
             arith,
@@ -75,3 +85,38 @@ returns c =
           ));
       base = specified;
     }
+
+-- the text of all blocks is not too long
+few-blocks : (len size one count : ℕ) → count ≡ len / size → one ≤ 263 * size
+    → count * one ≤ 263 * len
+few-blocks len size one count is most =
+    let more : count * one ≤ count * (263 * size) = mul-le-mul_left count most in
+    omega (
+      arith,
+      more,
+      mul_left_comm count 263 size,
+      ap (λ n. n * size) is,
+      div-mul-le_self len size,
+    )
+
+pub overflow_mul-result : goal.overflow_mul-result
+overflow_mul-result c = record {
+  fits = omega (
+    arith,
+    few-blocks (c.args.len - (c.args.block_len - c.args.kept.now.count)) c.args.block_len
+        c.encode_len-block.result _ refl c.encode_len-block.ensures.most,
+    c.requires.limit,
+  );
+}
+
+pub overflow_add-result : goal.overflow_add-result
+overflow_add-result c = record {
+  fits = omega (
+    arith,
+    few-blocks (c.args.len - (c.args.block_len - c.args.kept.now.count)) c.args.block_len
+        c.encode_len-block.result _ refl c.encode_len-block.ensures.most,
+    c.encode_len-block.ensures.most,
+    c.requires.most,
+    c.requires.limit,
+  );
+}

@@ -51,3 +51,7 @@ returns-in-Ok-clause-means c =
 pub returns-in-Err-2-clause-all : goal.returns-in-Err-2-clause-all
 returns-in-Err-2-clause-all c = λ bytes means.
     absurd (false≢true (c.in-Err.ensures.accepted bytes (rw c.by_ref.ensures means)))
+
+pub returns-in-Err-2-clause-full : goal.returns-in-Err-2-clause-full
+returns-in-Err-2-clause-full c = λ bytes means _ _.
+    absurd (false≢true (c.in-Err.ensures.accepted bytes (rw c.by_ref.ensures means)))

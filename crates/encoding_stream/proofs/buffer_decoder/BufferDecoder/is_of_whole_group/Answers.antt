@@ -7,10 +7,10 @@ returns-then-not-ignores_bytes c = λ _. record {
   joins =
       sym (rw c.by_ref-encoding.ensures at c.concatenates.ensures)
       ∙ c.if-not-concatenates.false;
-  whole = inl (
-    sym (rw c.by_ref-encoding.ensures at c.ignores_bytes.ensures) ∙ c.if-not-ignores_bytes.true,
-    c.requires.whole,
-  );
+  whole =
+      let none =
+      sym (rw c.by_ref-encoding.ensures at c.ignores_bytes.ensures) ∙ c.if-not-ignores_bytes.true in
+      inl (none, c.requires.whole none);
 }
 
 pub returns-else-not-ignores_bytes : goal.returns-else-not-ignores_bytes

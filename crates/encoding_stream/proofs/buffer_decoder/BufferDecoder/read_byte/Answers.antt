@@ -1,6 +1,5 @@
 use Rattle.std.proofs.lemmas.List.Elements.{All-contains, All-weaker}
-use Rattle.std.proofs.Common.{All, set, ◌<◌, ◌≡◌, ◌+◌, ◌∙◌, arith, refl, ap, sym, subst, [], ◌∷◌, take, length-take-le}
-use Rattle.data_encoding.specs.Base.{is_ignored}
+use Rattle.std.proofs.Common.{All, set, ◌<◌, ◌≡◌, ◌+◌, ◌∙◌, arith, refl, sym, subst, [], ◌∷◌, take, length-take-le}
 use Rattle.encoding_stream.specs.declared.buffer_decoder.BufferDecoder.{BufferDecoder}
 use Rattle.encoding_stream.specs.BufferDecoder.{base_of_pieces}
 use Rattle.encoding_stream.specs.Reading.{ReadsOn}
@@ -37,8 +36,7 @@ returns-then-is_some-clause-reads c =
           subst (λ (p : BufferDecoder). ReadsOn base k p.kept (byte ∷ []) []) (sym w.self-is)
           (read_byte-ignored base k is byte (sym c.is_some.ensures ∙ w.if-is_some.false)
           s.laws.held
-          (ap is_ignored (sym (rw c.by_ref-encoding.ensures at w.interpret_byte.ensures))
-          ∙ sym w.is_ignored.ensures ∙ w.if-is_ignored.true))
+          (sym (rw c.by_ref-encoding.ensures at w.is_ignored.ensures) ∙ w.if-is_ignored.true))
     ]
 
 pub returns-then-index-size-clause-reads : goal.returns-then-index-size-clause-reads
@@ -49,8 +47,7 @@ returns-then-index-size-clause-reads c =
     read_byte-held (base_of_pieces s) k
     (is-kept s (omega arith) (omega arith)) c.args.byte
     (sym c.is_some.ensures ∙ c.if-is_some.false)
-    (ap is_ignored (sym (rw c.by_ref-encoding.ensures at c.interpret_byte.ensures))
-    ∙ sym c.is_ignored.ensures ∙ c.if-is_ignored.false)
+    (sym (rw c.by_ref-encoding.ensures at c.is_ignored.ensures) ∙ c.if-is_ignored.false)
     (k.count + 1) refl s.laws.held
     (omega (arith, few, rw c.by_ref-encoding.ensures at c.group_len-size.ensures.value))
 
@@ -83,8 +80,7 @@ returns-in-Ok-clause-reads c =
     read_byte-sound (base_of_pieces s) s.kept
     (is-kept s (omega arith) (omega arith)) c.args.byte
     (sym c.is_some.ensures ∙ c.if-is_some.false)
-    (ap is_ignored (sym (rw c.by_ref-encoding.ensures at c.interpret_byte.ensures))
-    ∙ sym c.is_ignored.ensures ∙ c.if-is_ignored.false)
+    (sym (rw c.by_ref-encoding.ensures at c.is_ignored.ensures) ∙ c.if-is_ignored.false)
     c.group_len-size.result (omega (arith, whole, s.short, c.if-index-size.false)) s.laws.group
     whole bytes c.in-Ok.ensures.sound (omega (arith, size, c.in-Ok.ensures.few))
     c.is_final-is_final.result
@@ -97,8 +93,7 @@ returns-in-Err-clause-reads c =
     read_byte-faulty (base_of_pieces s) s.kept
     (is-kept s (omega arith) (omega arith)) c.args.byte
     (sym c.is_some.ensures ∙ c.if-is_some.false)
-    (ap is_ignored (sym (rw c.by_ref-encoding.ensures at c.interpret_byte.ensures))
-    ∙ sym c.is_ignored.ensures ∙ c.if-is_ignored.false)
+    (sym (rw c.by_ref-encoding.ensures at c.is_ignored.ensures) ∙ c.if-is_ignored.false)
     c.group_len-size.result (omega (arith, whole, s.short, c.if-index-size.false)) s.laws.group
     whole c.in-Err.error c.in-Err.ensures.fault
 

@@ -10,8 +10,8 @@ use Rattle.encoding_stream.proofs.decoder.Decoder.push.Goals as goal
 
 pub returns-clause-stands : goal.returns-clause-stands
 returns-clause-stands c = λ text is.
-    subst (λ b. Keeps b c.append_piece-2.new.pieces.kept (text ++ c.args.piece.now))
-    (sym c.append_piece-2.ensures.base)
+    subst (λ b. Keeps b c.append_piece.new.pieces.kept (text ++ c.args.piece.now))
+    (sym c.append_piece.ensures.base)
     (c.in_ok-append_piece.ensures.appends.reads.keeps text is)
 
 -- what is appended for a piece, for each text
@@ -31,20 +31,18 @@ pushed decoder new piece x y appends =
 
 pub returns-clause-appends : goal.returns-clause-appends
 returns-clause-appends c =
-    pushed c.args.self.now c.append_piece-2.new.pieces.kept c.args.piece.now c.args.output.now.items
-    c.append_piece-2.new.output.items c.in_ok-append_piece.ensures.appends
+    pushed c.args.self.now c.append_piece.new.pieces.kept c.args.piece.now c.args.output.now.items
+    c.append_piece.new.output.items c.in_ok-append_piece.ensures.appends
 
 pub returns-then-most-capacity-clause-stands : goal.returns-then-most-capacity-clause-stands
 returns-then-most-capacity-clause-stands c = λ text is.
-    subst (λ b. Keeps b c.append_piece.new.pieces.kept (text ++ c.args.piece.now))
-    (sym c.append_piece.ensures.base)
-    ((rw c.unwrap.ensures at c.append_piece.ensures.appends).reads.keeps text is)
+    subst (λ b. Keeps b c.append_within.new.pieces.kept (text ++ c.args.piece.now))
+    (sym c.append_within.ensures.base) (c.append_within.ensures.appends.reads.keeps text is)
 
 pub returns-then-most-capacity-clause-appends : goal.returns-then-most-capacity-clause-appends
 returns-then-most-capacity-clause-appends c =
-    pushed c.args.self.now c.append_piece.new.pieces.kept c.args.piece.now
-    c.args.output.now.items c.append_piece.new.output.items
-    (rw c.unwrap.ensures at c.append_piece.ensures.appends)
+    pushed c.args.self.now c.append_within.new.pieces.kept c.args.piece.now
+    c.args.output.now.items c.append_within.new.output.items c.append_within.ensures.appends
 
 pub returns-in_err-append_piece-clause-no_group : goal.returns-in_err-append_piece-clause-no_group
 returns-in_err-append_piece-clause-no_group c = λ text is none.
