@@ -1,5 +1,5 @@
 -- The end of a text: its last symbols, the padding of their group, and ignored bytes.
-use Rattle.std.specs.Prelude.{◌≡◌, ℕ, ◌+◌, ◌-◌, ◌%◌, ◌<◌, ◌≤◌, Bool, true, false, List, [], length, take, drop, slice_index}
+use Rattle.std.specs.Prelude.{◌≡◌, ℕ, ◌+◌, ◌%◌, ◌<◌, ◌≤◌, Bool, true, false, List, [], length, take, drop, slice_index}
 use Rattle.data_encoding.specs.declared.decode.Stop.{Stop}
 use Rattle.data_encoding.specs.Progress.{HasReached}
 use Rattle.data_encoding_kernel.specs.Fronts.{IsFront}
@@ -40,7 +40,8 @@ pub record IsPaddedBy (base : Base) (front : Front) (count : ℕ) : Type 0 where
   pub are : (k : ℕ) → k < count
       → is_padding (meaning base (slice_index front.text (front.symbols + k))) ≡ true
 
--- After `count` symbols, `rest` has `padding` bytes of padding, which complete their last group, and
+-- After `count` symbols, `rest` has `padding` bytes of padding, which complete their last group,
+-- and
 -- then only ignored bytes.
 pub record EndsAfter (base : Base) (rest : List ℕ) (count padding : ℕ) : Type 0 where
   pub within : count + padding ≤ length rest

@@ -16,7 +16,8 @@ pub record HasExactOutput (base : Base) (text output : List ℕ) : Type 0 where
   pub limit : length text ≤ DECODE_LIMIT
   pub len : decoded_len base (length text) ≡ Ok (length output)
 
--- The base decodes with the entries and the join. The look-up has the entries, and the ignored bytes
+-- The base decodes with the entries and the join. The look-up has the entries, and the ignored
+-- bytes
 -- are those of the base.
 pub record ReadsBy {L : Type 0} (holds : List ℕ → L → Type 0) (base : Base)
     (entries : Entries L) : Type 0 where

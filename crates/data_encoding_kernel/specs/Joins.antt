@@ -15,7 +15,8 @@ joined_bytes order width count values =
     map (number_of order)
     (first_chunks 8 count (zeros_to (8 * count) (flat_map (bits_of order width) values)))
 
--- The index of each byte of `count` joined words of `size` bytes, in lanes of `lane` bytes. 128 gives
+-- The index of each byte of `count` joined words of `size` bytes, in lanes of `lane` bytes. 128
+-- gives
 -- a zero.
 abbrev pub places_of : BitOrder → ℕ → ℕ → ℕ → List ℕ
 places_of MostSignificantFirst size lane count =
@@ -65,7 +66,8 @@ pub record IsJoin (join : Join) : Type 0 where
 abbrev pub value_bits : BitOrder → ℕ → List ℕ → List ℕ
 value_bits order width values = flat_map (bits_of order width) values
 
--- `bytes` starts with the whole bytes of the bits of the values. The next byte is zero exactly if the
+-- `bytes` starts with the whole bytes of the bits of the values. The next byte is zero exactly if
+-- the
 -- bits after the last whole byte are zeros.
 pub record AreJoined (order : BitOrder) (width : ℕ) (values bytes : List ℕ) : Type 0 where
   pub whole : take (width * length values / 8) bytes

@@ -19,8 +19,8 @@ use crate::words::decode_entries;
 use data_encoding_meaning::encoding::BitOrder;
 use std::simd::prelude::*;
 
-/// Decodes whole groups of the first `len` bytes of `input` to the start of `output`, and returns the
-/// number of bytes read.
+/// Decodes whole groups of the first `len` bytes of `input` to the start of `output`, and returns
+/// the number of bytes read.
 ///
 /// Stops at the first group with a byte that is not a symbol. The output after the decoded bytes is
 /// unspecified. May load the bytes after the first `len`, so that iterations cover more groups.
@@ -87,10 +87,11 @@ impl Join {
             .min(len)
     }
 
-    /// Decodes eight groups per iteration, up to the first byte that is not a symbol, and returns the
-    /// number of bytes read.
+    /// Decodes eight groups per iteration, up to the first byte that is not a symbol, and returns
+    /// the number of bytes read.
     ///
-    /// The whole groups among the bytes read are decoded. The output after their bytes is unspecified.
+    /// The whole groups among the bytes read are decoded. The output after their bytes is
+    /// unspecified.
     #[inline(always)]
     pub fn decode_iterations<L: LookUp>(
         &self,
@@ -110,8 +111,8 @@ impl Join {
         self.decode_turns::<L>(look_up, count, input, output)
     }
 
-    /// Decodes `count` iterations, up to the first byte that is not a symbol, and returns the number
-    /// of bytes read.
+    /// Decodes `count` iterations, up to the first byte that is not a symbol, and returns the
+    /// number of bytes read.
     #[inline(always)]
     fn decode_turns<L: LookUp>(
         &self,
@@ -173,7 +174,8 @@ impl Join {
     fn count_turns(&self, input_len: usize, len: usize, output_len: usize) -> usize
         requires join { IsJoin self.now }
         requires few { len ≤ input_len }
-        requires room { len / group_symbols self.now.width * group_bytes self.now.width ≤ output_len }
+        requires room { len / group_symbols self.now.width * group_bytes self.now.width
+            ≤ output_len }
         ensures symbols { result * 8 * group_symbols self.now.width ≤ input_len }
         ensures bytes { result * 8 * group_bytes self.now.width ≤ output_len }
     {

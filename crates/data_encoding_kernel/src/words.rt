@@ -101,8 +101,8 @@ pub fn entry_of(values: &[u8; 256], byte: u8) -> u8
 
 /// Returns the values of the symbols of a group as a word, and all entries combined by OR.
 ///
-/// The word has `count` digits of `width` bits. Missing symbols are zeros. If an entry is not a value,
-/// the second result is 128 or more, and the word is unspecified.
+/// The word has `count` digits of `width` bits. Missing symbols are zeros. If an entry is not a
+/// value, the second result is 128 or more, and the word is unspecified.
 #[inline(always)]
 fn word_of_symbols(
     values: &[u8; 256],

@@ -1,10 +1,10 @@
 -- The end of a text: the last symbols, the padding of their group, and ignored bytes.
-use Rattle.std.proofs.Common.{◌≡◌, ℕ, suc, ◌+◌, ◌-◌, ◌*◌, ◌/◌, ◌%◌, ◌<◌, ◌≤◌, ◌==◌, ◌&&◌, ◌⊎◌, Bool, not, nat_lt, true, false, List, [], ◌∷◌, ◌++◌, length, map, take, drop, get_or, replicate, slice_index, None, refl, sym, ap, ◌∙◌, arith, subst, inl, inr, length-take-le, ⊎_elim}
+use Rattle.std.proofs.Common.{◌≡◌, ℕ, suc, ◌+◌, ◌-◌, ◌*◌, ◌/◌, ◌%◌, ◌<◌, ◌≤◌, ◌==◌, ◌&&◌, ◌⊎◌, Bool, not, nat_lt, true, false, List, [], ◌∷◌, ◌++◌, length, map, take, drop, get_or, slice_index, None, refl, sym, ap, ◌∙◌, arith, subst, inl, inr, length-take-le, ⊎_elim}
 use Rattle.std.proofs.Math.Nat.{mul-le-mul_left}
 use Rattle.std.proofs.Math.Seq.{take-append-add}
 use Rattle.std.proofs.lemmas.Bool.{cases_lt, eqb-true, false≢true}
 use Rattle.std.proofs.lemmas.Bool.Decides.{nat_tests}
-use Rattle.std.proofs.lemmas.List.{append-nil, append_assoc, drop-drop, drop_all, get_or-drop, get_or-take, length-drop, length-map, take-append-le, take-take, take_at}
+use Rattle.std.proofs.lemmas.List.{append-nil, append_assoc, drop-drop, drop_all, get_or-drop, get_or-take, length-drop, length-map, take-take}
 use Rattle.std.proofs.lemmas.Nat.{div-add-mod', mul-le}
 use Rattle.std.specs.List.{list_any}
 use Rattle.data_encoding_meaning.specs.declared.encoding.Character.{Character}
@@ -146,12 +146,14 @@ zero-valid = by_width (λ w. is_valid_count w 0 ≡ true) refl refl refl refl re
 -- so may it if nothing follows the padding
 pub ends-full : {base : Base} → IsWidth base.width → {rest : List ℕ} {front : Front}
     → IsFrontOf base rest front → length rest ≤ 16 → (padding : ℕ)
-    → front.symbols + padding ≡ length rest → is_valid_length base (length rest) ≡ true → (padding ≡ 0) ⊎ IsPaddedBy base front padding
+    → front.symbols + padding ≡ length rest → is_valid_length base (length rest) ≡ true →
+    (padding ≡ 0) ⊎ IsPaddedBy base front padding
     → EndsAfter base rest front.symbols padding
 ends-full {base} width {rest} {front} is short padding all valid how =
     let nothing : drop (front.symbols + padding) rest ≡ [] =
     drop_all (front.symbols + padding) rest (omega (arith, all)) in
-    ends-after width is short padding (omega (arith, all)) (ap (is_valid_length base) all ∙ valid) how
+    ends-after width is short padding (omega (arith, all)) (ap (is_valid_length base) all ∙ valid)
+    how
     (ap (kept base) nothing)
 
 -- the symbols of a vector mean few bytes
@@ -296,7 +298,8 @@ module _ {base : Base} (width : IsWidth base.width) {text output : List ℕ} {re
         sym (whole_bytes base width n) ∙ ap (λ k. base.width * k / 8) all in
         let end : read + n * dec ≡ read + (count + padding) =
         omega (arith, all, no_padding none) in
-        rw bytes at (decoded (under_way width reached.exact reached.so_far) (none-after (read + n * dec) end))
+        rw bytes at (decoded (under_way width reached.exact reached.so_far)
+        (none-after (read + n * dec) end))
 
     -- the last group
     module _ (some : 0 < left)

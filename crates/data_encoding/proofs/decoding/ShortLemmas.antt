@@ -1,5 +1,5 @@
 -- Whole groups of symbols more, where no byte before them is ignored since the last group.
-use Rattle.std.proofs.Common.{◌≡◌, ℕ, zero, suc, Some, is_some, ◌+◌, ◌-◌, ◌*◌, ◌/◌, ◌<◌, ◌≤◌, true, List, [], ◌++◌, length, take, drop, get_or, replicate, refl, sym, ap, ◌∙◌, arith, length-append, length-take-le, append-nil, subst}
+use Rattle.std.proofs.Common.{◌≡◌, ℕ, zero, suc, Some, is_some, ◌+◌, ◌-◌, ◌*◌, ◌/◌, ◌<◌, ◌≤◌, true, List, [], ◌++◌, length, take, drop, get_or, replicate, refl, ap, ◌∙◌, arith, length-append, append-nil, subst}
 use Rattle.std.proofs.Math.Nat.{div-mul-le_self, zero-mul}
 use Rattle.std.proofs.lemmas.List.{length-drop, length-take, take-append-le, take-take, take_all, take_at, take_rest}
 use Rattle.data_encoding_meaning.specs.text.Base.{Base, IsWidth, group_bytes, group_symbols, is_padding, is_symbol, meaning}

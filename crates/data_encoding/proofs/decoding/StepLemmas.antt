@@ -101,7 +101,8 @@ module _ {base : Base} {text : List ℕ} {read written : ℕ} {ended : Bool} {ou
 
   -- nothing is left if nothing is gathered
   none-left : (start : ℕ) → start ≤ length text → {group : List ℕ} {span : ℕ}
-      → IsGathered base (group_symbols base.width) (take (length text - start) (drop start text)) group span
+      → IsGathered base (group_symbols base.width) (take (length text - start) (drop start text))
+      group span
       → {empty : Bool} → empty ≡ (length group == 0) → empty ≡ true
       → kept_from base start text ≡ []
   none-left start within {group} {span} is empty_is empty =
@@ -140,7 +141,8 @@ module _ {base : Base} {text : List ℕ} {read written : ℕ} {ended : Bool} {ou
       ∙ greatest-valid base s.width len)))
 
   module _ {group : List ℕ} {span : ℕ}
-      (is : IsGathered base (group_symbols base.width) (take (length text - read) (drop read text)) group span)
+      (is : IsGathered base (group_symbols base.width) (take (length text - read) (drop read text))
+      group span)
     where
       -- a text that ends there means what was written
       pub decoded-empty : {empty : Bool} → empty ≡ (length group == 0) → empty ≡ true
@@ -284,15 +286,18 @@ module _ {base : Base} {text : List ℕ} {read written : ℕ} {output : List ℕ
     module _ {group : List ℕ} {span : ℕ}
         (is : IsGathered base (group_symbols base.width)
         (take (length text - (read + skip)) (drop (read + skip) text)) group span) where
-      found_after : IsGathered base (group_symbols base.width) (drop skip (drop read text)) group span
+      found_after : IsGathered base (group_symbols base.width) (drop skip (drop read text)) group
+          span
       found_after = rw (take_rest text start, ← drop-drop skip read text) at is
 
       pub gathered-next : 0 < length group
-          → IsGathered base (group_symbols base.width) (take (length text - read) (drop read text)) group
+          → IsGathered base (group_symbols base.width) (take (length text - read) (drop read text))
+          group
           (skip + span)
       gathered-next some =
           rw (take_rest text read)
-          (gathered-after base (group_symbols base.width) (drop read text) group skip span front found_after
+          (gathered-after base (group_symbols base.width) (drop read text) group skip span front
+          found_after
           (omega (arith, some, gathered-few found_after)))
 
       pub decoded-none : {empty : Bool} → empty ≡ (length group == 0) → empty ≡ true
@@ -303,7 +308,8 @@ module _ {base : Base} {text : List ℕ} {read written : ℕ} {output : List ℕ
 
   -- what a group does
   module _ {group : List ℕ} {span : ℕ}
-      (is : IsGathered base (group_symbols base.width) (take (length text - read) (drop read text)) group span)
+      (is : IsGathered base (group_symbols base.width) (take (length text - read) (drop read text))
+      group span)
       (some : 0 < length group) {count : ℕ} {rest : List ℕ}
       (rest_len : length rest
       ≡ length (take (length output - written) (drop written output)))

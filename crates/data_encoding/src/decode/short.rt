@@ -167,7 +167,8 @@ impl EncodingRef<'_> {
         at
     }
 
-    /// Stores what the last symbols mean if the text is valid, or else what their whole groups mean.
+    /// Stores what the last symbols mean if the text is valid, or else what their whole groups
+    /// mean.
     #[inline(always)]
     fn decode_last(
         &self,
@@ -196,8 +197,8 @@ impl EncodingRef<'_> {
         is_valid
     }
 
-    /// Returns `true` if a text may end with these symbols, their trailing bits, and the bytes after
-    /// them.
+    /// Returns `true` if a text may end with these symbols, their trailing bits, and the bytes
+    /// after them.
     #[inline(always)]
     fn is_end(&self, front: &Front, join: &Join, rest: &[u8]) -> bool
         requires join { JoinsSymbols self.now join.now }
@@ -268,14 +269,16 @@ impl EncodingRef<'_> {
         front.count_alike(self.fields.padding).min(len)
     }
 
-    /// Returns `true` if all bytes are ignored. `others` has the bits of those that are not symbols.
+    /// Returns `true` if all bytes are ignored. `others` has the bits of those that are not
+    /// symbols.
     #[inline(always)]
     fn are_ignored(&self, others: u64, rest: &[u8]) -> bool
         requires few { length rest.now ≤ 16 }
         ensures { IsTrue result → kept self.now rest.now ≡ [] }
     {
         for index in 0..rest.len() {
-            // The table is read only at a byte that is not a symbol, so no address depends on a symbol.
+            // The table is read only at a byte that is not a symbol, so no address depends on a
+            // symbol.
             let is_other = (others >> index) % 2 == 1;
             if !is_other || self.fields.values.entries[rest[index] as usize] != IGNORED {
                 return false;

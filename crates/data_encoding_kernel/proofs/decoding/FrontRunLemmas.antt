@@ -75,13 +75,15 @@ module _ (base : Base) (width : IsWidth base.width) where
       let more : length (b ++ d) / 8 * 8 ≡ length b + length d / 8 * 8 =
       omega (arith, len, whole) in
       let own : length b / 8 * 8 ≡ length b = omega (arith, whole) in
-      let all : take (length b / 8 * 8) b ≡ b = ap (λ m. take m b) own ∙ take_all (length b) b (omega arith)
+      let all : take (length b / 8 * 8) b ≡ b = ap (λ m. take m b) own ∙ take_all (length b) b
+      (omega arith)
       in
       let eight : length b % 8 ≡ 0 = omega (arith, whole) in
       ap (λ l. map (number_of base.order) (runs 8 (take (length l / 8 * 8) l))) (bits-join xs ys)
       ∙ ap (λ m. map (number_of base.order) (runs 8 (take m (b ++ d)))) more
       ∙ ap (λ l. map (number_of base.order) (runs 8 l)) (take-append-add b d (length d / 8 * 8))
-      ∙ ap (map (number_of base.order)) (runs-join 8 b (take (length d / 8 * 8) d) (omega arith) eight)
+      ∙ ap (map (number_of base.order)) (runs-join 8 b (take (length d / 8 * 8) d) (omega arith)
+      eight)
       ∙ map-append (number_of base.order) (runs 8 b) (runs 8 (take (length d / 8 * 8) d))
       ∙ ap (λ l. map (number_of base.order) (runs 8 l) ++ bytes ys) (sym all)
 
@@ -100,7 +102,12 @@ module _ (base : Base) (width : IsWidth base.width) where
       → ((k : ℕ) → k < m * dec → is_symbol (meaning base (slice_index xs k)) ≡ true)
       → take (m * enc) (bytes xs) ≡ run_bytes base (take (m * dec) xs)
   front-bytes zero xs within symbols =
-      rw (zero-mul enc, zero-mul dec, runs-nil {X = Character} dec (group_symbols-pos base.width width)) refl
+      rw (
+        zero-mul enc,
+        zero-mul dec,
+        runs-nil {X = Character} dec
+            (group_symbols-pos base.width width),
+      ) refl
   front-bytes (suc m) xs within symbols =
       let more : suc m * dec ≡ dec + m * dec = omega arith in
       let first = take dec xs in

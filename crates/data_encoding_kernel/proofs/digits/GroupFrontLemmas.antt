@@ -85,7 +85,8 @@ joined-group base values width order reads group n fits within few low bytes mad
     let inside : k < n = omega (arith, h, part_len) in
     rw (get_or-take n group k 0 inside) (low k inside)) in
     record {
-      are_symbols = λ k h. ap is_symbol (reads.holds.symbols (slice_index group k) (fits k) (low k h));
+      are_symbols = λ k h. ap is_symbol (reads.holds.symbols (slice_index group k) (fits k)
+          (low k h));
       whole = ap (λ m. take m bytes) (sym count) ∙ ap (take (width * length xs / 8)) made
           ∙ joined-whole order width 16 (width * length xs / 8) xs (omega (arith, most)) refl
           ∙ sym (λ i. bytes_by (reads.order_is i) (reads.width_is i) (found i));

@@ -90,7 +90,8 @@ pub firsts-are : (alphabet : OffsetAlphabet) (values : List ℕ) → length valu
     ≡ map (first_of alphabet) values
 firsts-are alphabet values long =
     let others = leb alphabet.bound in
-    let tests : map (top 7) (zip2 at_most (replicate 64 alphabet.bound) values) ≡ map others values =
+    let tests : map (top 7) (zip2 at_most (replicate 64 alphabet.bound) values) ≡ map others values
+    =
     tops_compared w8 leb (replicate 64 alphabet.bound) values
     ∙ zip2_splat_left leb alphabet.bound 64 values long in
     (λ i. sel_l (tests i) (splat_is_map values 64 0 long i)

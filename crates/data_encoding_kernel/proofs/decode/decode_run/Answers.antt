@@ -1,4 +1,4 @@
-use Rattle.std.proofs.Common.{◌≡◌, ◌*◌, ◌/◌, ◌%◌, take, refl, ap, ◌∙◌, sym, arith}
+use Rattle.std.proofs.Common.{◌≡◌, ◌*◌, ◌/◌, ◌%◌, take, refl, ap, ◌∙◌, arith}
 use Rattle.std.proofs.Math.Nat.{mul-mod_left, zero-mod}
 use Rattle.data_encoding_meaning.specs.text.Base.{group_symbols}
 use Rattle.data_encoding_meaning.proofs.digits.WidthLemmas.{group_symbols-pos}
@@ -13,7 +13,8 @@ returns-then-whole_groups-at-clause-run g c =
     let count = c.decode_line-at.result / s in
     rw (
       c.whole_groups-then-whole_groups-at.ensures,
-      groups-of_product count s refl (group_symbols-pos c.args.join.now.width (join-width c.requires.join)),
+      groups-of_product count s refl (group_symbols-pos c.args.join.now.width
+          (join-width c.requires.join)),
     ) (c.decode_line-at.ensures.run c.args.values.now c.requires.held)
 
 pub returns-then-whole_groups-at-clause-whole : goal.returns-then-whole_groups-at-clause-whole
@@ -38,6 +39,11 @@ decode_windows-requires-clause-begun g c = λ values held base reads.
     elim c.if-input-turn.branch [
       | then-input-turn+else-whole_groups-at+else-len-at w ↦ rw (w.at-is, w.output-is)
           (run-same base (w.decode_line-at.ensures.run values held base reads))
-      | else-input-turn w ↦ rw (w.at-is, w.output-is, zero-groups (group_symbols c.args.join.now.width))
+      | else-input-turn w ↦ rw (
+        w.at-is,
+        w.output-is,
+        zero-groups
+            (group_symbols c.args.join.now.width),
+      )
           (run-none base reads.holds.is_width (take c.args.len c.args.input.now) _ _)
     ]

@@ -1,4 +1,4 @@
-use Rattle.std.proofs.Common.{◌≡◌, ℕ, List, ◌+◌, ◌-◌, ◌*◌, ◌/◌, ◌<◌, ◌≤◌, length, take, drop, replicate, ◌%◌, refl, sym, ap, ◌∙◌, arith}
+use Rattle.std.proofs.Common.{◌≡◌, ℕ, List, ◌+◌, ◌-◌, ◌*◌, ◌/◌, ◌≤◌, length, take, drop, replicate, ◌%◌, refl, sym, ap, ◌∙◌, arith}
 use Rattle.std.proofs.lemmas.List.{length-drop, length-take, take-append-le, take-take}
 use Rattle.std.proofs.Math.Nat.{add-mul, mul-mod_left}
 use Rattle.std.proofs.lemmas.Nat.{div-add-mod'}
@@ -135,7 +135,11 @@ run g c = λ values held base reads.
           (length c.loop-at.output - c.groups_len-written.result) c.loop-at.output
           (omega (arith, room_is, c.groups_len-written.ensures)),
     ) in
-    rw (c.whole_groups-read.ensures, ← groups-whole at n some c.loop-at.invariant.whole, c.groups_len-written.ensures)
+    rw (
+      c.whole_groups-read.ensures,
+      ← groups-whole at n some c.loop-at.invariant.whole,
+      c.groups_len-written.ensures,
+    )
     (window-run base reads.holds.is_width refl refl (ap group_symbols (sym reads.width_is))
     (ap group_bytes (sym reads.width_is)) input c.load_at.result front.bytes c.args.output.now
     c.loop-at.output c.store_lanes.new.output at n _ c.loop-at.invariant.whole (within g before)

@@ -49,5 +49,11 @@ returns-clause-front c =
           (omega (arith, c.requires.join.few)) j)))) i
           ++ drop-replicate width 16 0 i)
           ∙ word-joined order width _ c.requires.join.few
-          (omega (arith, length-map part (slice_index values), part_len, within.0, c.requires.few)));
+          (omega (
+            arith,
+            length-map part (slice_index values),
+            part_len,
+            within.0,
+            c.requires.few,
+          )));
     }

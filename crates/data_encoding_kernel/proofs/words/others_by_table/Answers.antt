@@ -36,14 +36,16 @@ loop-index-preserved c =
     elim c.if-entry_of-ge128.branch [
       | then-entry_of-ge128 w ↦
           let other : (k : ℕ) → (k ≡ index → ⊥) → bit_at new k ≡ bit_at old k =
-          λ k apart. ap (λ m. bit_at m k) w.others-is ∙ bit_at_set_other w64 old index small k apart in
+          λ k apart. ap (λ m. bit_at m k) w.others-is ∙ bit_at_set_other w64 old index small k apart
+          in
           let here : bit_at new index ≡ 1 =
           ap (λ m. bit_at m index) w.others-is ∙ bit_at_set_same w64 old index small in
           record {
             end = other (length group) (λ same. omega (arith, inside, same)) ∙ before.end;
             clear = λ k from h. other k (λ same. omega (arith, from, same))
                 ∙ before.clear k (omega (arith, from)) h;
-            so_far = below_more (λ k. (bit_at new k ≡ 0 → entry k < 128) × (bit_at new k ≡ 1 → 128 ≤ entry k)) index
+            so_far = below_more (λ k. (bit_at new k ≡ 0 → entry k < 128) ×
+                (bit_at new k ≡ 1 → 128 ≤ entry k)) index
                 (λ k h. kept k (other k (λ same. omega (arith, h, same))) h) (
                   λ z. absurd (omega (arith, z, here)),
                   λ _. omega (arith, w.if-entry_of-ge128.true, c.entry_of.ensures),
@@ -55,7 +57,8 @@ loop-index-preserved c =
           record {
             end = same (length group) ∙ before.end;
             clear = λ k from h. same k ∙ before.clear k (omega (arith, from)) h;
-            so_far = below_more (λ k. (bit_at new k ≡ 0 → entry k < 128) × (bit_at new k ≡ 1 → 128 ≤ entry k)) index
+            so_far = below_more (λ k. (bit_at new k ≡ 0 → entry k < 128) ×
+                (bit_at new k ≡ 1 → 128 ≤ entry k)) index
                 (λ k h. kept k (same k) h) (
                   λ _. omega (arith, w.if-entry_of-ge128.false, c.entry_of.ensures),
                   λ one. absurd

@@ -26,8 +26,8 @@ pub struct Join {
     places: [u8; 16],
     /// The bits of two values.
     pair: u32,
-    /// Four values of an odd width are not whole bytes: then two lanes of four values are moved up by
-    /// these and added.
+    /// Four values of an odd width are not whole bytes: then two lanes of four values are moved up
+    /// by these and added.
     first_up: u64,
     second_up: u64,
     /// The number of symbols of a whole group, its binary logarithm, and the number of bytes.
@@ -49,7 +49,7 @@ macro_rules! four_times {
 
 // A row of `JOINS`, the most significant bit first.
 macro_rules! most_first {
-    ($width:literal, $group_log:literal, $weight:literal, $pair:literal, $up:literal, $places:expr) => {
+    ($width:literal, $log:literal, $weight:literal, $pair:literal, $up:literal, $places:expr) => {
         Join {
             higher: four_times!($weight, 1, 0, 0),
             lower: four_times!(0, 0, $weight, 1),
@@ -57,9 +57,9 @@ macro_rules! most_first {
             pair: $pair,
             first_up: $up,
             second_up: 0,
-            group: 1 << $group_log,
-            group_log: $group_log,
-            group_bytes: ($width << $group_log) / 8,
+            group: 1 << $log,
+            group_log: $log,
+            group_bytes: ($width << $log) / 8,
             order: BitOrder::MostSignificantFirst,
             width: $width,
         }
@@ -68,7 +68,7 @@ macro_rules! most_first {
 
 // A row of `JOINS`, the least significant bit first.
 macro_rules! least_first {
-    ($width:literal, $group_log:literal, $weight:literal, $pair:literal, $up:literal, $places:expr) => {
+    ($width:literal, $log:literal, $weight:literal, $pair:literal, $up:literal, $places:expr) => {
         Join {
             higher: four_times!(0, 0, 1, $weight),
             lower: four_times!(1, $weight, 0, 0),
@@ -76,9 +76,9 @@ macro_rules! least_first {
             pair: $pair,
             first_up: 0,
             second_up: $up,
-            group: 1 << $group_log,
-            group_log: $group_log,
-            group_bytes: ($width << $group_log) / 8,
+            group: 1 << $log,
+            group_log: $log,
+            group_bytes: ($width << $log) / 8,
             order: BitOrder::LeastSignificantFirst,
             width: $width,
         }
@@ -100,8 +100,8 @@ const NO_JOIN: Join = Join {
     width: 0,
 };
 
-/// The joins of each width from index 1 on, the most significant bit first, and of each from index 9
-/// on, the least significant bit first.
+/// The joins of each width from index 1 on, the most significant bit first, and of each from index
+/// 9 on, the least significant bit first.
 static JOINS: [Join; 16] = [
     NO_JOIN,
     most_first!(

@@ -21,14 +21,16 @@ returns-then-is_empty c = λ output exact so_far.
 pub returns-then-is_empty-2 : goal.returns-then-is_empty-2
 returns-then-is_empty-2 c = λ output exact so_far.
     let now = under_way c.requires.width exact so_far in
-    decoded-empty now (rw c.requires.symbols at c.next_group.ensures) c.is_empty-2.ensures c.if-is_empty-2.true
+    decoded-empty now (rw c.requires.symbols at c.next_group.ensures) c.is_empty-2.ensures
+    c.if-is_empty-2.true
 
 pub returns : goal.returns
 returns c = λ output exact so_far.
     let now = under_way c.requires.width exact so_far in
     let written = c.args.stop.now.written in
     let rest = mid_of written (length output - written) output in
-    let some = some-group (rw c.requires.symbols at c.next_group.ensures) c.is_empty-2.ensures c.if-is_empty-2.false in
+    let some = some-group (rw c.requires.symbols at c.next_group.ensures) c.is_empty-2.ensures
+    c.if-is_empty-2.false in
     rw (put_same written (length output - written) output) at
     (group-stopped now (rw c.requires.symbols at c.next_group.ensures)
     (record { inside = some; is_fault = λ placed same. refl }) rest refl)

@@ -25,8 +25,10 @@ returns g c =
     let b = group_bytes base.width in
     let count = c.decode_iterations-read.result / s in
     let reads : Reads base finds.values c.args.join.now.width c.args.join.now.order =
-    record { width_is = sym joins.width_is; order_is = sym joins.order_is; holds = finds.is_table } in
-    let run = rw joins.width_is at (c.decode_iterations-read.ensures.run finds.values finds.held base reads) in
+    record { width_is = sym joins.width_is; order_is = sym joins.order_is; holds = finds.is_table }
+    in
+    let run = rw joins.width_is at (c.decode_iterations-read.ensures.run finds.values finds.held
+    base reads) in
     let read : c.whole_groups-read.result ≡ count * s =
     c.whole_groups-read.ensures
     ∙ (λ i. c.decode_iterations-read.result / group_symbols (joins.width_is i)

@@ -1,4 +1,4 @@
-use Rattle.std.proofs.Common.{◌≡◌, ◌+◌, ◌*◌, ◌/◌, ◌++◌, ◌-◌, length, take, drop, replicate, refl, sym, ap, ◌∙◌, arith}
+use Rattle.std.proofs.Common.{◌≡◌, ◌+◌, ◌*◌, ◌/◌, ◌-◌, length, take, drop, replicate, refl, sym, ap, ◌∙◌, arith}
 use Rattle.std.proofs.lemmas.List.{take_at, take_rest}
 use Rattle.std.proofs.lemmas.Nat.{div-add-mod'}
 use Rattle.data_encoding_kernel.specs.Tables.{Reads}
@@ -51,7 +51,8 @@ returns-then-rest-gt8-clause-begun c =
     reached (goal.at.returns-then-rest-gt8-clause-begun c).After-groups_len
 
 pub decode_last-requires-clause-at : goal.decode_last-requires-clause-at
-decode_last-requires-clause-at c = reached (goal.at.decode_last-requires-clause-at c).After-groups_len
+decode_last-requires-clause-at c = reached (goal.at.decode_last-requires-clause-at
+    c).After-groups_len
 
 pub decode_last-requires-clause-front : goal.decode_last-requires-clause-front
 decode_last-requires-clause-front c =

@@ -1,4 +1,4 @@
-use Rattle.std.proofs.Common.{◌≡◌, ◌+◌, ◌-◌, ◌*◌, ◌/◌, ◌≤◌, ◌==◌, ◌&&◌, ◌++◌, not, false, length, take, drop, slice_index, refl, sym, ap, subst, ◌∙◌, arith, length-drop, IsTrue}
+use Rattle.std.proofs.Common.{◌≡◌, ◌-◌, ◌*◌, ◌/◌, ◌≤◌, ◌==◌, ◌&&◌, ◌++◌, not, false, length, take, drop, slice_index, refl, sym, ap, subst, ◌∙◌, arith, length-drop, IsTrue}
 use Rattle.std.proofs.lemmas.Bool.Decides.{nat_tests}
 use Rattle.std.proofs.lemmas.List.{take_rest}
 use Rattle.data_encoding_meaning.specs.text.Base.{group_bytes, group_symbols}
@@ -90,7 +90,8 @@ returns c =
     elim c.if-is_valid.branch [
       | then-is_valid w ↦
           let is_true = subst IsTrue (sym w.if-is_valid.true) refl in
-          let ends = rw (take_rest input c.args.at.read) at (c.is_end-is_valid.ensures.end is_true) in
+          let ends = rw (take_rest input c.args.at.read) at (c.is_end-is_valid.ensures.end is_true)
+          in
           let m = base.width * front.symbols / 8 in
           let bytes : c.bytes_len-count.result ≡ m =
           c.bytes_len-count.ensures ∙ (λ i. c.requires.join.width_is i * w.symbols-is i / 8) in

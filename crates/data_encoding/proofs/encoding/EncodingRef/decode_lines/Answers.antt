@@ -36,7 +36,8 @@ decode_line-found-requires-clause-bytes g c =
     ∙ ap (λ n. n / s) (omega arith)
     ∙ groups-of_product (count * 8) s refl
     (group_symbols-pos w (join-width c.requires.entries.join)) in
-    let turns : count * (8 * c.group_symbols-turn.result) ≡ count * c.group_symbols-turn.result * 8 =
+    let turns : count * (8 * c.group_symbols-turn.result) ≡ count * c.group_symbols-turn.result * 8
+    =
     omega arith in
     let written : c.groups_len-written_len.result ≡ count * 8 * group_bytes c.args.self.now.width =
     c.groups_len-written_len.ensures

@@ -30,7 +30,8 @@ decode_last-requires-clause-front g c =
     let found = c.decode_front-front.ensures in
     let join = c.join-join.result.now in
     let reads : Reads c.args.self.now finds.values join.width join.order =
-    record { width_is = sym joins.width_is; order_is = sym joins.order_is; holds = finds.is_table } in
+    record { width_is = sym joins.width_is; order_is = sym joins.order_is; holds = finds.is_table }
+    in
     let len : length rest ≡ length c.args.input.now - c.decode_windows-at.result.read =
     length-drop c.decode_windows-at.result.read c.args.input.now in
     loaded c.args.self.now rest c.decode_front-front.result c.load_at.result

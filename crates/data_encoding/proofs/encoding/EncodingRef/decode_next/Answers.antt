@@ -34,15 +34,18 @@ gathered g c =
 pub returns-then-is_empty : goal.returns-then-is_empty
 returns-then-is_empty g c =
     decoded-none (under_way c.requires.entries.reads.holds.is_width
-    c.requires.at.exact c.requires.at.so_far) c.requires.at.front (gathered g (goal.at.returns-then-is_empty g c).After-next_group-group)
+    c.requires.at.exact c.requires.at.so_far) c.requires.at.front
+    (gathered g (goal.at.returns-then-is_empty g c).After-next_group-group)
     c.is_empty.ensures c.if-is_empty.true
 
 pub decode_group-requires-clause-room : goal.decode_group-requires-clause-room
 decode_group-requires-clause-room g c =
     let now = under_way c.requires.entries.reads.holds.is_width c.requires.at.exact
     c.requires.at.so_far in
-    let some = some-group (gathered g (goal.at.decode_group-requires-clause-room g c).After-next_group-group) c.is_empty.ensures c.if-is_empty.false in
-    room-next_group now (gathered-next now c.requires.at.front (gathered g (goal.at.decode_group-requires-clause-room g c).After-next_group-group) some)
+    let some = some-group (gathered g (goal.at.decode_group-requires-clause-room g
+    c).After-next_group-group) c.is_empty.ensures c.if-is_empty.false in
+    room-next_group now (gathered-next now c.requires.at.front
+    (gathered g (goal.at.decode_group-requires-clause-room g c).After-next_group-group) some)
 
 pub bytes_len-requires : goal.bytes_len-requires
 bytes_len-requires g c =
@@ -105,7 +108,8 @@ returns-then-not-self g c =
 
 pub returns : goal.returns
 returns g c =
-    let some = some-group (gathered g (goal.at.returns g c).After-next_group-group) c.is_empty.ensures c.if-is_empty.false in
+    let some = some-group (gathered g (goal.at.returns g c).After-next_group-group)
+    c.is_empty.ensures c.if-is_empty.false in
     let few = gathered-few (gathered g (goal.at.returns g c).After-next_group-group) in
     let more = after g (goal.at.returns g c).After-bytes_len (final-not _ _ c.self.view_is
     (elim c.else-count-group.branch [
@@ -118,9 +122,11 @@ pub returns-in-Err : goal.returns-in-Err
 returns-in-Err g c =
     let now = under_way c.requires.entries.reads.holds.is_width c.requires.at.exact
     c.requires.at.so_far in
-    let some = some-group (gathered g (goal.at.returns-in-Err g c).After-next_group-group) c.is_empty.ensures c.if-is_empty.false in
+    let some = some-group (gathered g (goal.at.returns-in-Err g c).After-next_group-group)
+    c.is_empty.ensures c.if-is_empty.false in
     rw c.new.ensures (group-stopped now
-    (gathered-next now c.requires.at.front (gathered g (goal.at.returns-in-Err g c).After-next_group-group) some) c.in-Err.ensures.fault _
+    (gathered-next now c.requires.at.front (gathered g
+    (goal.at.returns-in-Err g c).After-next_group-group) some) c.in-Err.ensures.fault _
     c.decode_group.auto.output)
 
 pub overflow_add-start : goal.overflow_add-start
@@ -136,7 +142,14 @@ slice_bounds-rest-count g c = c.requires.at.so_far.fits
 
 pub overflow_add-stop : goal.overflow_add-stop
 overflow_add-stop g c =
-    record { fits = omega (arith, length-drop {A = ℕ}, (gathered g (goal.at.overflow_add-stop g c).After-next_group-group).within) }
+    record {
+      fits = omega (
+        arith,
+        length-drop {A = ℕ},
+        (gathered g (goal.at.overflow_add-stop g c).After-next_group-group).within,
+      );
+    }
 
 pub decode_group-requires-clause-few : goal.decode_group-requires-clause-few
-decode_group-requires-clause-few g c = (gathered g (goal.at.decode_group-requires-clause-few g c).After-next_group-group).few
+decode_group-requires-clause-few g c = (gathered g
+    (goal.at.decode_group-requires-clause-few g c).After-next_group-group).few

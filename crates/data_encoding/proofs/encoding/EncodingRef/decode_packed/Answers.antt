@@ -1,4 +1,4 @@
-use Rattle.std.proofs.Common.{◌≡◌, ◌+◌, ◌-◌, ◌/◌, ◌<◌, ◌≤◌, length, take, drop, sym, ap, arith, length-take-le}
+use Rattle.std.proofs.Common.{◌≡◌, ◌+◌, ◌-◌, ◌/◌, ◌<◌, ◌≤◌, length, take, drop, ap, arith, length-take-le}
 use Rattle.std.proofs.Math.Nat.{mul-le-mul_right}
 use Rattle.std.proofs.lemmas.List.{take_rest}
 use Rattle.std.proofs.lemmas.Nat.{le-div}
@@ -40,7 +40,8 @@ decode_groups-found-requires-clause-room g c =
 
 pub returns-then-found-eq0 : goal.returns-then-found-eq0
 returns-then-found-eq0 g c =
-    goes-nowhere_rest _ c.requires.entries.reads.holds.is_width c.requires.at c.decode_groups-found.auto.output
+    goes-nowhere_rest _ c.requires.entries.reads.holds.is_width c.requires.at
+    c.decode_groups-found.auto.output
 
 -- the packed groups, placed in the text
 reached : (g : Over) (c : After-span_before-end g)

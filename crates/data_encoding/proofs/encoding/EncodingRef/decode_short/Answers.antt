@@ -15,7 +15,8 @@ decode_last-requires-clause-front g c =
     let found = c.decode_front-front.ensures in
     let join = c.join-join.result.now in
     let reads : Reads c.args.self.now finds.values join.width join.order =
-    record { width_is = sym joins.width_is; order_is = sym joins.order_is; holds = finds.is_table } in
+    record { width_is = sym joins.width_is; order_is = sym joins.order_is; holds = finds.is_table }
+    in
     loaded c.args.self.now input c.decode_front-front.result c.load_padded.result
     (c.load_padded.ensures
     ∙ ap (λ l. l ++ replicate (16 - length input) 0) (sym (take_all 16 input c.requires.few)))

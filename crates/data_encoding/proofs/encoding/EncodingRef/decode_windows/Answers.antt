@@ -1,5 +1,5 @@
-use Rattle.std.proofs.Common.{◌≡◌, ◌+◌, ◌-◌, ◌*◌, ◌/◌, ◌≤◌, length, take, drop, sym, ap, ◌∙◌, arith, length-drop}
-use Rattle.std.proofs.lemmas.List.{take-take, take_rest}
+use Rattle.std.proofs.Common.{◌≡◌, ◌+◌, ◌-◌, ◌*◌, ◌≤◌, length, take, drop, sym, ap, arith}
+use Rattle.std.proofs.lemmas.List.{take-take}
 use Rattle.data_encoding_kernel.specs.Fronts.{IsFront}
 use Rattle.data_encoding_kernel.specs.Tables.{Reads}
 use Rattle.data_encoding.proofs.decoding.ShortLemmas.{front-part, front-reached, front-room, joins-width, sixteen, stored}
@@ -15,7 +15,8 @@ front g c =
     let finds = c.requires.finds in
     let rest = drop c.loop-at.at.read c.args.input.now in
     let reads : Reads c.args.self.now finds.values c.args.join.now.width c.args.join.now.order =
-    record { width_is = sym joins.width_is; order_is = sym joins.order_is; holds = finds.is_table } in
+    record { width_is = sym joins.width_is; order_is = sym joins.order_is; holds = finds.is_table }
+    in
     let front = c.decode_whole.ensures.front c.in-Some.decoded c.in-Some.is finds.values finds.held
     c.args.self.now reads in
     let width : c.loop-at.at.read + 16 - c.loop-at.at.read ≡ 16 = omega arith in
@@ -46,6 +47,7 @@ loop-at-preserved g c =
     let room = take (length c.loop-at.output - at.written) (drop at.written c.loop-at.output) in
     rw joins.width_is (rw (both.0, both.1) at (front-reached width c.loop-at.invariant is enough
     c.store_front.new.output c.store_front.auto.output
-    (rw both.1 (stored c.in-Some.decoded room c.store_front.new.output (2 * c.args.self.now.width) (rw (← joins.width_is) c.store_front.ensures)
+    (rw both.1 (stored c.in-Some.decoded room c.store_front.new.output (2 * c.args.self.now.width)
+    (rw (← joins.width_is) c.store_front.ensures)
     c.store_front.auto.output
     (rw both.1 at (front-room width c.loop-at.invariant is enough))))))

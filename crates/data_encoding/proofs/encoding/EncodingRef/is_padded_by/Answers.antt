@@ -12,7 +12,8 @@ returns c =
     record {
       padded = ap is_padded (sym c.self.view_is) ∙ sym c.is_padded.ensures
           ∙ c.if-not-is_padded.false;
-      few = subst (λ n. c.args.count < n) (c.group_symbols.ensures ∙ ap group_symbols joins.width_is)
+      few = subst (λ n. c.args.count < n) (c.group_symbols.ensures ∙ ap group_symbols
+          joins.width_is)
           c.if-count-group_symbols.false;
       valid = rw (← joins.width_is) (grind (arith, nat_tests, c.if-join-front.false));
       are = λ k less.

@@ -36,7 +36,8 @@ returns-then-len-ge8-clause-inside c =
 pub returns-then-len-ge8-clause-padding : goal.returns-then-len-ge8-clause-padding
 returns-then-len-ge8-clause-padding c =
     pads-eight c.self.invariant c.self.view_is c.args.input.now _ c.requires.exact _
-    c.symbol_count-count.ensures c.in-Some.character (sym c.padding_character.ensures ∙ c.in-Some.is) _
+    c.symbol_count-count.ensures c.in-Some.character
+    (sym c.padding_character.ensures ∙ c.in-Some.is) _
     (c.fill.ensures.after (λ y same. same))
 
 pub returns-then-len-ge4-clause-inside : goal.returns-then-len-ge4-clause-inside
@@ -47,7 +48,8 @@ returns-then-len-ge4-clause-inside c =
 pub returns-then-len-ge4-clause-padding : goal.returns-then-len-ge4-clause-padding
 returns-then-len-ge4-clause-padding c =
     pads-four c.self.invariant c.self.view_is c.args.input.now _ c.requires.exact _
-    c.symbol_count-count.ensures c.in-Some.character (sym c.padding_character.ensures ∙ c.in-Some.is)
+    c.symbol_count-count.ensures c.in-Some.character
+    (sym c.padding_character.ensures ∙ c.in-Some.is)
     (omega arith) _ (c.fill-then-len-ge4.ensures.after (λ y same. same))
 
 pub returns-else-len-ge4-clause-inside : goal.returns-else-len-ge4-clause-inside
@@ -58,5 +60,6 @@ returns-else-len-ge4-clause-inside c =
 pub returns-else-len-ge4-clause-padding : goal.returns-else-len-ge4-clause-padding
 returns-else-len-ge4-clause-padding c =
     pads-none c.self.invariant c.self.view_is c.args.input.now _ c.requires.exact _
-    c.symbol_count-count.ensures c.in-Some.character (sym c.padding_character.ensures ∙ c.in-Some.is)
+    c.symbol_count-count.ensures c.in-Some.character
+    (sym c.padding_character.ensures ∙ c.in-Some.is)
     (omega arith)

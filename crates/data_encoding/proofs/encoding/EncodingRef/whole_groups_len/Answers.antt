@@ -12,7 +12,8 @@ returns-then-last-eq0-clause-whole c =
     (ascii-seen _ c.self.invariant seen c.self.view_is) in
     let size = c.group_len.ensures.value in
     let count = c.count_kept.ensures seen ignored in
-    rw (take_all (length text) text (omega arith)) (omega (arith, rw (size, count) at c.if-last-eq0.true))
+    rw (take_all (length text) text (omega arith))
+    (omega (arith, rw (size, count) at c.if-last-eq0.true))
 
 pub returns-clause-whole : goal.returns-clause-whole
 returns-clause-whole c =

@@ -14,7 +14,8 @@ returns-in-2 g c =
     c.count_below.result c.requires.symbols
     (λ j. (c.type_inv.input j).fits)
     c.count_below.ensures.lanes c.count_below.ensures.few
-    c.count_below.ensures.below c.count_below.ensures.stop c.look_up_16-entries.ensures c.words_of_two.ensures
+    c.count_below.ensures.below c.count_below.ensures.stop c.look_up_16-entries.ensures
+    c.words_of_two.ensures
 
 pub returns-in-4 : goal.returns-in-4
 returns-in-4 g c =
@@ -26,7 +27,8 @@ returns-in-4 g c =
     c.count_below-in-4.result c.requires.symbols
     (λ j. (c.type_inv.input j).fits)
     c.count_below-in-4.ensures.lanes c.count_below-in-4.ensures.few
-    c.count_below-in-4.ensures.below c.count_below-in-4.ensures.stop c.look_up_32-entries.ensures c.words_of_four.ensures
+    c.count_below-in-4.ensures.below c.count_below-in-4.ensures.stop c.look_up_32-entries.ensures
+    c.words_of_four.ensures
 
 pub returns-in_default : goal.returns-in_default
 returns-in_default g c =
@@ -39,7 +41,8 @@ returns-in_default g c =
     c.count_below-in_default.result c.requires.symbols
     (λ j. (c.type_inv.input j).fits)
     c.count_below-in_default.ensures.lanes c.count_below-in_default.ensures.few
-    c.count_below-in_default.ensures.below c.count_below-in_default.ensures.stop c.look_up_64-entries.ensures c.words_of_eight.ensures
+    c.count_below-in_default.ensures.below c.count_below-in_default.ensures.stop
+    c.look_up_64-entries.ensures c.words_of_eight.ensures
 
 pub bounds-input-0-in_default : goal.bounds-input-0-in_default
 bounds-input-0-in_default g c =

@@ -29,7 +29,8 @@ returns-in-Err-clause-reads c =
       symbols = omega (
         arith,
         text-is,
-        c.run_len-len.ensures.len (⊎_elim (λ (w : _ × _). inl w.0) inr c.in-Err.ensures.group.whole),
+        c.run_len-len.ensures.len (⊎_elim (λ (w : _ × _). inl w.0) inr
+            c.in-Err.ensures.group.whole),
       );
       bytes = omega (
         arith,

@@ -1,5 +1,4 @@
-use Rattle.std.proofs.Common.{◌≡◌, ◌+◌, ◌*◌, ◌/◌, ◌≤◌, refl, ap, ◌∙◌, arith}
-use Rattle.std.proofs.Math.Nat.{div-le_self}
+use Rattle.std.proofs.Common.{◌≡◌, ◌*◌, ◌/◌, ◌≤◌, refl, ap, ◌∙◌, arith}
 use Rattle.data_encoding_meaning.specs.text.Base.{group_bytes, group_symbols}
 use Rattle.data_encoding_meaning.proofs.digits.WidthLemmas.{group_symbols-few, group_symbols-pos}
 use Rattle.data_encoding_kernel.proofs.decoding.SymbolRunLemmas.{groups-of_product, turns-few, turns-room}
@@ -19,14 +18,19 @@ overflow_mul-turn c = record {
 pub overflow_sub-left : goal.overflow_sub-left
 overflow_sub-left c =
     rw (c.groups-whole.ensures, c.group_symbols-turn.ensures)
-    (omega (arith, turns-few {number = 8} {s = group_symbols c.args.self.now.width} c.args.len refl refl))
+    (omega (
+      arith,
+      turns-few {number = 8} {s = group_symbols c.args.self.now.width} c.args.len refl
+          refl,
+    ))
 
 pub overflow_mul-left : goal.overflow_mul-left
 overflow_mul-left c = record { fits = omega (arith, overflow_sub-left c, c.ranges.len.fits) }
 
 -- the bytes of the whole iterations, and of one
 whole_bytes : (c : After-groups_len)
-    → c.groups_len.result ≡ c.args.len / group_symbols c.args.self.now.width / 8 * 8 * group_bytes c.args.self.now.width
+    → c.groups_len.result ≡ c.args.len / group_symbols c.args.self.now.width / 8 * 8 * group_bytes
+    c.args.self.now.width
 whole_bytes c =
     let s = group_symbols c.args.self.now.width in
     let count = c.args.len / s / 8 in
@@ -35,7 +39,8 @@ whole_bytes c =
     c.groups_len.ensures
     ∙ ap (λ n. n / s * group_bytes c.args.self.now.width) read
     ∙ ap (λ n. n * group_bytes c.args.self.now.width)
-    (groups-of_product (count * 8) s refl (group_symbols-pos c.args.self.now.width (join-width c.requires.join)))
+    (groups-of_product (count * 8) s refl (group_symbols-pos c.args.self.now.width
+    (join-width c.requires.join)))
 
 one_bytes : (c : After-groups_len-2)
     → c.groups_len-2.result ≡ 8 * group_bytes c.args.self.now.width
@@ -43,7 +48,9 @@ one_bytes c =
     let s = group_symbols c.args.self.now.width in
     c.groups_len-2.ensures
     ∙ ap (λ n. 8 * n / s * group_bytes c.args.self.now.width) c.group_symbols-turn.ensures
-    ∙ ap (λ n. n * group_bytes c.args.self.now.width) (groups-of_product 8 s refl (group_symbols-pos c.args.self.now.width (join-width c.requires.join)))
+    ∙ ap (λ n. n * group_bytes c.args.self.now.width)
+    (groups-of_product 8 s refl (group_symbols-pos c.args.self.now.width
+    (join-width c.requires.join)))
 
 few : (c : After-groups_len) → c.groups_len.result ≤ c.args.output_len
 few c =

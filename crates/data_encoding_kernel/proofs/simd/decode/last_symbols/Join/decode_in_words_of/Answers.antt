@@ -14,14 +14,16 @@ pub overflow_mul-read : goal.overflow_mul-read
 overflow_mul-read g c =
     omega (
       arith,
-      group-before (length c.args.input.now) c.SYMBOLS-symbols.result c.loop-index.index c.loop-index-test.true,
+      group-before (length c.args.input.now) c.SYMBOLS-symbols.result c.loop-index.index
+          c.loop-index-test.true,
     )
 
 pub overflow_add-read : goal.overflow_add-read
 overflow_add-read g c =
     omega (
       arith,
-      group-before (length c.args.input.now) c.SYMBOLS-symbols.result c.loop-index.index c.loop-index-test.true,
+      group-before (length c.args.input.now) c.SYMBOLS-symbols.result c.loop-index.index
+          c.loop-index-test.true,
     )
 
 pub slice_bounds-decode_entries-end-in-loop-index :
@@ -72,7 +74,8 @@ returns-then-entries-ge128-clause-run g c = λ base reads.
     let group = IsGroup-same refl c.BYTES-bytes.ensures c.SYMBOLS-symbols.ensures
     g.G.GroupSize.is_group in
     let some = (IsWhole-group _ _ _ g.G.GroupSize.is_group).some_symbols in
-    rw (groups-of_product c.loop-index.index c.SYMBOLS-symbols.result c.SYMBOLS-symbols.ensures some)
+    rw (groups-of_product c.loop-index.index c.SYMBOLS-symbols.result c.SYMBOLS-symbols.ensures
+    some)
     (run-kept base reads.holds.is_width g.G.GroupSize.WIDTH c.BYTES-bytes.result
     c.SYMBOLS-symbols.result group reads.width_is c.args.input.now _
     c.loop-index.output c.decode_entries-entries.new.output c.loop-index.index _ (omega arith)
@@ -83,7 +86,8 @@ pub returns-then-entries-ge128-clause-within :
 returns-then-entries-ge128-clause-within g c =
     omega (
       arith,
-      group-before (length c.args.input.now) c.SYMBOLS-symbols.result c.loop-index.index c.loop-index-test.true,
+      group-before (length c.args.input.now) c.SYMBOLS-symbols.result c.loop-index.index
+          c.loop-index-test.true,
       ap (λ n. c.loop-index.index * n) c.SYMBOLS-symbols.ensures,
     )
 

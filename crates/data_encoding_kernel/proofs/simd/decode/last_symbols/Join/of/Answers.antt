@@ -91,14 +91,18 @@ At start width = IsJoin (get_or joins (start + width) outside)
 most : (width : ℕ) → IsWidth width → At 0 width
 most =
     let is = made-is MostSignificantFirst in
-    by_width (At 0) (is 1 (search arith) refl (search arith)) (is 2 (search arith) refl (search arith)) (is 3 (search arith) refl (search arith))
-    (is 4 (search arith) refl (search arith)) (is 5 (search arith) refl (search arith)) (is 6 (search arith) refl (search arith))
+    by_width (At 0) (is 1 (search arith) refl (search arith))
+    (is 2 (search arith) refl (search arith)) (is 3 (search arith) refl (search arith))
+    (is 4 (search arith) refl (search arith)) (is 5 (search arith) refl (search arith))
+    (is 6 (search arith) refl (search arith))
 
 least : (width : ℕ) → IsWidth width → At 8 width
 least =
     let is = made-is LeastSignificantFirst in
-    by_width (At 8) (is 1 (search arith) refl (search arith)) (is 2 (search arith) refl (search arith)) (is 3 (search arith) refl (search arith))
-    (is 4 (search arith) refl (search arith)) (is 5 (search arith) refl (search arith)) (is 6 (search arith) refl (search arith))
+    by_width (At 8) (is 1 (search arith) refl (search arith))
+    (is 2 (search arith) refl (search arith)) (is 3 (search arith) refl (search arith))
+    (is 4 (search arith) refl (search arith)) (is 5 (search arith) refl (search arith))
+    (is 6 (search arith) refl (search arith))
 
 pub returns-clause-join : goal.returns-clause-join
 returns-clause-join c =
