@@ -32,10 +32,10 @@ done
 # The kind of a text, and its bound for calls that any x86-64 processor runs and for those for
 # x86-64-v3.
 bounds='
-plain 2.65 1.35
-gaps 2.95 4.60
+plain 2.60 1.15
+gaps 2.95 5.10
 ignored 1.80 3.40
-padded 13.6 27.7
+padded 16.0 36.0
 pieces 2.80 4.70
 '
 
