@@ -50,6 +50,7 @@ data_encoding/src/specification.rt:text.push(char::from(byte))
 data_encoding/src/specification.rt:from: self.from.clone()?,
 data_encoding/src/specification.rt:to: self.to.clone()?,
 data_encoding/src/specification.rt:separator: self.separator.clone()?,
+encoding_stream/src/append_piece.rt:output.resize(start + most, 0).unwrap();
 encoding_stream/src/append_piece.rt:output.reserve(written + more)?;
 encoding_stream/src/append_piece.rt:output.extend_from_slice(&buffer[..written]).unwrap();
 encoding_stream/src/decoder.rt:output.reserve(count)?;
@@ -60,6 +61,7 @@ data_encoding/src/encode/append.rt:let len = self.encode_len(input.len());
 data_encoding/src/encoder.rt:let due = self.due_len(block_len, kept, input.len());
 encoding_stream/src/append_piece.rt:let mut read = 0;
 encoding_stream/src/append_piece.rt:let rest = piece.len() - end;
+encoding_stream/src/append_piece.rt:let written = pieces.read(piece, &mut output[start..]);
 encoding_stream/src/append_piece.rt:let written = pieces.read(chunk, buffer);
 encoding_stream/src/append_piece.rt:let more = pieces.most(rest);
 encoding_stream/src/decoder.rt:let (count, verdict) = pieces.finish(&mut bytes);
