@@ -57,7 +57,7 @@ returns-clause-means c =
     let all : c.in-Ok.written ≡ start =
     omega (arith, c.in-Ok.ensures.decoded.0, size, c.if-written-start.false) in
     let plain : ignores_some base ≡ false = sym c.ignores_bytes.ensures ∙ c.if-ignores_bytes.false
-        in
+    in
     let first : Means base front (take start new) =
     subst (λ n. Means base front (take n new)) all c.in-Ok.ensures.decoded.1 in
     let full : length (take start new) ≡ start = length-take-le start new (omega (arith, size)) in
@@ -65,7 +65,7 @@ returns-clause-means c =
     sym c.decode_len.ensures.value ∙ c.in-Ok-Ok.is-0 ∙ ap Ok (sym full) in
     let joined =
     Means-join_full base c.decode_len.ensures.base plain front end (take start new)
-        (take count last)
+    (take count last)
     (omega (arith, c.split_at.ensures.front_len)) due first c.in-Ok-decode_mut.ensures.decoded.1 in
     let whole : front ++ end ≡ text =
     (λ i. c.split_at.ensures.front i ++ c.split_at.ensures.back i)

@@ -11,8 +11,15 @@ front : {start len : ℕ} (old begun out post rest : List ℕ) (count : ℕ) →
 front {start} {len} old begun out post rest count is starts few within =
     take-take (start + count) len (begun ++ (out ++ post) ++ rest) within
     ∙ take-append-le (start + count) (begun ++ (out ++ post)) rest
-    (omega (arith, starts, ap length is, few, length-append begun (out ++ post), length-append out
-        post))
+    (omega (
+      arith,
+      starts,
+      ap length is,
+      few,
+      length-append begun (out ++ post),
+      length-append out
+          post,
+    ))
     ∙ (rw (is, starts) (take-append-add old (out ++ post) count))
     ∙ ap (λ l. old ++ l) (take-append-le count out post few)
 
