@@ -221,7 +221,7 @@ static void overwrite(const char *name, size_t group, size_t in_group, char byte
 }
 
 /* Decodes texts with a fault: an invalid symbol among those of the secret, and then faults in a group that
- * has none of these, since symbols of a faulty group may be looked up in tables. */
+ * has none of these. */
 static void decode_faults(size_t len, size_t text_len, size_t line_len) {
     size_t groups = len / group_bytes;
     size_t rest = len % group_bytes;
