@@ -218,21 +218,14 @@ class Sides(Page):
         self.assertEqual(names, [it.text for it in Select(self.find("#encoding")).options][:-1])
 
     def test_the_table_of_the_eighteen(self) -> None:
-        """The facts are those of README.md and docs/FORMATS.md."""
-        def rows(page: str, columns: int) -> List[List[str]]:
-            text = (pathlib.Path(__file__).parents[2] / page).read_text()
-            found = [line.strip()[1:-1].split("|") for line in text.splitlines()
-                     if line.startswith(("| HEX", "| BASE"))]
-            return [[cell.strip().replace("`", "") for cell in row] for row in found
-                    if len(row) == columns]
-
-        bases = {name: (symbols, padding) for name, symbols, padding, _ in rows("README.md", 4)}
-        table = rows("docs/FORMATS.md", 5)
+        """The facts are those of docs/FORMATS.md."""
+        text = (pathlib.Path(__file__).parents[2] / "docs/FORMATS.md").read_text()
+        lines = [line.strip()[1:-1].split("|") for line in text.splitlines()
+                 if line.startswith(("| HEX", "| BASE"))]
+        table = [[cell.strip().replace("`", "") for cell in line] for line in lines
+                 if len(line) == 7]
         self.assertEqual(len(table), 18)
-        for name, reads, canonical, ordered, rfc in table:
-            base = max((it for it in bases if name.startswith(it)), key=len)
-            symbols, padding = bases[base]
-            padding = "" if "NOPAD" in name else padding
+        for name, symbols, padding, reads, canonical, ordered, rfc in table:
             self.choose(name)
             facts = self.find("#facts").text.split("\n")
             said = dict(zip(facts[::2], facts[1::2]))
