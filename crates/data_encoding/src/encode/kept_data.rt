@@ -121,7 +121,10 @@ impl EncodingRef<'_> {
         let (blocks, left) = rest.split_at(due.whole);
         kept.hold(first);
         self.encode_both(&kept.bytes[..block_len], due.block, blocks, output);
-        kept.count = 0;
+        *kept = KeptData {
+            count: 0,
+            bytes: [0; 189],
+        };
         kept.hold(left);
     }
 
