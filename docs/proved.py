@@ -145,8 +145,9 @@ class Shown:
     def sizes(self, mark):
         """The sentences on the size of the specification."""
         core, page, public = map(size_of, (IMPORTS.reach(CORE), IMPORTS.reach(self.keys), reached()))
-        text = (f"The five core definitions reach {core} with comments. The eight theorems reach {page}. "
-                f"All public contracts reach {public}.")
+        names = [f"`{it[-1]}`" for it in CORE]
+        text = (f"The core definitions, {', '.join(names[:-1])} and {names[-1]}, reach {core} with comments. "
+                f"The eight theorems reach {page}. All public contracts reach {public}.")
         return f"{mark[1]}{textwrap.fill(text, COLUMNS)}\n{mark[3]}"
 
     def paths(self, mark):
