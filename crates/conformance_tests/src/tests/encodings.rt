@@ -97,8 +97,9 @@ fn show_sizes(alloc: Global, encoding: &Encoding) -> Result<String, AllocError> 
     let concatenates = encoding.concatenates();
     let bytes = encoding.group_bytes();
     let completes = encoding.completes_groups();
+    let padded = encoding.is_padded();
     format!(in alloc;
-        "{width}, {len}, {align}, {piece}, {ignores}, {concatenates}, {bytes}, {completes}"
+        "{width}, {len}, {align}, {piece}, {ignores}, {concatenates}, {bytes}, {completes}, {padded}"
     )
 }
 

@@ -16,24 +16,24 @@ BASE64_MIME|\u{c8}|Invalid None false false true";
 
 /// The bits of a symbol, the symbols of a group, the bytes of a block and of a piece with a text of
 /// up to 1,024 bytes, `true` if a byte is ignored, `true` if texts may be concatenated, the bytes
-/// of a group, and `true` if each text consists of whole groups.
+/// of a group, `true` if each text consists of whole groups, and `true` if texts are padded.
 pub(super) const SIZES: &str = "\
-binary|most|check|||0||||1, 8, 1, 128, false, true, 1, true
-quaternary|most|check|||0||||2, 4, 1, 256, false, true, 1, true
-octal|most|check|||0||||3, 8, 3, 384, false, true, 3, false
-hex|most|check|||0||||4, 2, 1, 512, false, true, 1, true
-base32|most|check|||0||||5, 8, 5, 640, false, true, 5, false
-base64|most|check|||0||||6, 4, 3, 768, false, true, 3, false
-base64|most|check|=||76|←↵|||6, 4, 57, 741, true, true, 3, true
-base64|most|check||~|0||||6, 4, 3, 768, true, true, 3, false
-base64|most|single check|=||0||||6, 4, 3, 768, false, false, 3, true
-BASE64||6, 4, 3, 768, false, true, 3, true
-binary|most|check|||248|dashes|||1, 8, 31, 62, true, true, 1, true
-quaternary|most|check|||252|dashes|||2, 4, 63, 126, true, true, 1, true
-octal|most|check|||248|dashes|||3, 8, 93, 186, true, true, 3, false
-hex|most|check|||254|dashes|||4, 2, 127, 254, true, true, 1, true
-base32|most|check|||248|dashes|||5, 8, 155, 310, true, true, 5, false
-base64|most|check|||252|dashes|||6, 4, 189, 378, true, true, 3, false";
+binary|most|check|||0||||1, 8, 1, 128, false, true, 1, true, false
+quaternary|most|check|||0||||2, 4, 1, 256, false, true, 1, true, false
+octal|most|check|||0||||3, 8, 3, 384, false, true, 3, false, false
+hex|most|check|||0||||4, 2, 1, 512, false, true, 1, true, false
+base32|most|check|||0||||5, 8, 5, 640, false, true, 5, false, false
+base64|most|check|||0||||6, 4, 3, 768, false, true, 3, false, false
+base64|most|check|=||76|←↵|||6, 4, 57, 741, true, true, 3, true, true
+base64|most|check||~|0||||6, 4, 3, 768, true, true, 3, false, false
+base64|most|single check|=||0||||6, 4, 3, 768, false, false, 3, true, true
+BASE64||6, 4, 3, 768, false, true, 3, true, true
+binary|most|check|||248|dashes|||1, 8, 31, 62, true, true, 1, true, false
+quaternary|most|check|||252|dashes|||2, 4, 63, 126, true, true, 1, true, false
+octal|most|check|||248|dashes|||3, 8, 93, 186, true, true, 3, false, false
+hex|most|check|||254|dashes|||4, 2, 127, 254, true, true, 1, true, false
+base32|most|check|||248|dashes|||5, 8, 155, 310, true, true, 5, false, false
+base64|most|check|||252|dashes|||6, 4, 189, 378, true, true, 3, false, false";
 
 /// `true` if different texts never mean the same data.
 pub(super) const CANONICAL: &str = "\
@@ -124,6 +124,7 @@ binary|most|check|||0|||||&binary|least|check|||0||||false
 binary|most|check|||0|||||&binary|most|check||~|0||||false
 binary|most|check|||0|||||&binary|most|check|||8|~|||false
 binary|most|check|||0|||||&binary|most|check|||0||a|0|false
+binary|most|check||~!|8|~|||&binary|most|check||~!|8|!|||false
 base64|most|check|||0|||||&base64|most|single check|||0||||true
 base64|most|check|=||0|||||&base64|most|single check|=||0||||false
 HEXLOWER||&hex|most|check|||0||||true

@@ -9,7 +9,7 @@ use conformance::callers::referenced::{
     text_lengths,
 };
 use data_encoding::{
-    Encoding, EncodingRef, base64_mime_ref, base64_ref, predefined, predefined_name,
+    Encoding, EncodingRef, base64_mime_ref, base64_ref, hexlower_ref, predefined, predefined_name,
     predefined_names, predefined_number, predefined_numbered,
 };
 
@@ -157,9 +157,20 @@ fn pieces_by_reference(rt: HostRuntime) {
     assert!(rt; encodes_in_two(&base64, b"fooba", b"rb", b"Zm9v", b"YmFy"));
     assert!(rt; decodes_in_two(&base64, b"Zm9vYm", b"FyYg==", b"foo", b"barb"));
     assert!(rt; decodes_in_two(&base64, b"Zm9vY!", b"FyYg==", b"foo", b""));
+    assert!(rt; encodes_in_two(&hexlower_ref(), b"fo", b"o", b"666f", b"6f"));
     let mime = base64_mime_ref();
     assert!(rt; decodes_in_two(&mime, b"Zm9v\r\nYm", b"F\r\ny", b"foo", b"bar"));
     assert!(rt; encodes_in_two(&mime, b"foobar", b"b", b"", b""));
     assert!(rt; text_lengths(&base64, 3, 4) == (4, 8));
     assert!(rt; text_lengths(&mime, 0, 57) == (0, 78));
+}
+
+#[test]
+fn whole_groups(rt: HostRuntime) {
+    let mime = base64_mime_ref();
+    assert_eq!(rt; base64_ref().whole_groups_len(b"Zm9vYmFy"), 8);
+    assert_eq!(rt; base64_ref().whole_groups_len(b"Zm9vYmF"), 4);
+    assert_eq!(rt; mime.whole_groups_len(b"Zm9\r\nv\r\n"), 8);
+    assert_eq!(rt; mime.whole_groups_len(b"\nZ\nm9"), 1);
+    assert_eq!(rt; mime.whole_groups_len(b"Zm9vYmFyZm9vYmFy\nZm9vYmFyZm9vYmFy\nZm\n"), 34);
 }
