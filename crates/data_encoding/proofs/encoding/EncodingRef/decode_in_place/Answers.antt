@@ -1,6 +1,6 @@
 use Rattle.std.proofs.Common.{◌<◌, arith}
 use Rattle.data_encoding_meaning.proofs.lists.WriteLemmas.{length-rewritten_same}
-use Rattle.data_encoding.proofs.decoding.OutputLemmas.{exact-same}
+use Rattle.data_encoding.proofs.decoding.OutputLemmas.{begins-within, exact-same, goes-nowhere_rest}
 use Rattle.data_encoding.proofs.decoding.PlacingLemmas.{placed-here}
 use Rattle.data_encoding.proofs.decoding.StepLemmas.{room-next_run, under_way}
 use Rattle.data_encoding.proofs.encoding.EncodingRef.decode_in_place.Goals as goal
@@ -9,6 +9,11 @@ pub decode_groups-found-requires-clause-room : goal.decode_groups-found-requires
 decode_groups-found-requires-clause-room g c =
     room-next_run (under_way c.requires.entries.reads.holds.is_width
     c.requires.at.exact c.requires.at.so_far) c.requires.at.front
+
+pub returns-then-found-eq0-clause-on : goal.returns-then-found-eq0-clause-on
+returns-then-found-eq0-clause-on g c =
+    goes-nowhere_rest _ c.requires.entries.reads.holds.is_width c.requires.at
+    c.decode_groups-found.auto.output
 
 pub returns-clause-on : goal.returns-clause-on
 returns-clause-on g c =
@@ -26,3 +31,13 @@ returns-clause-on g c =
       };
       further = omega (arith, at.read);
     }
+
+pub overflow_add-start : goal.overflow_add-start
+overflow_add-start g c =
+    record { fits = omega (arith, begins-within c.requires.at, c.requires.at.exact.limit) }
+
+pub slice_bounds-rest-count : goal.slice_bounds-rest-count
+slice_bounds-rest-count g c = begins-within c.requires.at
+
+pub slice_bounds-room-count : goal.slice_bounds-room-count
+slice_bounds-room-count g c = c.requires.at.so_far.fits
