@@ -9,7 +9,7 @@ use Rattle.data_encoding_meaning.proofs.decoding.IgnoredFrontLemmas.{no_front}
 use Rattle.data_encoding_meaning.proofs.grammar.PositionLemmas.{length-by_bytes}
 use Rattle.data_encoding_meaning.proofs.lists.PartLemmas.{groups-within}
 use Rattle.data_encoding_meaning.proofs.lists.WriteLemmas.{length-rewritten_same, rewritten}
-use Rattle.data_encoding.proofs.decoding.OutputLemmas.{exact-same, goes-nowhere_rest}
+use Rattle.data_encoding.proofs.decoding.OutputLemmas.{begins-within, exact-same, goes-nowhere_rest}
 use Rattle.data_encoding.proofs.decoding.PlacingLemmas.{IsPackedTo, packed-to}
 use Rattle.data_encoding.proofs.decoding.StepLemmas.{room-next_run, under_way}
 use Rattle.data_encoding.proofs.encoding.EncodingRef.decode_packed.Given.{Over}
@@ -102,3 +102,19 @@ returns-else-found-count g c =
       };
       further = omega arith;
     }
+
+pub overflow_add-start : goal.overflow_add-start
+overflow_add-start g c =
+    record { fits = omega (arith, begins-within c.requires.at, c.requires.at.exact.limit) }
+
+pub slice_bounds-pack-count : goal.slice_bounds-pack-count
+slice_bounds-pack-count g c = begins-within c.requires.at
+
+pub slice_bounds-room-count : goal.slice_bounds-room-count
+slice_bounds-room-count g c = c.requires.at.so_far.fits
+
+pub decode_groups-found-requires-clause-entries : goal.decode_groups-found-requires-clause-entries
+decode_groups-found-requires-clause-entries g c = c.requires.entries
+
+pub decode_groups-found-requires-clause-few : goal.decode_groups-found-requires-clause-few
+decode_groups-found-requires-clause-few g c = c.pack-span.ensures.room
