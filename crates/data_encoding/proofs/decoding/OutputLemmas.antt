@@ -1,5 +1,6 @@
 -- An output of the length that a text's gives, and how far the text is decoded.
 use Rattle.std.proofs.Common.{◌≡◌, ℕ, ◌+◌, ◌-◌, ◌≤◌, false, List, length, take, drop, Ok, ap, sym, ◌∙◌, arith, length-drop}
+use Rattle.std.proofs.lemmas.List.{length-take, take_rest}
 use Rattle.std.proofs.lemmas.Slice.{take-put_mid_below}
 use Rattle.data_encoding.specs.declared.decode.decoding_loop.Progress.{Progress}
 use Rattle.data_encoding.specs.declared.decode.groups.Groups.{Groups}
@@ -26,8 +27,16 @@ begins-within {text = text} {at = at} reached =
       length-drop at.read text,
     )
 
+-- and so do the first bytes that follow them
+pub ends-within : (text : List ℕ) (start n : ℕ) {count : ℕ} → start ≤ length text
+    → count ≤ length (take n (take (length text - start) (drop start text)))
+    → start + count ≤ length text
+ends-within text start n within few =
+    let inside = rw (take_rest text start) at few in
+    omega (arith, within, inside, length-take n (drop start text), length-drop start text)
+
 -- nothing is decoded
-goes-nowhere : {base : Base} {text output : List ℕ} {at : Progress}
+pub goes-nowhere : {base : Base} {text output : List ℕ} {at : Progress}
     → HasReached base text at output → GoesOn base text at.read at output
 goes-nowhere reached = record { reached = reached; further = omega arith }
 

@@ -9,7 +9,7 @@ use Rattle.data_encoding_kernel.proofs.decoding.JoinSizeLemmas.{join-width}
 use Rattle.data_encoding_kernel.proofs.decoding.SymbolRunLemmas.{groups-of_product, turns-few}
 use Rattle.data_encoding_meaning.proofs.lists.PartLemmas.{groups-within}
 use Rattle.data_encoding_meaning.proofs.lists.WriteLemmas.{length-rewritten_same}
-use Rattle.data_encoding.proofs.decoding.OutputLemmas.{exact-same, goes-further, goes-nowhere_rest}
+use Rattle.data_encoding.proofs.decoding.OutputLemmas.{begins-within, ends-within, exact-same, goes-further, goes-nowhere, goes-nowhere_rest}
 use Rattle.data_encoding.proofs.decoding.PlacingLemmas.{placed-here}
 use Rattle.data_encoding.proofs.decoding.StepLemmas.{room-next_run, under_way}
 use Rattle.data_encoding.proofs.encoding.EncodingRef.decode_lines.Goals as goal
@@ -118,3 +118,91 @@ returns-else-found-gt0 g c =
     goes-further c.loop.invariant.on.further
     (goes-nowhere_rest _ c.requires.entries.reads.holds.is_width c.loop.invariant.on.reached
     c.decode_line-found.auto.output)
+
+pub loop-init : goal.loop-init
+loop-init g c =
+    record { on = goes-nowhere c.requires.at }
+
+pub overflow_add-start : goal.overflow_add-start
+overflow_add-start g c =
+    let reached = c.loop.invariant.on.reached in
+    record { fits = omega (arith, begins-within reached, reached.exact.limit) }
+
+pub slice_bounds-rest-count : goal.slice_bounds-rest-count
+slice_bounds-rest-count g c = begins-within c.loop.invariant.on.reached
+
+pub slice_bounds-front-count : goal.slice_bounds-front-count
+slice_bounds-front-count g c = omega (arith, c.if-rest-read_len.false, c.max-read_len.ensures)
+
+pub decode_line-found-requires-clause-entries : goal.decode_line-found-requires-clause-entries
+decode_line-found-requires-clause-entries g c = c.requires.entries
+
+pub decode_line-found-requires-clause-within : goal.decode_line-found-requires-clause-within
+decode_line-found-requires-clause-within g c = omega (arith, c.if-rest-read_len.false, c.max-read_len.ensures)
+
+pub decode_line-found-requires-clause-few : goal.decode_line-found-requires-clause-few
+decode_line-found-requires-clause-few g c =
+    let count = c.groups.result / 8 + 1 in
+    let size : group_symbols c.args.self.now.width ≡ c.group_symbols-turn.result =
+    ap group_symbols c.requires.entries.reads.width_is ∙ sym c.group_symbols-turn.ensures in
+    let turns : count * 8 * group_symbols c.args.self.now.width
+    ≡ count * (8 * c.group_symbols-turn.result) =
+    ap (λ n. count * 8 * n) size ∙ omega arith in
+    omega (arith, turns, c.if-rest-read_len.false, c.max-read_len.ensures)
+
+pub slice_bounds-decode_line-count : goal.slice_bounds-decode_line-count
+slice_bounds-decode_line-count g c = c.loop.invariant.on.reached.so_far.fits
+
+pub returns-after-loop : goal.returns-after-loop
+returns-after-loop g c = c.loop.invariant.on
+
+pub returns-then-ignored-eq0 : goal.returns-then-ignored-eq0
+returns-then-ignored-eq0 g c = c.loop.invariant.on
+
+pub returns-then-rest-read_len : goal.returns-then-rest-read_len
+returns-then-rest-read_len g c = c.loop.invariant.on
+
+pub overflow_add-start-then-found-gt0 : goal.overflow_add-start-then-found-gt0
+overflow_add-start-then-found-gt0 g c =
+    let reached = c.loop.invariant.on.reached in
+    let within = ends-within c.args.input.now (c.loop.at.read + c.loop.at.ignored) c.args.len (begins-within reached)
+    c.decode_line-found.ensures.so_far.within in
+    record { fits = omega (arith, within, reached.exact.limit) }
+
+pub progress_at-at-requires : goal.progress_at-at-requires
+progress_at-at-requires g c =
+    let reached = c.loop.invariant.on.reached in
+    record {
+      within = ends-within c.args.input.now (c.loop.at.read + c.loop.at.ignored) c.args.len (begins-within reached)
+          c.decode_line-found.ensures.so_far.within;
+    }
+
+pub overflow_add-written : goal.overflow_add-written
+overflow_add-written g c =
+    let reached = c.loop.invariant.on.reached in
+    record {
+      fits = omega (
+        arith,
+        c.decode_line-found.ensures.so_far.fits,
+        c.decode_line-found.auto.output,
+        ap length (take_rest c.loop.output c.loop.at.written),
+        length-drop c.loop.at.written c.loop.output,
+        reached.so_far.fits,
+      );
+    }
+
+pub overflow_add-at : goal.overflow_add-at
+overflow_add-at g c =
+    let reached = c.loop.invariant.on.reached in
+    let start = c.loop.at.read + c.loop.at.ignored in
+    record {
+      fits = omega (
+        arith,
+        c.if-rest-read_len.false,
+        c.max-read_len.ensures,
+        ap length (take_rest c.args.input.now start),
+        length-drop start c.args.input.now,
+        begins-within reached,
+        reached.exact.limit,
+      );
+    }
