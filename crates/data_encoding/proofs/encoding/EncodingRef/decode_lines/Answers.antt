@@ -1,5 +1,5 @@
 use Rattle.std.proofs.Common.{◌≡◌, ◌+◌, ◌-◌, ◌*◌, ◌/◌, ◌≤◌, length, take, drop, refl, sym, ap, ◌∙◌, subst, arith, length-drop}
-use Rattle.std.proofs.Math.Nat.{mul-le-mul_right}
+use Rattle.std.proofs.Math.Nat.{div-le_self, mul-le-mul_right}
 use Rattle.std.proofs.lemmas.List.{drop-drop, take_rest}
 use Rattle.data_encoding_meaning.specs.decoding.Decoding.{IsIgnoredFront}
 use Rattle.std.proofs.lemmas.Nat.{le-div}
@@ -206,3 +206,35 @@ overflow_add-at g c =
         reached.exact.limit,
       );
     }
+
+pub overflow_add-count : goal.overflow_add-count
+overflow_add-count g c =
+    record {
+      fits = omega (
+        arith,
+        c.groups.ensures,
+        div-le_self (c.args.len - 1) (group_symbols c.args.entries.join.now.width),
+        c.requires.within,
+        c.requires.at.exact.limit,
+      );
+    }
+
+pub overflow_add-len : goal.overflow_add-len
+overflow_add-len g c =
+    record { fits = omega (arith, c.requires.within, c.requires.at.exact.limit) }
+
+pub overflow_mul-turn : goal.overflow_mul-turn
+overflow_mul-turn g c =
+    record {
+      fits = omega (
+        arith,
+        c.group_symbols-turn.ensures,
+        group_symbols-few c.args.entries.join.now.width (join-width c.requires.entries.join),
+      );
+    }
+
+pub overflow_sub-len : goal.overflow_sub-len
+overflow_sub-len g c = c.requires.some
+
+pub overflow_sub-output : goal.overflow_sub-output
+overflow_sub-output g c = c.loop.invariant.on.reached.so_far.fits
