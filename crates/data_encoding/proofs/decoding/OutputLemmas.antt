@@ -5,7 +5,7 @@ use Rattle.std.proofs.lemmas.Slice.{take-put_mid_below}
 use Rattle.data_encoding.specs.declared.decode.decoding_loop.Progress.{Progress}
 use Rattle.data_encoding.specs.declared.decode.groups.Groups.{Groups}
 use Rattle.data_encoding.specs.Groups.{HasReadGroups}
-use Rattle.data_encoding_meaning.specs.decoding.Decoding.{HasDecodedTo}
+use Rattle.data_encoding_meaning.specs.decoding.Decoding.{HasDecodedTo, IsIgnoredFront}
 use Rattle.data_encoding.specs.Progress.{GoesOn, HasExactOutput, HasReached}
 use Rattle.data_encoding_meaning.specs.text.Base.{Base, IsWidth}
 use Rattle.data_encoding_meaning.proofs.decoding.ProgressLemmas.{same-output}
@@ -78,6 +78,23 @@ goes-nowhere_rest {output = output} {at = at} rest width reached len =
       so_far = decoded-before rest width reached.so_far len;
       front = reached.front;
     })
+
+-- more is decoded
+pub moves-on : {base : Base} {text output : List ℕ} {at next : Progress} (rest : List ℕ)
+    → HasReached base text at output
+    → length rest ≡ length (take (length output - at.written) (drop at.written output))
+    → HasDecodedTo base text next.read next.written false (rewritten at.written output rest)
+    → IsIgnoredFront base (drop next.read text) next.ignored → at.read ≤ next.read
+    → GoesOn base text at.read next (rewritten at.written output rest)
+moves-on {output = output} {at = at} rest reached len so_far front further = record {
+  reached = record {
+    exact = exact-same reached.exact
+        (length-rewritten_same at.written output rest reached.so_far.fits len);
+    so_far = so_far;
+    front = front;
+  };
+  further = further;
+}
 
 -- what is further than a place after the start is further than the start
 pub goes-further : {base : Base} {text output : List ℕ} {start next : ℕ} {at : Progress}

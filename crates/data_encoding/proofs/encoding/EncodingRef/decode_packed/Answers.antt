@@ -8,8 +8,8 @@ use Rattle.data_encoding_meaning.specs.text.Grammar.{kept}
 use Rattle.data_encoding_meaning.proofs.decoding.IgnoredFrontLemmas.{no_front}
 use Rattle.data_encoding_meaning.proofs.grammar.PositionLemmas.{length-by_bytes}
 use Rattle.data_encoding_meaning.proofs.lists.PartLemmas.{groups-within}
-use Rattle.data_encoding_meaning.proofs.lists.WriteLemmas.{length-rewritten_same, rewritten}
-use Rattle.data_encoding.proofs.decoding.OutputLemmas.{begins-within, exact-same, goes-nowhere_rest}
+use Rattle.data_encoding_meaning.proofs.lists.WriteLemmas.{rewritten}
+use Rattle.data_encoding.proofs.decoding.OutputLemmas.{begins-within, goes-nowhere_rest, moves-on}
 use Rattle.data_encoding.proofs.decoding.PlacingLemmas.{IsPackedTo, packed-to}
 use Rattle.data_encoding.proofs.decoding.StepLemmas.{room-next_run, under_way}
 use Rattle.data_encoding.proofs.encoding.EncodingRef.decode_packed.Given.{Over}
@@ -78,30 +78,14 @@ reached g c =
 pub returns-then-found-count : goal.returns-then-found-count
 returns-then-found-count g c =
     let at = (goal.at.returns-then-found-count g c).After-span_before-end in
-    record {
-      reached = record {
-        exact = exact-same c.requires.at.exact (length-rewritten_same c.args.at.written
-            c.args.output.now c.decode_groups-found.new.output c.requires.at.so_far.fits
-            c.decode_groups-found.auto.output);
-        so_far = (reached g at).so_far;
-        front = (reached g at).front c.if-found-count.true;
-      };
-      further = omega arith;
-    }
+    moves-on c.decode_groups-found.new.output c.requires.at c.decode_groups-found.auto.output
+    (reached g at).so_far ((reached g at).front c.if-found-count.true) (omega arith)
 
 pub returns-else-found-count : goal.returns-else-found-count
 returns-else-found-count g c =
     let at = (goal.at.returns-else-found-count g c).After-span_before-end in
-    record {
-      reached = record {
-        exact = exact-same c.requires.at.exact (length-rewritten_same c.args.at.written
-            c.args.output.now c.decode_groups-found.new.output c.requires.at.so_far.fits
-            c.decode_groups-found.auto.output);
-        so_far = (reached g at).so_far;
-        front = no_front c.args.self.now _;
-      };
-      further = omega arith;
-    }
+    moves-on c.decode_groups-found.new.output c.requires.at c.decode_groups-found.auto.output
+    (reached g at).so_far (no_front c.args.self.now _) (omega arith)
 
 pub overflow_add-start : goal.overflow_add-start
 overflow_add-start g c =
