@@ -30,6 +30,3 @@ overflow_add-start g c =
 
 pub slice_bounds-rest-count : goal.slice_bounds-rest-count
 slice_bounds-rest-count g c = begins-within c.requires.at
-
-pub slice_bounds-room-count : goal.slice_bounds-room-count
-slice_bounds-room-count g c = c.requires.at.so_far.fits

@@ -96,31 +96,10 @@ returns g c =
     at.so_far in
     decoded-after now at.front c.loop-at-test.false
 
-pub loop-at-init : goal.loop-at-init
-loop-at-init g c = record { reached = c.requires.first; within = omega arith }
-
 pub overflow_add-at : goal.overflow_add-at
 overflow_add-at g c =
     let reached = c.loop-at.invariant.reached in
     record { fits = omega (arith, begins-within reached, reached.exact.limit) }
 
-pub decode_lines-at-requires-clause-within : goal.decode_lines-at-requires-clause-within
-decode_lines-at-requires-clause-within g c =
-    omega (arith, c.loop-at.invariant.within, c.loop-at.invariant.reached.so_far.within)
-
-pub decode_lines-at-requires-clause-at : goal.decode_lines-at-requires-clause-at
-decode_lines-at-requires-clause-at g c = c.loop-at.invariant.reached
-
-pub decode_packed-at-requires-clause-at : goal.decode_packed-at-requires-clause-at
-decode_packed-at-requires-clause-at g c = c.loop-at.invariant.reached
-
 pub is_broken_next-requires-clause-within : goal.is_broken_next-requires-clause-within
 is_broken_next-requires-clause-within g c = begins-within c.loop-at.invariant.reached
-
-pub loop-at-preserved : goal.loop-at-preserved
-loop-at-preserved g c =
-    let after = c.decode_in_place-at.ensures.on in
-    record {
-      reached = after.reached;
-      within = omega (arith, c.saturating_sub-len.ensures);
-    }
