@@ -95,7 +95,7 @@ part-left part len read before within =
     ∙ ap (λ n. drop read (take n part)) both
 
 -- Groups are read from the start.
-read-none : (base : Base) → IsWidth base.width → (part : List ℕ) {output : List ℕ}
+pub read-none : (base : Base) → IsWidth base.width → (part : List ℕ) {output : List ℕ}
     → length part / group_symbols base.width * group_bytes base.width ≤ length output
     → HasReadGroups base part (record { read = 0; written = 0 }) output
 read-none base width part {output} room = record {

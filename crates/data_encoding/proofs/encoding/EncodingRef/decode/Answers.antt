@@ -1,7 +1,7 @@
-use Rattle.std.proofs.Common.{◌≡◌, ◌≤◌, ℕ, Ok, Err, length, take, refl, inl, ◌∙◌, ◌<◌, subst, arith}
+use Rattle.std.proofs.Common.{◌≡◌, ◌≤◌, ℕ, Ok, Err, length, take, refl, sym, ap, inl, ◌∙◌, ◌<◌, subst, arith}
 use Rattle.std.specs.Prelude.{Result}
 use Rattle.std.specs.declared.vec.Vec.{Vec}
-use Rattle.std.proofs.lemmas.List.{take-append-le, take-take}
+use Rattle.std.proofs.lemmas.List.{length-replicate, take-append-le, take-take}
 use Rattle.data_encoding_meaning.specs.declared.error.DecodeError.{DecodeError}
 use Rattle.data_encoding_meaning.specs.declared.error.DecodeFault.{DecodeFault}
 use Rattle.data_encoding_meaning.specs.declared.error.DecodeFault.TheVariants.{Error}
@@ -49,3 +49,10 @@ returns-in-Err c =
       position = λ error is.
           subst (λ e. e.position < length c.args.input.now) (same-error is) decoded.bounds.1;
     }
+
+pub decode_mut-requires-clause-exact : goal.decode_mut-requires-clause-exact
+decode_mut-requires-clause-exact c =
+    let len : length c.deref_mut.result.now ≡ c.in_ok-len.len =
+    ap length (c.deref_mut.ensures.value ∙ c.in_ok-output.ensures.items)
+    ∙ length-replicate c.in_ok-len.len 0 in
+    sym c.decode_len.ensures.value ∙ c.in_ok-len.was ∙ ap Ok (sym len)

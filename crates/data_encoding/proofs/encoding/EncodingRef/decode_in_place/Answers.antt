@@ -1,6 +1,5 @@
 use Rattle.std.proofs.Common.{◌<◌, arith}
-use Rattle.data_encoding_meaning.proofs.lists.WriteLemmas.{length-rewritten_same}
-use Rattle.data_encoding.proofs.decoding.OutputLemmas.{exact-same}
+use Rattle.data_encoding.proofs.decoding.OutputLemmas.{begins-within, goes-nowhere_rest, moves-on}
 use Rattle.data_encoding.proofs.decoding.PlacingLemmas.{placed-here}
 use Rattle.data_encoding.proofs.decoding.StepLemmas.{room-next_run, under_way}
 use Rattle.data_encoding.proofs.encoding.EncodingRef.decode_in_place.Goals as goal
@@ -10,19 +9,24 @@ decode_groups-found-requires-clause-room g c =
     room-next_run (under_way c.requires.entries.reads.holds.is_width
     c.requires.at.exact c.requires.at.so_far) c.requires.at.front
 
+pub returns-then-found-eq0-clause-on : goal.returns-then-found-eq0-clause-on
+returns-then-found-eq0-clause-on g c =
+    goes-nowhere_rest _ c.requires.entries.reads.holds.is_width c.requires.at
+    c.decode_groups-found.auto.output
+
 pub returns-clause-on : goal.returns-clause-on
 returns-clause-on g c =
     let at = c.progress_at.ensures in
     let some : 0 < c.decode_groups-found.result.read = omega (arith, c.if-found-eq0.false) in
-    record {
-      reached = record {
-        exact = exact-same c.requires.at.exact (length-rewritten_same c.args.at.written
-            c.args.output.now c.decode_groups-found.new.output c.requires.at.so_far.fits
-            c.decode_groups-found.auto.output);
-        so_far = rw (at.read, at.written) (placed-here c.requires.entries.reads.holds.is_width
-            c.requires.at c.decode_groups-found.new.output c.decode_groups-found.auto.output _
-            c.decode_groups-found.ensures some);
-        front = rw at.read (at.front c.args.self.now c.requires.entries.ignored);
-      };
-      further = omega (arith, at.read);
-    }
+    moves-on c.decode_groups-found.new.output c.requires.at c.decode_groups-found.auto.output
+    (rw (at.read, at.written) (placed-here c.requires.entries.reads.holds.is_width c.requires.at
+    c.decode_groups-found.new.output c.decode_groups-found.auto.output _
+    c.decode_groups-found.ensures some))
+    (rw at.read (at.front c.args.self.now c.requires.entries.ignored)) (omega (arith, at.read))
+
+pub overflow_add-start : goal.overflow_add-start
+overflow_add-start g c =
+    record { fits = omega (arith, begins-within c.requires.at, c.requires.at.exact.limit) }
+
+pub slice_bounds-rest-count : goal.slice_bounds-rest-count
+slice_bounds-rest-count g c = begins-within c.requires.at

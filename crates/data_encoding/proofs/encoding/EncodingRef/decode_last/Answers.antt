@@ -1,4 +1,5 @@
 use Rattle.std.proofs.Common.{◌≡◌, ◌-◌, ◌*◌, ◌/◌, ◌≤◌, ◌==◌, ◌&&◌, ◌++◌, not, false, length, take, drop, slice_index, refl, sym, ap, subst, ◌∙◌, arith, length-drop, IsTrue}
+use Rattle.std.proofs.Math.Nat.{div-mul-le_self, mul-le-mul_left, mul-le-mul_right}
 use Rattle.std.proofs.lemmas.Bool.Decides.{nat_tests}
 use Rattle.std.proofs.lemmas.List.{take_rest}
 use Rattle.data_encoding_meaning.specs.text.Base.{group_bytes, group_symbols}
@@ -7,7 +8,21 @@ use Rattle.data_encoding_meaning.proofs.lists.WriteLemmas.{length-rewritten_same
 use Rattle.data_encoding.proofs.decoding.LastGroupLemmas.{last-decoded, last-room, rest-valid}
 use Rattle.data_encoding.proofs.decoding.ShortLemmas.{front-reached, front-room, joins-width, stored}
 use Rattle.data_encoding.proofs.encoding.EncodingRef.decode_last.Goals as goal
-use Rattle.data_encoding.proofs.encoding.EncodingRef.decode_last.Goals.{After-bytes_len-count, then-is_valid, else-is_valid}
+use Rattle.data_encoding.proofs.encoding.EncodingRef.decode_last.Goals.{After-bytes_len-count, Joined-is_valid, then-is_valid, else-is_valid}
+
+-- at most all symbols are decoded
+fewer : (c : Joined-is_valid) → c.if-is_valid.symbols ≤ c.args.front.now.symbols
+fewer c =
+    elim c.if-is_valid.branch [
+      | then-is_valid w ↦ omega (arith, w.symbols-is)
+      | else-is_valid w ↦
+          omega (
+            arith,
+            w.symbols-is,
+            w.whole_groups-symbols.ensures,
+            div-mul-le_self c.args.front.now.symbols (group_symbols c.args.join.now.width),
+          )
+    ]
 
 pub is_end-is_valid-requires-clause-valid : goal.is_end-is_valid-requires-clause-valid
 is_end-is_valid-requires-clause-valid c =
@@ -117,3 +132,61 @@ returns c =
           (omega (arith, c.requires.front.within, length-drop c.args.at.read input)) new
           c.store_front.auto.output (rw bytes at kept))
     ]
+
+pub is_end-is_valid-requires-clause-front : goal.is_end-is_valid-requires-clause-front
+is_end-is_valid-requires-clause-front c =
+    rw (take_rest c.args.input.now c.args.at.read) c.requires.front
+
+pub bytes_len-count-requires : goal.bytes_len-count-requires
+bytes_len-count-requires c =
+    let some : c.if-is_valid.symbols ≤ 16 =
+    omega (
+      arith,
+      fewer (goal.at.bytes_len-count-requires c).Joined-is_valid,
+      c.requires.front.few,
+    ) in
+    record {
+      fits = omega (
+        arith,
+        mul-le-mul_right c.args.join.now.width some,
+        c.requires.join.is_join.few,
+      );
+    }
+
+pub store_front-requires-clause-few : goal.store_front-requires-clause-few
+store_front-requires-clause-few c =
+    let some : c.if-is_valid.symbols ≤ 16 =
+    omega (
+      arith,
+      fewer (goal.at.store_front-requires-clause-few c).Joined-is_valid,
+      c.requires.front.few,
+    ) in
+    omega (
+      arith,
+      c.bytes_len-count.ensures,
+      mul-le-mul_left c.args.join.now.width some,
+      c.requires.join.is_join.few,
+    )
+
+pub overflow_add-stop : goal.overflow_add-stop
+overflow_add-stop c =
+    record {
+      fits = omega (
+        arith,
+        fewer (goal.at.overflow_add-stop c).Joined-is_valid,
+        c.requires.front.within,
+        length-drop c.args.at.read c.args.input.now,
+        c.requires.at.so_far.within,
+        c.requires.at.exact.limit,
+      );
+    }
+
+pub overflow_add-stop-2 : goal.overflow_add-stop-2
+overflow_add-stop-2 c =
+    record {
+      fits = omega (
+        arith,
+        few (goal.at.overflow_add-stop-2 c).After-bytes_len-count,
+        c.requires.at.so_far.fits,
+      );
+    }

@@ -8,8 +8,7 @@ use Rattle.data_encoding_meaning.proofs.digits.WidthLemmas.{group_symbols-few, g
 use Rattle.data_encoding_kernel.proofs.decoding.JoinSizeLemmas.{join-width}
 use Rattle.data_encoding_kernel.proofs.decoding.SymbolRunLemmas.{groups-of_product, turns-few}
 use Rattle.data_encoding_meaning.proofs.lists.PartLemmas.{groups-within}
-use Rattle.data_encoding_meaning.proofs.lists.WriteLemmas.{length-rewritten_same}
-use Rattle.data_encoding.proofs.decoding.OutputLemmas.{exact-same, goes-further, goes-nowhere_rest}
+use Rattle.data_encoding.proofs.decoding.OutputLemmas.{begins-within, ends-within, goes-further, goes-nowhere_rest, moves-on}
 use Rattle.data_encoding.proofs.decoding.PlacingLemmas.{placed-here}
 use Rattle.data_encoding.proofs.decoding.StepLemmas.{room-next_run, under_way}
 use Rattle.data_encoding.proofs.encoding.EncodingRef.decode_lines.Goals as goal
@@ -75,46 +74,96 @@ loop-preserved g c =
     let start = c.loop.at.read + c.loop.at.ignored in
     let rest = take (length c.args.input.now - start) (drop start c.args.input.now) in
     let whole : c.decode_line-found.result.read ≡ c.args.len = c.if-found-len.false in
+    let placed = placed-here c.requires.entries.reads.holds.is_width reached
+    c.decode_line-found.new.output c.decode_line-found.auto.output c.args.len
+    c.decode_line-found.ensures
+    (omega (arith, whole, c.requires.some)) in
+    let front =
+    subst (λ l. IsIgnoredFront c.args.self.now l c.front-ignored.result)
+    (take_rest rest c.args.len ∙ ap (drop c.args.len) (take_rest c.args.input.now start)
+    ∙ drop-drop c.args.len start c.args.input.now)
+    (c.front-ignored.ensures.front c.args.self.now c.requires.entries.ignored) in
     record {
-      on = record {
-        reached = record {
-          exact = exact-same reached.exact (length-rewritten_same c.loop.at.written
-              c.loop.output c.decode_line-found.new.output reached.so_far.fits
-              c.decode_line-found.auto.output);
-          so_far = rw (← whole)
-              (placed-here c.requires.entries.reads.holds.is_width reached
-              c.decode_line-found.new.output c.decode_line-found.auto.output c.args.len
-              c.decode_line-found.ensures
-              (omega (arith, whole, c.requires.some)));
-          front = subst (λ l. IsIgnoredFront c.args.self.now l c.front-ignored.result)
-              (take_rest rest c.args.len ∙ ap (drop c.args.len) (take_rest c.args.input.now start)
-              ∙ drop-drop c.args.len start c.args.input.now)
-              (c.front-ignored.ensures.front c.args.self.now c.requires.entries.ignored);
-        };
-        further = omega (arith, c.loop.invariant.on.further);
-      };
+      on = goes-further c.loop.invariant.on.further (moves-on c.decode_line-found.new.output reached
+          c.decode_line-found.auto.output (rw (← whole) placed) front (omega arith));
     }
 
 pub returns-then-found-gt0 : goal.returns-then-found-gt0
 returns-then-found-gt0 g c =
     let at = c.progress_at-at.ensures in
     let reached = c.loop.invariant.on.reached in
-    record {
-      reached = record {
-        exact = exact-same reached.exact (length-rewritten_same c.loop.at.written
-            c.loop.output c.decode_line-found.new.output reached.so_far.fits
-            c.decode_line-found.auto.output);
-        so_far = rw (at.read, at.written)
-            (placed-here c.requires.entries.reads.holds.is_width reached
-            c.decode_line-found.new.output c.decode_line-found.auto.output c.args.len
-            c.decode_line-found.ensures c.if-found-gt0.true);
-        front = rw at.read (at.front c.args.self.now c.requires.entries.ignored);
-      };
-      further = omega (arith, at.read, c.loop.invariant.on.further);
-    }
+    goes-further c.loop.invariant.on.further
+    (moves-on c.decode_line-found.new.output reached c.decode_line-found.auto.output
+    (rw (at.read, at.written) (placed-here c.requires.entries.reads.holds.is_width reached
+    c.decode_line-found.new.output c.decode_line-found.auto.output c.args.len
+    c.decode_line-found.ensures c.if-found-gt0.true))
+    (rw at.read (at.front c.args.self.now c.requires.entries.ignored)) (omega (arith, at.read)))
 
 pub returns-else-found-gt0 : goal.returns-else-found-gt0
 returns-else-found-gt0 g c =
     goes-further c.loop.invariant.on.further
     (goes-nowhere_rest _ c.requires.entries.reads.holds.is_width c.loop.invariant.on.reached
     c.decode_line-found.auto.output)
+
+pub overflow_add-start : goal.overflow_add-start
+overflow_add-start g c =
+    let reached = c.loop.invariant.on.reached in
+    record { fits = omega (arith, begins-within reached, reached.exact.limit) }
+
+pub slice_bounds-rest-count : goal.slice_bounds-rest-count
+slice_bounds-rest-count g c = begins-within c.loop.invariant.on.reached
+
+pub decode_line-found-requires-clause-few : goal.decode_line-found-requires-clause-few
+decode_line-found-requires-clause-few g c =
+    let count = c.groups.result / 8 + 1 in
+    let size : group_symbols c.args.self.now.width ≡ c.group_symbols-turn.result =
+    ap group_symbols c.requires.entries.reads.width_is ∙ sym c.group_symbols-turn.ensures in
+    let turns : count * 8 * group_symbols c.args.self.now.width
+    ≡ count * (8 * c.group_symbols-turn.result) =
+    ap (λ n. count * 8 * n) size ∙ omega arith in
+    omega (arith, turns, c.if-rest-read_len.false, c.max-read_len.ensures)
+
+pub overflow_add-start-then-found-gt0 : goal.overflow_add-start-then-found-gt0
+overflow_add-start-then-found-gt0 g c =
+    let reached = c.loop.invariant.on.reached in
+    let within = ends-within c.args.input.now (c.loop.at.read + c.loop.at.ignored) c.args.len (begins-within reached)
+    c.decode_line-found.ensures.so_far.within in
+    record { fits = omega (arith, within, reached.exact.limit) }
+
+pub progress_at-at-requires : goal.progress_at-at-requires
+progress_at-at-requires g c =
+    let reached = c.loop.invariant.on.reached in
+    record {
+      within = ends-within c.args.input.now (c.loop.at.read + c.loop.at.ignored) c.args.len (begins-within reached)
+          c.decode_line-found.ensures.so_far.within;
+    }
+
+pub overflow_add-written : goal.overflow_add-written
+overflow_add-written g c =
+    let reached = c.loop.invariant.on.reached in
+    record {
+      fits = omega (
+        arith,
+        c.decode_line-found.ensures.so_far.fits,
+        c.decode_line-found.auto.output,
+        ap length (take_rest c.loop.output c.loop.at.written),
+        length-drop c.loop.at.written c.loop.output,
+        reached.so_far.fits,
+      );
+    }
+
+pub overflow_add-at : goal.overflow_add-at
+overflow_add-at g c =
+    let reached = c.loop.invariant.on.reached in
+    let start = c.loop.at.read + c.loop.at.ignored in
+    record {
+      fits = omega (
+        arith,
+        c.if-rest-read_len.false,
+        c.max-read_len.ensures,
+        ap length (take_rest c.args.input.now start),
+        length-drop start c.args.input.now,
+        begins-within reached,
+        reached.exact.limit,
+      );
+    }

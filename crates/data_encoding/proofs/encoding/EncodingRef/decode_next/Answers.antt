@@ -153,3 +153,17 @@ overflow_add-stop g c =
 pub decode_group-requires-clause-few : goal.decode_group-requires-clause-few
 decode_group-requires-clause-few g c = (gathered g
     (goal.at.decode_group-requires-clause-few g c).After-next_group-group).few
+
+pub decode_group-requires-clause-some : goal.decode_group-requires-clause-some
+decode_group-requires-clause-some g c =
+    some-group (gathered g
+    (goal.at.decode_group-requires-clause-some g c).After-next_group-group) c.is_empty.ensures
+    c.if-is_empty.false
+
+pub next_group-group-requires-clause-symbols : goal.next_group-group-requires-clause-symbols
+next_group-group-requires-clause-symbols g c =
+    c.group_symbols-symbols.ensures ∙ ap group_symbols (sym c.requires.entries.reads.width_is)
+
+pub check_nothing_follows-requires-clause-symbols : goal.check_nothing_follows-requires-clause-symbols
+check_nothing_follows-requires-clause-symbols g c =
+    c.group_symbols-symbols.ensures ∙ ap group_symbols (sym c.requires.entries.reads.width_is)

@@ -1,6 +1,6 @@
-use Rattle.std.proofs.Common.{◌≡◌, ◌+◌, ◌-◌, ◌/◌, ◌<◌, ◌≤◌, length, take, drop, ap, arith, length-take-le}
+use Rattle.std.proofs.Common.{◌≡◌, ◌+◌, ◌-◌, ◌/◌, ◌<◌, ◌≤◌, length, take, drop, ap, arith, length-drop, length-take-le}
 use Rattle.std.proofs.Math.Nat.{mul-le-mul_right}
-use Rattle.std.proofs.lemmas.List.{take_rest}
+use Rattle.std.proofs.lemmas.List.{length-take, take_rest}
 use Rattle.std.proofs.lemmas.Nat.{le-div}
 use Rattle.data_encoding_meaning.specs.text.Base.{group_bytes, group_symbols}
 use Rattle.data_encoding_meaning.proofs.digits.WidthLemmas.{group_symbols-pos}
@@ -8,8 +8,8 @@ use Rattle.data_encoding_meaning.specs.text.Grammar.{kept}
 use Rattle.data_encoding_meaning.proofs.decoding.IgnoredFrontLemmas.{no_front}
 use Rattle.data_encoding_meaning.proofs.grammar.PositionLemmas.{length-by_bytes}
 use Rattle.data_encoding_meaning.proofs.lists.PartLemmas.{groups-within}
-use Rattle.data_encoding_meaning.proofs.lists.WriteLemmas.{length-rewritten_same, rewritten}
-use Rattle.data_encoding.proofs.decoding.OutputLemmas.{exact-same, goes-nowhere_rest}
+use Rattle.data_encoding_meaning.proofs.lists.WriteLemmas.{rewritten}
+use Rattle.data_encoding.proofs.decoding.OutputLemmas.{begins-within, goes-nowhere_rest, moves-on}
 use Rattle.data_encoding.proofs.decoding.PlacingLemmas.{IsPackedTo, packed-to}
 use Rattle.data_encoding.proofs.decoding.StepLemmas.{room-next_run, under_way}
 use Rattle.data_encoding.proofs.encoding.EncodingRef.decode_packed.Given.{Over}
@@ -78,27 +78,80 @@ reached g c =
 pub returns-then-found-count : goal.returns-then-found-count
 returns-then-found-count g c =
     let at = (goal.at.returns-then-found-count g c).After-span_before-end in
-    record {
-      reached = record {
-        exact = exact-same c.requires.at.exact (length-rewritten_same c.args.at.written
-            c.args.output.now c.decode_groups-found.new.output c.requires.at.so_far.fits
-            c.decode_groups-found.auto.output);
-        so_far = (reached g at).so_far;
-        front = (reached g at).front c.if-found-count.true;
-      };
-      further = omega arith;
-    }
+    moves-on c.decode_groups-found.new.output c.requires.at c.decode_groups-found.auto.output
+    (reached g at).so_far ((reached g at).front c.if-found-count.true) (omega arith)
 
 pub returns-else-found-count : goal.returns-else-found-count
 returns-else-found-count g c =
     let at = (goal.at.returns-else-found-count g c).After-span_before-end in
+    moves-on c.decode_groups-found.new.output c.requires.at c.decode_groups-found.auto.output
+    (reached g at).so_far (no_front c.args.self.now _) (omega arith)
+
+pub overflow_add-start : goal.overflow_add-start
+overflow_add-start g c =
+    record { fits = omega (arith, begins-within c.requires.at, c.requires.at.exact.limit) }
+
+pub slice_bounds-pack-count : goal.slice_bounds-pack-count
+slice_bounds-pack-count g c = begins-within c.requires.at
+
+-- the last groups end within the packed bytes
+shorter : (g : Over) (c : After-span_before-end g) → c.span_before-end.result ≤ c.pack-span.result.0
+shorter g c =
+    let start = c.args.at.read + c.args.at.ignored in
+    omega (
+      arith,
+      c.span_before-end.ensures.within,
+      length-take (start + c.pack-span.result.0 - start) (drop start c.args.input.now),
+    )
+
+pub overflow_add-part : goal.overflow_add-part
+overflow_add-part g c =
+    let start = c.args.at.read + c.args.at.ignored in
+    let inside = rw (take_rest c.args.input.now start) at c.pack-span.ensures.within in
     record {
-      reached = record {
-        exact = exact-same c.requires.at.exact (length-rewritten_same c.args.at.written
-            c.args.output.now c.decode_groups-found.new.output c.requires.at.so_far.fits
-            c.decode_groups-found.auto.output);
-        so_far = (reached g at).so_far;
-        front = no_front c.args.self.now _;
-      };
-      further = omega arith;
+      fits = omega (
+        arith,
+        inside,
+        length-drop start c.args.input.now,
+        begins-within c.requires.at,
+        c.requires.at.exact.limit,
+      );
     }
+
+pub overflow_sub-count : goal.overflow_sub-count
+overflow_sub-count g c =
+    omega (
+      arith,
+      c.decode_groups-found.ensures.so_far.within,
+      length-take-le c.pack-span.result.1 c.pack-span.new.room c.pack-span.ensures.room,
+    )
+
+pub overflow_add-result : goal.overflow_add-result
+overflow_add-result g c =
+    record {
+      fits = omega (
+        arith,
+        shorter g c,
+        c.pack-span.ensures.within,
+        ap length (take_rest c.args.input.now (c.args.at.read + c.args.at.ignored)),
+        length-drop (c.args.at.read + c.args.at.ignored) c.args.input.now,
+        begins-within c.requires.at,
+        c.requires.at.exact.limit,
+      );
+    }
+
+pub overflow_add-result-2 : goal.overflow_add-result-2
+overflow_add-result-2 g c =
+    record {
+      fits = omega (
+        arith,
+        c.decode_groups-found.ensures.so_far.fits,
+        c.decode_groups-found.auto.output,
+        ap length (take_rest c.args.output.now c.args.at.written),
+        length-drop c.args.at.written c.args.output.now,
+        c.requires.at.so_far.fits,
+      );
+    }
+
+pub overflow_sub-result : goal.overflow_sub-result
+overflow_sub-result g c = shorter g (goal.at.overflow_sub-result g c).After-span_before-end

@@ -1,8 +1,10 @@
-use Rattle.std.proofs.Common.{◌+◌, ◌*◌, ◌≤◌, refl, sym, ap, arith}
+use Rattle.std.proofs.Common.{◌+◌, ◌*◌, ◌≤◌, refl, sym, ap, arith, length-take-le}
 use Rattle.data_encoding_meaning.specs.text.Base.{group_symbols}
 use Rattle.data_encoding_meaning.proofs.lists.PartLemmas.{length-part}
 use Rattle.data_encoding_kernel.proofs.decoding.JoinSizeLemmas.{join-group}
 use Rattle.data_encoding.proofs.decoding.JudgedGroupLemmas.{symbol-bits}
+use Rattle.data_encoding_meaning.proofs.digits.WidthLemmas.{group_symbols-pos}
+use Rattle.data_encoding.proofs.decoding.OutputLemmas.{reads-no_more}
 use Rattle.data_encoding.proofs.decoding.ReadGroupLemmas.{group-room, reads-few, reads-group}
 use Rattle.data_encoding.proofs.encoding.EncodingRef.decode_padded_at.Given.{Over}
 use Rattle.data_encoding.proofs.encoding.EncodingRef.decode_padded_at.Goals as goal
@@ -70,3 +72,50 @@ returns-in-Ok-clause-on g c =
     ))
     (c.if-not-is_padded_at.ensures.concatenates refl) {count = c.in-Ok.count}
     (rw c.group_symbols.ensures at c.in-Ok.ensures.sound))
+
+pub is_padded_at-requires-clause-join : goal.is_padded_at-requires-clause-join
+is_padded_at-requires-clause-join g c =
+    let by = c.requires.entries in
+    record {
+      is_join = by.join;
+      width_is = sym by.reads.width_is;
+      order_is = sym by.reads.order_is;
+    }
+
+pub is_padded_at-requires-clause-within : goal.is_padded_at-requires-clause-within
+is_padded_at-requires-clause-within g c =
+    omega (
+      arith,
+      c.requires.at.so_far.within,
+      length-take-le c.args.len c.args.part.now c.requires.few,
+    )
+
+pub returns-in-Err-clause-on : goal.returns-in-Err-clause-on
+returns-in-Err-clause-on g c =
+    reads-no_more _ c.requires.entries.reads.holds.is_width c.requires.at c.decode_group.auto.output
+
+pub overflow_add-end : goal.overflow_add-end
+overflow_add-end g c =
+    record { fits = omega (arith, c.group_symbols.ensures, ap group_symbols c.requires.entries.reads.width_is, c.if-not-is_padded_at.ensures.within refl, c.requires.few) }
+
+pub decode_group-requires-clause-few : goal.decode_group-requires-clause-few
+decode_group-requires-clause-few g c =
+    let own = ap group_symbols c.requires.entries.reads.width_is in
+    let within = c.if-not-is_padded_at.ensures.within refl in
+    let len = length-part c.args.at.read c.group_symbols.result c.args.part.now
+    (omega (arith, own, c.group_symbols.ensures, within, c.requires.few)) in
+    omega (arith, len, own, c.group_symbols.ensures)
+
+pub decode_group-requires-clause-some : goal.decode_group-requires-clause-some
+decode_group-requires-clause-some g c =
+    let own = ap group_symbols c.requires.entries.reads.width_is in
+    let within = c.if-not-is_padded_at.ensures.within refl in
+    let len = length-part c.args.at.read c.group_symbols.result c.args.part.now
+    (omega (arith, own, c.group_symbols.ensures, within, c.requires.few)) in
+    omega (
+      arith,
+      len,
+      own,
+      c.group_symbols.ensures,
+      group_symbols-pos c.args.self.now.width c.requires.entries.reads.holds.is_width,
+    )

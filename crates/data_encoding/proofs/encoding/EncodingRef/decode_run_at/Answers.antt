@@ -1,5 +1,6 @@
-use Rattle.std.proofs.Common.{◌≡◌, ◌*◌, ◌/◌, arith}
+use Rattle.std.proofs.Common.{◌≡◌, ◌*◌, ◌/◌, length, sym, ap, arith, length-drop, length-take-le}
 use Rattle.std.proofs.Math.Nat.{div-mul-le_self, mod-eq-sub-div-mul}
+use Rattle.std.proofs.lemmas.List.{take_rest}
 use Rattle.data_encoding_meaning.specs.text.Base.{group_symbols}
 use Rattle.data_encoding_kernel.proofs.decoding.JoinSizeLemmas.{join-group}
 use Rattle.data_encoding.proofs.decoding.ReadGroupLemmas.{reads-run}
@@ -22,3 +23,51 @@ returns-clause-on g c =
     c.args.len c.requires.few c.args.output.now c.decode_run-read.new.output c.requires.at
     c.decode_run-read.auto.output count
     (c.decode_run-read.ensures.run c.args.self.now entries.reads))
+
+pub is_padded_at-requires-clause-join : goal.is_padded_at-requires-clause-join
+is_padded_at-requires-clause-join g c =
+    let by = c.requires.entries in
+    record {
+      is_join = by.join;
+      width_is = sym by.reads.width_is;
+      order_is = sym by.reads.order_is;
+    }
+
+pub is_padded_at-requires-clause-within : goal.is_padded_at-requires-clause-within
+is_padded_at-requires-clause-within g c =
+    omega (
+      arith,
+      c.requires.at.so_far.within,
+      length-take-le c.args.len c.args.part.now c.requires.few,
+    )
+
+pub decode_run-read-requires-clause-few : goal.decode_run-read-requires-clause-few
+decode_run-read-requires-clause-few g c =
+    omega (
+      arith,
+      c.requires.few,
+      ap length (take_rest c.args.part.now c.args.at.read),
+      length-drop c.args.at.read c.args.part.now,
+    )
+
+pub decode_run-read-requires-clause-room : goal.decode_run-read-requires-clause-room
+decode_run-read-requires-clause-room g c =
+    let room = rw (
+      length-take-le c.args.len c.args.part.now c.requires.few,
+      c.requires.entries.reads.width_is,
+    ) at c.requires.at.room in
+    omega (
+      arith,
+      room,
+      ap length (take_rest c.args.output.now c.args.at.written),
+      length-drop c.args.at.written c.args.output.now,
+    )
+
+pub slice_bounds-decode_run-count : goal.slice_bounds-decode_run-count
+slice_bounds-decode_run-count g c =
+    omega (
+      arith,
+      c.requires.at.so_far.within,
+      length-take-le c.args.len c.args.part.now c.requires.few,
+      c.requires.few,
+    )

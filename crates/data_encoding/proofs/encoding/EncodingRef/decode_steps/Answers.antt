@@ -95,3 +95,11 @@ returns g c =
     let now = under_way c.requires.entries.reads.holds.is_width at.exact
     at.so_far in
     decoded-after now at.front c.loop-at-test.false
+
+pub overflow_add-at : goal.overflow_add-at
+overflow_add-at g c =
+    let reached = c.loop-at.invariant.reached in
+    record { fits = omega (arith, begins-within reached, reached.exact.limit) }
+
+pub is_broken_next-requires-clause-within : goal.is_broken_next-requires-clause-within
+is_broken_next-requires-clause-within g c = begins-within c.loop-at.invariant.reached

@@ -4,6 +4,8 @@ use Rattle.std.proofs.lemmas.List.{take_all}
 use Rattle.data_encoding_meaning.specs.text.Base.{ignores_some}
 use Rattle.data_encoding_meaning.specs.decoding.Decoding.{IsGathered}
 use Rattle.data_encoding_meaning.proofs.decoding.GatherLemmas.{gathered-plain}
+use Rattle.data_encoding_meaning.proofs.digits.WidthLemmas.{group_symbols-few}
+use Rattle.data_encoding.proofs.tables.TableLemmas.{IsWidth-seen}
 use Rattle.data_encoding.proofs.encoding.EncodingRef.next_group.Goals as goal
 use Rattle.data_encoding.proofs.encoding.EncodingRef.next_group.Goals.{else-self-via-then-self+else-not-starts_whole, else-self-via-else-self}
 
@@ -30,3 +32,22 @@ returns c =
     ∙ sym (take_all c.min.result rest (omega (arith, few, c.min.ensures))))
     (cases_lt size (length rest)) in
     rw same at whole
+
+pub gather-gathered-requires : goal.gather-gathered-requires
+gather-gathered-requires c =
+    record {
+      few = omega (
+        arith,
+        c.requires.symbols,
+        group_symbols-few c.args.self.now.width
+            (IsWidth-seen _ c.self.invariant c.args.self.now c.self.view_is),
+      );
+    }
+
+pub returns-then-not-starts_whole : goal.returns-then-not-starts_whole
+returns-then-not-starts_whole c =
+    c.gather-gathered.ensures.first c.args.self.now c.requires.ignored
+
+pub slice_bounds-bytes-end : goal.slice_bounds-bytes-end
+slice_bounds-bytes-end c =
+    sym (length-take-le c.min.result c.args.rest.now (omega (arith, c.min.ensures)))

@@ -1,6 +1,7 @@
 use Rattle.std.proofs.Common.{length, arith}
 use Rattle.std.proofs.lemmas.List.{take_all}
-use Rattle.data_encoding.proofs.tables.TableLemmas.{HoldsValues-seen, ascii-seen}
+use Rattle.data_encoding_meaning.proofs.digits.WidthLemmas.{group_symbols-pos}
+use Rattle.data_encoding.proofs.tables.TableLemmas.{HoldsValues-seen, IsWidth-seen, ascii-seen}
 use Rattle.data_encoding.proofs.encoding.EncodingRef.whole_groups_len.Goals as goal
 
 pub returns-then-last-eq0-clause-whole : goal.returns-then-last-eq0-clause-whole
@@ -26,3 +27,12 @@ returns-clause-whole c =
     let count = c.count_kept.ensures seen ignored in
     let before = c.span_before.ensures.ends seen ignored (omega (arith, count)) in
     omega (arith, rw (size, count) at before.before)
+
+pub nonzero_rem-last : goal.nonzero_rem-last
+nonzero_rem-last c =
+    omega (
+      arith,
+      c.group_len.ensures.value,
+      group_symbols-pos c.args.self.now.width
+          (IsWidth-seen _ c.self.invariant c.args.self.now c.self.view_is),
+    )

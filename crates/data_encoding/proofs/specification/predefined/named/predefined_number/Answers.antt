@@ -1,5 +1,9 @@
-use Rattle.std.proofs.Common.{sym, ap}
-use Rattle.data_encoding_meaning.specs.specification.Named.{number_named}
+use Rattle.std.proofs.Common.{◌≡◌, ℕ, Bool, true, false, List, Option, None, cond, refl, sym, ap, ◌∙◌}
+use Rattle.std.proofs.lemmas.Slice.Eq.{bytes_eq-Decides}
+use Rattle.std.proofs.lemmas.Iterator.Adapters.{position_from-zero}
+use Rattle.std.specs.List.{position_from}
+use Rattle.std.specs.Str.{bytes_eq}
+use Rattle.data_encoding_meaning.specs.specification.Named.{names, number_named}
 use Rattle.data_encoding.proofs.specification.predefined.named.predefined_number.Goals as goal
 
 pub returns-in-HEXLOWER : goal.returns-in-HEXLOWER
@@ -55,3 +59,38 @@ returns-in-BASE64URL c = ap number_named (sym c.in-BASE64URL.is)
 
 pub returns-in-BASE64URL_NOPAD : goal.returns-in-BASE64URL_NOPAD
 returns-in-BASE64URL_NOPAD c = ap number_named (sym c.in-BASE64URL_NOPAD.is)
+
+-- what is another name is not found at it
+other : (name one : List ℕ) (found : Option ℕ) {rest : Option ℕ} → (name ≡ one → ⊥) → None ≡ rest
+    → None ≡ cond (bytes_eq name one) found rest
+other name one found {rest} not none = by (bytes_eq name one) (bytes_eq-Decides name one).0 where
+  by : (is : Bool) → (is ≡ true → name ≡ one) → None ≡ cond is found rest
+  by true same = absurd (not (same refl))
+  by false same = none
+
+pub returns-in_default : goal.returns-in_default
+returns-in_default c =
+    let not = c.in_default in
+    let name = c.args.name.now in
+    let none : None ≡ position_from (bytes_eq name) 0 names =
+    other name _ _ not.not-HEXLOWER (
+    other name _ _ not.not-HEXLOWER_PERMISSIVE (
+    other name _ _ not.not-HEXUPPER (
+    other name _ _ not.not-HEXUPPER_PERMISSIVE (
+    other name _ _ not.not-BASE32 (
+    other name _ _ not.not-BASE32_NOPAD (
+    other name _ _ not.not-BASE32_NOPAD_NOCASE (
+    other name _ _ not.not-BASE32_NOPAD_VISUAL (
+    other name _ _ not.not-BASE32HEX (
+    other name _ _ not.not-BASE32HEX_NOPAD (
+    other name _ _ not.not-BASE32_DNSSEC (
+    other name _ _ not.not-BASE32_DNSCURVE (
+    other name _ _ not.not-BASE64 (
+    other name _ _ not.not-BASE64_NOPAD (
+    other name _ _ not.not-BASE64_MIME (
+    other name _ _ not.not-BASE64_MIME_PERMISSIVE (
+    other name _ _ not.not-BASE64URL (
+    other name _ _ not.not-BASE64URL_NOPAD (
+    refl
+    )))))))))))))))))) in
+    none ∙ sym (position_from-zero (bytes_eq name) names)
