@@ -1,8 +1,7 @@
 -- Numbers as bits, in either order.
 use Rattle.std.proofs.Common.{◌≡◌, ℕ, zero, suc, ◌+◌, ◌*◌, ◌/◌, ◌%◌, ◌^◌, ◌<◌, List, [], ◌∷◌, ◌++◌, length, take, drop, reverse, refl, sym, ap, ◌∙◌, subst, arith, length-append, take-append-drop, replicate}
 use Rattle.std.proofs.lemmas.List.{length-reverse, reverse-reverse, reverse-append, replicate-append-replicate}
-use Rattle.std.proofs.Math.Nat.{pow-succ', zero-add, suc-add, div-one, div-div-eq-div-mul, mod-lt}
-use Rattle.std.proofs.lemmas.Nat.{div-add-mod', mod-mul-add, pow_pos}
+use Rattle.std.proofs.Math.Nat.{pow-succ', zero-add, suc-add, div-one, div-div-eq-div-mul}
 use Rattle.std.specs.Prelude.{flat_map}
 use Rattle.std.specs.List.{AllByRecursion}
 use Rattle.data_encoding_meaning.specs.declared.encoding.BitOrder.{BitOrder}
@@ -54,30 +53,6 @@ low_bits-add (suc few) more number =
     ap (λ k. low_bits k number) (suc-add few more)
     ∙ ap (λ l. number % 2 ∷ l) (low_bits-add few more (number / 2)
     ∙ ap (λ k. low_bits few (number / 2) ++ low_bits more k) above)
-
-half-mod : (number m : ℕ) → 0 < m → number % (2 * m) / 2 ≡ number / 2 % m
-half-mod number m h =
-    let whole : number ≡ number / 2 / m * (2 * m) + (2 * (number / 2 % m) + number % 2) =
-    omega (arith, div-add-mod' (number / 2) m) in
-    let rest : 2 * (number / 2 % m) + number % 2 < 2 * m = omega (arith, mod-lt (number / 2) h) in
-    ap (λ n. n % (2 * m) / 2) whole
-    ∙ ap (λ n. n / 2) (mod-mul-add (number / 2 / m) (2 * m) (2 * (number / 2 % m) + number % 2)
-    rest)
-    ∙ omega arith
-
-parity-mod : (number m : ℕ) → number % (2 * m) % 2 ≡ number % 2
-parity-mod number m = omega (arith, div-add-mod' number (2 * m))
-
--- the lowest bits do not depend on those above them
-pub low_bits-mod : (count number : ℕ) → low_bits count (number % 2 ^ count) ≡ low_bits count number
-low_bits-mod zero number = refl
-low_bits-mod (suc count) number =
-    let m = 2 ^ count in
-    let half = half-mod number m (pow_pos count) in
-    let bit = parity-mod number m in
-    ap (λ k. low_bits (suc count) (number % k)) (pow-succ' 2 count)
-    ∙ (λ i. bit i ∷ low_bits count (half i))
-    ∙ ap (λ l. number % 2 ∷ l) (low_bits-mod count (number / 2))
 
 pub AreBits-append : (bits others : List ℕ) → AreBits bits → AreBits others
     → AreBits (bits ++ others)

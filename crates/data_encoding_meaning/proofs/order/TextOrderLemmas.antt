@@ -62,9 +62,6 @@ module _ (base : Base) (width : ℕ) (some : 0 < width) (few : width < 8)
   abbrev shown : List ℕ → List ℕ
   shown bits = text_by base width MostSignificantFirst bits
 
-  abbrev first_symbol : List ℕ → ℕ
-  first_symbol bits = symbol base (front_number width bits)
-
   before-some : (xs ys other : List ℕ) → AreBits ys → xs ≡ [] → 0 < length ys
       → IsBefore (shown xs ++ end) (shown ys ++ other)
   before-some xs ys other are none more =

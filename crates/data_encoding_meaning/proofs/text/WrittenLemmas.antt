@@ -1,5 +1,5 @@
 -- Texts that are written in calls.
-use Rattle.std.proofs.Common.{◌≡◌, ℕ, ◌%◌, ◌≤◌, Result, Ok, Err, IsOk, OnOk, List, [], ◌∷◌, ◌++◌, length, take, drop, refl, ap, subst, arith, append_assoc, take-append-drop, length-take-le}
+use Rattle.std.proofs.Common.{◌≡◌, ℕ, ◌%◌, ◌≤◌, Result, Ok, Err, IsOk, OnOk, List, [], ◌∷◌, ◌++◌, length, take, drop, ap, subst, arith, append_assoc, take-append-drop, length-take-le}
 use Rattle.std.proofs.Output.{has_written_append, writes_in_calls_append, writes_in_calls_nil, writes_in_calls_single}
 use Rattle.std.proofs.lemmas.List.{length-drop, nil_from_length}
 use Rattle.std.specs.Fmt.{HasWritten, IsPlainFormatter, WritesInCalls}
@@ -40,15 +40,6 @@ module _ {W : Type 0} (gives : W → List ℕ → W → Type 0) where
     pub calls : WritesInCalls gives first done now
     pub whole : done ++ text_of base rest ≡ text_of base input
     pub within : length rest ≤ length input
-
-  pub written-none : (base : Base) (input : List ℕ) (first : W)
-      → IsWrittenBefore base input input first first
-  written-none base input first = record {
-    done = [];
-    calls = writes_in_calls_nil gives first;
-    whole = refl;
-    within = omega arith;
-  }
 
   pub written-next : (base : Base) → IsRuled base → (input rest : List ℕ) (first now : W)
       → IsWrittenBefore base input rest first now

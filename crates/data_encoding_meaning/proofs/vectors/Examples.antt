@@ -14,7 +14,7 @@ use Rattle.data_encoding_meaning.specs.text.Text.{text_of}
 abbrev pub Hold : {A B : Type 0} → (A → B) → List (A × B) → Type 0
 Hold f rows = map (λ row. f row.0) rows ≡ map (λ row. row.1) rows
 
-abbrev by_base : {A : Type 0} → (Base → A) → Result Base Refusal → Option A
+abbrev pub by_base : {A : Type 0} → (Base → A) → Result Base Refusal → Option A
 by_base f (Ok base) = Some (f base)
 by_base f (Err refusal) = None
 
@@ -64,7 +64,7 @@ abbrev pub single_fields : Fields
 single_fields = record base64_fields { concatenates = false }
 
 -- The fields have a base, and it is so.
-abbrev Holds : (Base → Type 0) → Result Base Refusal → Type 0
+abbrev pub Holds : (Base → Type 0) → Result Base Refusal → Type 0
 Holds P (Ok base) = P base
 Holds P (Err refusal) = ⊥
 

@@ -1,10 +1,12 @@
 -- Worked rows of what texts mean.
-use Rattle.std.proofs.Common.{◌≡◌, ℕ, ◌<◌, false, List, [], ◌∷◌, ◌++◌, length, codes, Some, None, refl, ap, lit<, arith, lit≤, ◌≤◌, sym, inl, inr, subst, ◌∙◌, ⊎_elim, ◌+◌, zero, suc, map}
+use Rattle.std.proofs.Common.{◌≡◌, ℕ, ◌<◌, false, List, [], ◌∷◌, ◌++◌, length, codes, Some, None, Result, Ok, Err, refl, ap, lit<, arith, lit≤, ◌≤◌, sym, inl, inr, subst, ◌∙◌, ⊎_elim, ◌+◌, zero, suc, map}
 use Rattle.std.proofs.lemmas.Bool.{false≢true}
 use Rattle.std.proofs.lemmas.List.Elements.{All-from_recursion}
 use Rattle.data_encoding_meaning.specs.declared.encoding.Character.TheVariants.{Symbol as SymbolCharacter}
 use Rattle.data_encoding_meaning.specs.declared.encoding.BitOrder.TheVariants.{LeastSignificantFirst, MostSignificantFirst}
 use Rattle.data_encoding_meaning.specs.declared.error.DecodeKind.TheVariants.{Length as LengthFault, Symbol}
+use Rattle.data_encoding_meaning.specs.declared.refusal.Refusal.{Refusal}
+use Rattle.data_encoding_meaning.specs.specification.Fields.{Fields, base_of}
 use Rattle.data_encoding_meaning.specs.text.Base.{Base, is_padding, IsWidth, meaning}
 use Rattle.data_encoding_meaning.specs.decoding.Fault.{fault_of, sound_bytes}
 use Rattle.data_encoding_meaning.specs.text.Grammar.{Means, positioned_from, groups, PlainMeans, GroupMeans, GroupsMean, meanings_in}
@@ -26,7 +28,7 @@ use Rattle.data_encoding_meaning.proofs.canonicity.IgnoredTextLemmas.{ignored-se
 use Rattle.data_encoding_meaning.proofs.canonicity.TrailingTextLemmas.{trailing-second}
 use Rattle.data_encoding_meaning.proofs.canonicity.TranslatedTextLemmas.{padding-second, symbol-second}
 use Rattle.std.specs.Prelude.{slice_index_or, slice_index}
-use Rattle.data_encoding_meaning.proofs.vectors.Examples.{built, by, Has, unchecked, single_fields}
+use Rattle.data_encoding_meaning.proofs.vectors.Examples.{built, by, by_base, Has, Holds, unchecked, single_fields}
 
 -- symbols, a group with padding, and the next one
 plain_symbols :
@@ -136,19 +138,27 @@ differ_at : (index : ℕ) (one other : List ℕ)
 differ_at index one other less same =
     let e = ap (λ text. slice_index_or text index 0) same in omega (arith, less, e)
 
-two_texts : (base : Base) → IsWidth base.width → (index : ℕ) (one other found : List ℕ)
-    → slice_index_or one index 0 < slice_index_or other index 0
+two_texts : (fields : Fields) (made : Result Base Refusal) → base_of fields ≡ made → (index : ℕ)
+    (one other found : List ℕ) → slice_index_or one index 0 < slice_index_or other index 0
     → length one ≤ 16 → length other ≤ 16
-    → fault_of base one ≡ None → fault_of base other ≡ None
-    → sound_bytes base one ≡ found → sound_bytes base other ≡ found
-    → AreTwoTexts base one other found
-two_texts base width index one other found less short few sound none is are = record {
-  differ = differ_at index one other less;
-  one_is_short = short;
-  other_is_short = few;
-  one_means = means_sound base width one found sound is;
-  other_means = means_sound base width other found none are;
-}
+    → by_base (λ base. fault_of base one) made ≡ Some None
+    → by_base (λ base. fault_of base other) made ≡ Some None
+    → by_base (λ base. sound_bytes base one) made ≡ Some found
+    → by_base (λ base. sound_bytes base other) made ≡ Some found
+    → Holds (λ base. AreTwoTexts base one other found) made
+two_texts fields (Ok base) e index one other found less short few sound none is are =
+    let width = (IsRuled-built fields base e).is_width in
+    let sound_one : fault_of base one ≡ None = cc in
+    let sound_other : fault_of base other ≡ None = cc in
+    let one_is : sound_bytes base one ≡ found = cc in
+    let other_is : sound_bytes base other ≡ found = cc in record {
+      differ = differ_at index one other less;
+      one_is_short = short;
+      other_is_short = few;
+      one_means = means_sound base width one found sound_one one_is;
+      other_means = means_sound base width other found sound_other other_is;
+    }
+two_texts fields (Err refusal) e index one other found less short few sound none is are = cc
 
 -- of each cause a pair: a trailing bit, padding in the middle, an ignored byte, a translated byte
 pairs_of_texts :
@@ -162,16 +172,14 @@ pairs_of_texts :
     × Has (translated_fields single_fields (codes "~") (codes "="))
     (λ base. AreTwoTexts base (codes "AA==") (codes "AA=~") (0 ∷ []))
 pairs_of_texts = (
-  two_texts (built (unchecked base64_nopad_fields)) six_bits 1 _ _ _
-      (lit< tt) (lit≤ tt) (lit≤ tt) refl refl refl refl,
-  two_texts (built base64_fields) six_bits 2 _ _ _
-      (lit< tt) (lit≤ tt) (lit≤ tt) refl refl refl refl,
-  two_texts (built base64_mime_fields) six_bits 0 _ _ _
-      (lit< tt) (lit≤ tt) (lit≤ tt) refl refl refl refl,
-  two_texts (built hexlower_permissive_fields) four_bits 0 _ _ _
-      (lit< tt) (lit≤ tt) (lit≤ tt) refl refl refl refl,
-  two_texts (built (translated_fields single_fields (codes "~") (codes "="))) six_bits 3 _ _ _
-      (lit< tt) (lit≤ tt) (lit≤ tt) refl refl refl refl,
+  two_texts (unchecked base64_nopad_fields) _ refl 1 _ _ _ (lit< tt) (lit≤ tt) (lit≤ tt) refl refl
+      refl refl,
+  two_texts base64_fields _ refl 2 _ _ _ (lit< tt) (lit≤ tt) (lit≤ tt) refl refl refl refl,
+  two_texts base64_mime_fields _ refl 0 _ _ _ (lit< tt) (lit≤ tt) (lit≤ tt) refl refl refl refl,
+  two_texts hexlower_permissive_fields _ refl 0 _ _ _ (lit< tt) (lit≤ tt) (lit≤ tt) refl refl refl
+      refl,
+  two_texts (translated_fields single_fields (codes "~") (codes "=")) _ refl 3 _ _ _ (lit< tt)
+      (lit≤ tt) (lit≤ tt) refl refl refl refl,
 )
 
 -- that each possible cause gives such a pair

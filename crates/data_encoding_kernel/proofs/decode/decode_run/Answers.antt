@@ -47,3 +47,7 @@ decode_windows-requires-clause-begun g c = λ values held base reads.
       )
           (run-none base reads.holds.is_width (take c.args.len c.args.input.now) _ _)
     ]
+
+pub returns-clause-run : goal.returns-clause-run
+returns-clause-run g c = λ base reads.
+    run-same base (c.decode_windows.ensures.run c.args.values.now c.requires.held base reads)

@@ -2,8 +2,10 @@ use Rattle.std.proofs.Common.{ℕ, ◌*◌, ◌/◌, ◌<◌, length, map, slice
 use Rattle.std.specs.List.{range_with_len}
 use Rattle.data_encoding_kernel.specs.Tables.{Reads}
 use Rattle.data_encoding_kernel.specs.Words.{digit}
-use Rattle.data_encoding_meaning.proofs.digits.SizeLemmas.{IsGroup-same}
+use Rattle.data_encoding_meaning.proofs.digits.SizeLemmas.{IsGroup-same, IsSmall-group}
 use Rattle.data_encoding_kernel.proofs.digits.KernelLemmas.{entries_below, symbol_bytes-word}
+use Rattle.data_encoding_meaning.proofs.lists.PartLemmas.{IsWhole-group}
+use Rattle.std.proofs.Math.Nat.{mul-le-mul_left}
 use Rattle.data_encoding_kernel.proofs.words.decode_entries.Goals as goal
 
 pub returns : goal.returns
@@ -33,3 +35,23 @@ returns g c =
           (omega (arith, c.requires.few, c.SYMBOLS.ensures))
           (c.requires.exact ∙ ap (λ w. w * length input / 8) (sym c.WIDTH.ensures)) fits low own;
     }
+
+pub word_of_symbols-word-requires-clause-fits : goal.word_of_symbols-word-requires-clause-fits
+word_of_symbols-word-requires-clause-fits g c =
+    rw (c.WIDTH.ensures, c.SYMBOLS.ensures)
+    (omega (arith, (IsSmall-group g.G.GroupSize.is_group).few_bits))
+
+pub bytes_of_word-requires-clause-fits : goal.bytes_of_word-requires-clause-fits
+bytes_of_word-requires-clause-fits g c =
+    omega (arith, c.BYTES.ensures, (IsSmall-group g.G.GroupSize.is_group).few_bytes)
+
+pub bytes_of_word-requires-clause-few : goal.bytes_of_word-requires-clause-few
+bytes_of_word-requires-clause-few g c =
+    let most = mul-le-mul_left g.G.GroupSize.WIDTH c.requires.few in
+    omega (
+      arith,
+      most,
+      (IsWhole-group _ _ _ g.G.GroupSize.is_group).same_bits,
+      c.requires.exact,
+      c.BYTES.ensures,
+    )

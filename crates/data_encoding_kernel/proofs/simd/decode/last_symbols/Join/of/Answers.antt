@@ -1,4 +1,4 @@
-use Rattle.std.proofs.Common.{◌≡◌, ℕ, ◌+◌, ◌*◌, ◌%◌, ◌^◌, ◌==◌, ◌≤◌, if◌then◌else◌, List, [], ◌∷◌, replicate, get_or, refl, sym, subst, arith}
+use Rattle.std.proofs.Common.{◌≡◌, ℕ, ◌+◌, ◌*◌, ◌%◌, ◌^◌, ◌==◌, ◌≤◌, if◌then◌else◌, List, [], ◌∷◌, replicate, get_or, refl, arith}
 use Rattle.data_encoding_meaning.specs.declared.encoding.BitOrder.{BitOrder}
 use Rattle.data_encoding_meaning.specs.declared.encoding.BitOrder.TheVariants.{MostSignificantFirst, LeastSignificantFirst}
 use Rattle.data_encoding_meaning.specs.text.Base.{IsWidth, group_bytes, group_symbols}
@@ -85,31 +85,45 @@ outside = record {
   width = 0;
 }
 
-abbrev At : ℕ → ℕ → Type 0
-At start width = IsJoin (get_or joins (start + width) outside)
+abbrev At : BitOrder → ℕ → ℕ → Type 0
+At order start width =
+    let found = get_or joins (start + width) outside in
+    IsJoin found × ((found.order ≡ order) × (found.width ≡ width))
 
-most : (width : ℕ) → IsWidth width → At 0 width
+most : (width : ℕ) → IsWidth width → At MostSignificantFirst 0 width
 most =
     let is = made-is MostSignificantFirst in
-    by_width (At 0) (is 1 (search arith) refl (search arith))
-    (is 2 (search arith) refl (search arith)) (is 3 (search arith) refl (search arith))
-    (is 4 (search arith) refl (search arith)) (is 5 (search arith) refl (search arith))
-    (is 6 (search arith) refl (search arith))
+    by_width (At MostSignificantFirst 0) (is 1 (search arith) refl (search arith), (refl, refl))
+    (is 2 (search arith) refl (search arith), (refl, refl))
+    (is 3 (search arith) refl (search arith), (refl, refl))
+    (is 4 (search arith) refl (search arith), (refl, refl))
+    (is 5 (search arith) refl (search arith), (refl, refl))
+    (is 6 (search arith) refl (search arith), (refl, refl))
 
-least : (width : ℕ) → IsWidth width → At 8 width
+least : (width : ℕ) → IsWidth width → At LeastSignificantFirst 8 width
 least =
     let is = made-is LeastSignificantFirst in
-    by_width (At 8) (is 1 (search arith) refl (search arith))
-    (is 2 (search arith) refl (search arith)) (is 3 (search arith) refl (search arith))
-    (is 4 (search arith) refl (search arith)) (is 5 (search arith) refl (search arith))
-    (is 6 (search arith) refl (search arith))
+    by_width (At LeastSignificantFirst 8) (is 1 (search arith) refl (search arith), (refl, refl))
+    (is 2 (search arith) refl (search arith), (refl, refl))
+    (is 3 (search arith) refl (search arith), (refl, refl))
+    (is 4 (search arith) refl (search arith), (refl, refl))
+    (is 5 (search arith) refl (search arith), (refl, refl))
+    (is 6 (search arith) refl (search arith), (refl, refl))
 
 pub returns-clause-join : goal.returns-clause-join
 returns-clause-join c =
     let h : IsWidth c.args.width = record { some = c.requires.some; few = c.requires.few } in
     elim c.match-order.branch [
-      | in-MostSignificantFirst w ↦ subst (λ start. At start c.args.width) (sym w.start-is)
-          (most c.args.width h)
-      | in-LeastSignificantFirst w ↦ subst (λ start. At start c.args.width) (sym w.start-is)
-          (least c.args.width h)
+      | in-MostSignificantFirst w ↦ rw w.start-is (most c.args.width h).0
+      | in-LeastSignificantFirst w ↦ rw w.start-is (least c.args.width h).0
+    ]
+
+pub returns-clause-same : goal.returns-clause-same
+returns-clause-same c =
+    let h : IsWidth c.args.width = record { some = c.requires.some; few = c.requires.few } in
+    elim c.match-order.branch [
+      | in-MostSignificantFirst w ↦ rw (w.start-is, w.in-MostSignificantFirst.is)
+          (most c.args.width h).1
+      | in-LeastSignificantFirst w ↦ rw (w.start-is, w.in-LeastSignificantFirst.is)
+          (least c.args.width h).1
     ]
