@@ -10,7 +10,7 @@ use Rattle.encoding_stream.specs.Decoded.{DecodesAll}
 use Rattle.encoding_stream.specs.Encoded.{ReadsMore}
 use Rattle.encoding_stream.specs.declared.error.StreamFault.{StreamFault}
 use Rattle.encoding_stream.specs.declared.error.StreamFault.TheVariants.{Decode as Faulty, TooLong, Read, Write}
-use Rattle.encoding_stream.specs.Watch.{from_to}
+use Rattle.encoding_stream.specs.Watch.{from_to, Change}
 use Rattle.basecode.specs.Faults.{status_after}
 use Rattle.basecode.specs.Run.{ByAnswer, Converts, Done, CausesFault, Refused}
 use Rattle.basecode.specs.Arguments.{Asks, limit_of}
@@ -102,17 +102,15 @@ failed_conversion outcome R W read write = (
       ],
 )
 
--- what decoding reports of a fault explains it
-pub explained : (base : Base) (read_old read_new written_old written_new : Option (List ℕ))
+-- what a stream reports of a fault explains it
+pub explained : (verb : Verb) (base : Base) (reader writer : Change)
     (outcome : Result (Unit {0}) StreamFault)
     → ((error : DecodeError) → outcome ≡ Err (Faulty error)
-    → DecodesAll base (Some error) (from_to read_old read_new) (from_to written_old written_new))
-    → (outcome ≡ Err TooLong → ReadsMore (limit_of Decode) (from_to read_old read_new))
-    → IfErr outcome (CausesFault Decode base (from_to read_old read_new)
-    (from_to written_old written_new))
-explained base read_old read_new written_old written_new (Ok done) faulty past = tt
-explained base read_old read_new written_old written_new (Err (Faulty error)) faulty past =
-    (refl, faulty error refl)
-explained base read_old read_new written_old written_new (Err TooLong) faulty past = past refl
-explained base read_old read_new written_old written_new (Err Read) faulty past = tt
-explained base read_old read_new written_old written_new (Err Write) faulty past = tt
+    → (verb ≡ Decode) × DecodesAll base (Some error) reader writer)
+    → (outcome ≡ Err TooLong → ReadsMore (limit_of verb) reader)
+    → IfErr outcome (CausesFault verb base reader writer)
+explained verb base reader writer (Ok done) faulty past = tt
+explained verb base reader writer (Err (Faulty error)) faulty past = faulty error refl
+explained verb base reader writer (Err TooLong) faulty past = past refl
+explained verb base reader writer (Err Read) faulty past = tt
+explained verb base reader writer (Err Write) faulty past = tt
