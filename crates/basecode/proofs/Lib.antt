@@ -1,4 +1,5 @@
 pub mod ArgumentLemmas
 pub mod ConversionLemmas
+pub mod Conclusions
 mod Vectors
 pub mod LineLemmas

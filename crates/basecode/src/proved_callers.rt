@@ -1,20 +1,17 @@
 //! Small callers, each proved from the clauses of its calls. They show the conclusions that users
 //! can draw.
 
-ghost use Rattle.std.specs.Prelude.{◌≡◌, ◌≢◌, ◌-◌, ◌^◌, ◌+◌, ◌++◌, ◌<◌, ◌≤◌, ◌↔◌, ℕ, List, [], ◌∷◌, codes, length, string_bytes, take, IfOk, IfSome, IsSome, IsTrue, None, OnOk, false};
+ghost use Rattle.std.specs.Prelude.{◌≡◌, ◌≢◌, ◌++◌, ◌≤◌, ◌↔◌, [], ◌∷◌, codes, string_bytes, IfOk, IfSome, IsSome, IsTrue, None, OnOk, Some, false};
 ghost use Rattle.std.specs.Io.KnownBytes.{Keeps};
 ghost use Rattle.data_encoding.specs.Base.{Base};
 ghost use Rattle.data_encoding.specs.Canonical.{IsCanonical};
-ghost use Rattle.data_encoding.specs.Fault.{fault_of, sound_bytes};
-ghost use Rattle.data_encoding.specs.Grammar.{Means};
-ghost use Rattle.data_encoding.specs.Text.{text_of};
 ghost use Rattle.data_encoding.specs.Named.{IsNamed, fields_named, listing};
 ghost use Rattle.basecode.specs.Arguments.{ask_of, texts};
-ghost use Rattle.encoding_stream.specs.Watch.{has_failed, inner_of};
+ghost use Rattle.basecode.specs.Run.{Begun, Done, Refused};
+ghost use Rattle.encoding_stream.specs.Watch.{from_to, has_failed, inner_of};
 
 use crate::command::request_named;
 use crate::run::run;
-use data_encoding::DECODE_LIMIT;
 use encoding_stream::Watch;
 use std::alloc::{AllocError, Global};
 use std::io::Read;
@@ -37,59 +34,27 @@ fn two_arguments(alloc: Global, verb: &str, name: &str) -> Result<Vec<String>, A
     Ok(vec![in alloc; verb, name]?)
 }
 
-/// Encodes bytes in memory, and appends their text to `output`.
-fn encode<'a>(
+/// Runs with two arguments over bytes in memory, and appends the output to `output`.
+fn run_in_memory<'a>(
     alloc: Global,
+    verb: &str,
     name: &str,
     input: &'a [u8],
     output: Vec<u8>,
 ) -> Result<Outcome<'a>, AllocError>
     ensures status { IfOk result (λ ended. ended.status ≤ 3) }
-    ensures whole { IfOk result (λ ended. ended.status ≡ 0 → ended.rest.now ≡ []) }
-    ensures text { IfOk result (λ ended. ended.status ≡ 0 → (base : Base) → IsNamed name.now base
-        → ended.output.items ≡ output.items ++ text_of base input.now) }
-    ensures too_long { IfOk result (λ ended. ended.status ≡ 1
-        → 2 ^ 64 - 1 < length input.now) }
-    ensures begun { IfOk result (λ ended. ended.status ≢ 2 → (base : Base) → IsNamed name.now base
-        → (count : ℕ)
-        × (ended.output.items ≡ output.items ++ take count (text_of base input.now))) }
+    ensures done { IfOk result (λ ended. ended.status ≡ 0 → Done (verb.now ∷ name.now ∷ [])
+        (from_to (Some input.now) (Some ended.rest.now))
+        (from_to (Some output.items) (Some ended.output.items))) }
+    ensures refused { IfOk result (λ ended. ended.status ≡ 1 → Refused (verb.now ∷ name.now ∷ [])
+        (from_to (Some input.now) (Some ended.rest.now))
+        (from_to (Some output.items) (Some ended.output.items))) }
+    ensures begun { IfOk result (λ ended. ended.status ≢ 2 → Begun (verb.now ∷ name.now ∷ [])
+        (from_to (Some input.now) (Some ended.rest.now))
+        (from_to (Some output.items) (Some ended.output.items))) }
     ensures kept { IfOk result (λ ended. ended.status ≡ 2 → ended.output.items ≡ output.items) }
 {
-    let words = two_arguments(alloc, "encode", name)?;
-    let mut reader = Watch::new(input);
-    let mut writer = Watch::new(output);
-    let mut faults = Vec::new(alloc);
-    let status = run(alloc, &words, &mut reader, &mut writer, &mut faults);
-    Ok(Outcome {
-        status,
-        rest: reader.into_inner(),
-        output: writer.into_inner(),
-    })
-}
-
-/// Decodes a text in memory, and appends its data to `output`.
-fn decode<'a>(
-    alloc: Global,
-    name: &str,
-    input: &'a [u8],
-    output: Vec<u8>,
-) -> Result<Outcome<'a>, AllocError>
-    ensures status { IfOk result (λ ended. ended.status ≤ 3) }
-    ensures whole { IfOk result (λ ended. ended.status ≡ 0 → ended.rest.now ≡ []) }
-    ensures means { IfOk result (λ ended. ended.status ≡ 0 → (base : Base) → IsNamed name.now base
-        → (bytes : List ℕ) × Means base input.now bytes
-        × (ended.output.items ≡ output.items ++ bytes)) }
-    ensures sound { IfOk result (λ ended. (base : Base) → IsNamed name.now base
-        → fault_of base input.now ≡ None → length input.now ≤ DECODE_LIMIT → ended.status ≢ 1) }
-    ensures faulty { IfOk result (λ ended. ended.status ≡ 1 → length input.now ≤ DECODE_LIMIT
-        → (ended.rest.now ≡ []) × ((base : Base) → IsNamed name.now base
-        → ended.output.items ≡ output.items ++ sound_bytes base input.now)) }
-    ensures begun { IfOk result (λ ended. ended.status ≢ 2 → (base : Base) → IsNamed name.now base
-        → (count : ℕ)
-        × (ended.output.items ≡ output.items ++ take count (sound_bytes base input.now))) }
-    ensures kept { IfOk result (λ ended. ended.status ≡ 2 → ended.output.items ≡ output.items) }
-{
-    let words = two_arguments(alloc, "decode", name)?;
+    let words = two_arguments(alloc, verb, name)?;
     let mut reader = Watch::new(input);
     let mut writer = Watch::new(output);
     let mut faults = Vec::new(alloc);
@@ -106,7 +71,13 @@ fn encode_hello(alloc: Global) -> Result<Option<Vec<u8>>, AllocError>
     ensures { IfOk result (λ output. IfSome output (λ bytes.
         bytes.items ≡ codes "> 48656c6c6f")) }
 {
-    let outcome = encode(alloc, "HEXLOWER", b"Hello", vec![in alloc; b'>', b' ']?)?;
+    let outcome = run_in_memory(
+        alloc,
+        "encode",
+        "HEXLOWER",
+        b"Hello",
+        vec![in alloc; b'>', b' ']?,
+    )?;
     if outcome.status != 0 {
         return Ok(None);
     }
@@ -141,16 +112,11 @@ fn canonical(alloc: Global, name: &str) -> Result<Option<bool>, AllocError>
     ensures { IfOk result (λ found. IfSome found (λ answer. (base : Base) → IsNamed name.now base
         → (IsTrue answer ↔ IsCanonical base))) }
 {
-    let words = two_arguments(alloc, "canonical", name)?;
-    let mut reader = Watch::new(b"".as_slice());
-    let mut writer = Watch::new(Vec::new(alloc));
-    let mut faults = Vec::new(alloc);
-    let status = run(alloc, &words, &mut reader, &mut writer, &mut faults);
-    if status != 0 {
+    let outcome = run_in_memory(alloc, "canonical", name, b"", Vec::new(alloc))?;
+    if outcome.status != 0 {
         return Ok(None);
     }
-    let line = writer.into_inner();
-    Ok(Some(line.as_slice() == b"true\n".as_slice()))
+    Ok(Some(outcome.output.as_slice() == b"true\n".as_slice()))
 }
 
 /// Returns the message about two arguments, or an empty string if they are valid.

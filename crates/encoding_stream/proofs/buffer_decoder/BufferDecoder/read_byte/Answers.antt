@@ -1,5 +1,5 @@
 use Rattle.std.proofs.lemmas.List.Elements.{All-contains, All-weaker}
-use Rattle.std.proofs.Common.{All, set, ◌<◌, ◌≡◌, ◌+◌, ◌∙◌, arith, refl, sym, subst, [], ◌∷◌, take, length-take-le}
+use Rattle.std.proofs.Common.{All, set, ◌<◌, ◌≡◌, ◌+◌, ◌∙◌, arith, refl, rules, sym, subst, [], ◌∷◌, take, length-take-le}
 use Rattle.encoding_stream.specs.declared.buffer_decoder.BufferDecoder.{BufferDecoder}
 use Rattle.encoding_stream.specs.BufferDecoder.{base_of_pieces}
 use Rattle.encoding_stream.specs.Reading.{ReadsOn}
@@ -97,37 +97,52 @@ returns-in-Err-clause-reads c =
     c.group_len-size.result (omega (arith, whole, s.short, c.if-index-size.false)) s.laws.group
     whole c.in-Err.error c.in-Err.ensures.fault
 
-pub invariant_of-self-then-is_ignored-clause-inside :
-    goal.invariant_of-self-then-is_ignored-clause-inside
-invariant_of-self-then-is_ignored-clause-inside c =
-    let s = c.args.self.now in
-    All-weaker (λ p. p < s.kept.len) (λ p. p < s.kept.len + 1) (λ p k. omega (arith, k))
-    (take s.kept.count s.kept.positions) s.inside
-
-pub invariant_of-self-then-is_ignored-clause-fault_inside :
-    goal.invariant_of-self-then-is_ignored-clause-fault_inside
-invariant_of-self-then-is_ignored-clause-fault_inside c =
-    no-fault-inside c.args.self.now.kept _ (sym c.is_some.ensures ∙ c.if-is_some.false)
+pub invariant_of-self-then-is_ignored : goal.invariant_of-self-then-is_ignored
+invariant_of-self-then-is_ignored c =
+    let k = c.args.self.now.kept in
+    record {
+      laws = search rules;
+      specified = search rules;
+      width = search rules;
+      short = search rules;
+      held = search rules;
+      clear = search rules;
+      limit = search rules;
+      inside =
+          All-weaker (λ p. p < k.len) (λ p. p < k.len + 1) (λ p k. omega (arith, k))
+          (take k.count k.positions) c.args.self.now.inside;
+      fault_inside = no-fault-inside k _ (sym c.is_some.ensures ∙ c.if-is_some.false);
+    }
 
 pub invariant_of-self-2-clause-fault_inside : goal.invariant_of-self-2-clause-fault_inside
 invariant_of-self-2-clause-fault_inside c =
     no-fault-inside c.args.self.now.kept _ (sym c.is_some.ensures ∙ c.if-is_some.false)
 
-pub invariant_of-self-then-index-size-clause-fault_inside :
-    goal.invariant_of-self-then-index-size-clause-fault_inside
-invariant_of-self-then-index-size-clause-fault_inside c =
-    no-fault-inside c.args.self.now.kept _ (sym c.is_some.ensures ∙ c.if-is_some.false)
-
-pub invariant_of-self-then-index-size-clause-inside :
-    goal.invariant_of-self-then-index-size-clause-inside
-invariant_of-self-then-index-size-clause-inside c =
+pub invariant_of-self-then-index-size : goal.invariant_of-self-then-index-size
+invariant_of-self-then-index-size c =
     let s = c.args.self.now in
-    inside-more s.kept.count s.kept.len s.kept.positions
-    (omega (arith, symbols-few (base_of_pieces s).width s.width, s.short)) s.inside
+    let k = s.kept in
+    record {
+      laws = search rules;
+      specified = search rules;
+      width = search rules;
+      short =
+          omega (
+            arith,
+            c.if-index-size.true,
+            rw c.by_ref-encoding.ensures at c.group_len-size.ensures.value,
+          );
+      held = search rules;
+      clear = search rules;
+      limit = search rules;
+      inside =
+          inside-more k.count k.len k.positions
+          (omega (arith, symbols-few (base_of_pieces s).width s.width, s.short)) s.inside;
+      fault_inside = no-fault-inside k _ (sym c.is_some.ensures ∙ c.if-is_some.false);
+    }
 
-pub invariant_of-self-in-Err-clause-fault_inside :
-    goal.invariant_of-self-in-Err-clause-fault_inside
-invariant_of-self-in-Err-clause-fault_inside c =
+pub invariant_of-self-in-Err : goal.invariant_of-self-in-Err
+invariant_of-self-in-Err c =
     let s = c.args.self.now in
     let k = s.kept in
     let count = c.group_len-size.result in
@@ -141,17 +156,19 @@ invariant_of-self-in-Err-clause-fault_inside c =
     let below =
     inside-more k.count k.len k.positions
     (omega (arith, symbols-few (base_of_pieces s).width s.width, s.short)) s.inside in
-    All-contains (λ p. p < k.len + 1) (take count (set k.positions k.count k.len))
-    c.in-Err.error.position
-    (subst (λ n. All (λ p. p < k.len + 1) (take n (set k.positions k.count k.len))) (sym size)
-    below)
-    c.in-Err.ensures.position
-
-pub invariant_of-self-then-index-size-clause-short :
-    goal.invariant_of-self-then-index-size-clause-short
-invariant_of-self-then-index-size-clause-short c =
-    omega (
-      arith,
-      c.if-index-size.true,
-      rw c.by_ref-encoding.ensures at c.group_len-size.ensures.value,
-    )
+    record {
+      laws = search rules;
+      specified = search rules;
+      width = search rules;
+      short = search rules;
+      held = search rules;
+      clear = search rules;
+      limit = search rules;
+      inside = search rules;
+      fault_inside =
+          All-contains (λ p. p < k.len + 1) (take count (set k.positions k.count k.len))
+          c.in-Err.error.position
+          (subst (λ n. All (λ p. p < k.len + 1) (take n (set k.positions k.count k.len)))
+          (sym size) below)
+          c.in-Err.ensures.position;
+    }

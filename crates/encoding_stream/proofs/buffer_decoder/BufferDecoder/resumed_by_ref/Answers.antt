@@ -1,4 +1,4 @@
-use Rattle.std.proofs.Common.{refl, sym, ◌∙◌, arith}
+use Rattle.std.proofs.Common.{refl, rules, sym, ◌∙◌, arith}
 use Rattle.encoding_stream.proofs.OrderLemmas.{ascend-below}
 use Rattle.encoding_stream.proofs.ResumedLemmas.{held-few, may-be-kept}
 use Rattle.encoding_stream.proofs.SizeLemmas.{symbols-few}
@@ -52,17 +52,24 @@ returns-then-not-has_possible_fault-clause-resumes c = λ is.
     is.limit is.clear in
     sym c.if-not-has_possible_fault.true ∙ c.has_possible_fault.ensures.complete may.fault
 
-pub invariant_of-decoder-clause-clear : goal.invariant_of-decoder-clause-clear
-invariant_of-decoder-clause-clear c =
-    (c.has_possible_fault.ensures.sound c.if-not-has_possible_fault.false).clear
-
-pub invariant_of-decoder-clause-inside : goal.invariant_of-decoder-clause-inside
-invariant_of-decoder-clause-inside c =
-    ascend-below 0 c.args.kept.len _ (c.is_in_order.ensures.sound c.if-not-is_in_order.false)
-
-pub invariant_of-decoder-clause-fault_inside : goal.invariant_of-decoder-clause-fault_inside
-invariant_of-decoder-clause-fault_inside c =
-    (c.has_possible_fault.ensures.sound c.if-not-has_possible_fault.false).inside
+pub invariant_of-decoder : goal.invariant_of-decoder
+invariant_of-decoder c =
+    let may = c.has_possible_fault.ensures.sound c.if-not-has_possible_fault.false in
+    record {
+      laws = search rules;
+      specified = search rules;
+      width = search rules;
+      short =
+          rw c.new_by_ref-decoder.ensures.base
+          (omega (arith, c.if-kept-group_len.false, c.group_len.ensures.value));
+      held = search rules;
+      clear = may.clear;
+      limit = search rules;
+      inside =
+          ascend-below 0 c.args.kept.len _
+          (c.is_in_order.ensures.sound c.if-not-is_in_order.false);
+      fault_inside = may.inside;
+    }
 
 pub returns-clause-tested : goal.returns-clause-tested
 returns-clause-tested c = λ _.
@@ -76,11 +83,6 @@ returns-clause-tested c = λ _.
 
 pub returns-clause-goes_on : goal.returns-clause-goes_on
 returns-clause-goes_on c = record { base_is = c.new_by_ref-decoder.ensures.base; kept_is = refl }
-
-pub invariant_of-decoder-clause-short : goal.invariant_of-decoder-clause-short
-invariant_of-decoder-clause-short c =
-    rw c.new_by_ref-decoder.ensures.base
-    (omega (arith, c.if-kept-group_len.false, c.group_len.ensures.value))
 
 pub holds_ignored-requires : goal.holds_ignored-requires
 holds_ignored-requires c =

@@ -12,3 +12,13 @@ returns-clause-bytes c =
     (omega (arith, c.whole_groups_len-len.ensures.within, within))
     (rw c.by_ref-encoding.ensures at (sym c.decode_len.ensures.value ∙ c.in-Ok.is)) all.due in
     omega (arith, few, all.bytes)
+
+pub returns-clause-few : goal.returns-clause-few
+returns-clause-few c =
+    let all = c.completed_groups-len.ensures in
+    omega (
+      arith,
+      c.whole_groups_len-len.ensures.within,
+      length-take-le c.completed_groups-len.result.0 c.args.piece.now all.few,
+      all.few,
+    )
