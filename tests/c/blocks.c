@@ -162,6 +162,10 @@ static void given_back(const struct by *by) {
     is("layout", DE_OK, de_encoding_layout(&made, layout, sizeof layout, &layout_len));
     is("layout", DE_OK, de_encoding_layout(&remade, other, sizeof other, &other_len));
     holds("the same layout", layout_len == other_len && memcmp(layout, other, layout_len) == 0);
+    if (by->own != NULL) {
+        is("layout", DE_OK, de_encoding_layout(by->own, other, sizeof other, &other_len));
+        holds("its layout", layout_len == other_len && memcmp(layout, other, layout_len) == 0);
+    }
     same.symbols = NULL;
     is("short", DE_SHORT_BUFFER, specification_of(by, &same, texts, len - 1));
     holds("nothing is changed", same.symbols == NULL);

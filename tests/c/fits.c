@@ -160,6 +160,13 @@ static void spread(void) {
     to_rooms(&by, 3 * len, 32);
 }
 
+/* Texts with padding, one after the other, of which only the first groups fit. */
+static void concatenated(void) {
+    struct by by = {NULL, DE_BASE64};
+    memcpy(text, "Zg==Zg==Zg==Zg==Zg==", 20);
+    to_rooms(&by, 20, 5);
+}
+
 /* A length that de_decode_len refuses leaves the output unchanged, and a fault in a short output
  * leaves both numbers 0. */
 static void refused(void) {
@@ -192,6 +199,7 @@ int main(void) {
     own("0123456789abcdefghjkmnpqrstvwxyz", '=', "", 8);
     own("ABCDEFGHIJKLMNOPQRSTUVWXYZabcdefghijklmnopqrstuvwxyz0123456789-_", -1, "", 64);
     spread();
+    concatenated();
     refused();
     printf("%d passed, %d failed\n", passed, failed);
     return failed != 0;

@@ -39,9 +39,12 @@ fn tells_a_length(hog: &mut Hog) -> bool {
 
 /// Tests `Decoder::push`.
 pub fn pushes(hog: &mut Hog) -> bool {
+    if !is_pushed_to_full(hog) {
+        return false;
+    }
     for (encoding, digit) in [(hexlower(), b'0'), (base64(), b'A'), (base64_mime(), b'A')] {
-        let text = [digit; 300];
-        for len in [0, 5, 299] {
+        let text = [digit; 1200];
+        for len in [0, 5, 299, 1199] {
             let piece = text.get(..len).unwrap_or(&[]);
             if !is_pushed(hog, &encoding, &[digit], piece) {
                 return false;
@@ -56,7 +59,7 @@ pub fn pushes(hog: &mut Hog) -> bool {
 ///
 /// `front` has no whole group.
 fn is_pushed(hog: &mut Hog, encoding: &Encoding, front: &[u8], piece: &[u8]) -> bool {
-    if front.len() > 8 || piece.len() > 300 {
+    if front.len() > 8 || piece.len() > 1200 {
         return false;
     }
     let mut want = Vec::new(hog.alloc);
@@ -85,6 +88,26 @@ fn is_pushed(hog: &mut Hog, encoding: &Encoding, front: &[u8], piece: &[u8]) -> 
         && second.is_ok()
         && decoder.len() == whole.len()
         && output.as_slice() == want.as_slice()
+}
+
+/// Returns `true` if a piece runs out of memory if the output holds bytes and is full.
+fn is_pushed_to_full(hog: &mut Hog) -> bool {
+    let mut output = Vec::new(hog.alloc);
+    let encoding = hexlower();
+    let mut decoder = Decoder::new(&encoding);
+    let held = decoder.push(b"00000000000000000000000000000000", &mut output);
+    for _ in output.len()..output.capacity() {
+        if output.push(0).is_err() {
+            return false;
+        }
+    }
+    let len = output.len();
+    hog.fill();
+    let pushed = decoder.push(b"0000", &mut output);
+    hog.clear();
+    held.is_ok()
+        && pushed.is_err() == hog.has_refused(true)
+        && (pushed.is_ok() || output.len() == len)
 }
 
 /// Tests `Decoder::finish`, which returns the decoder if memory runs out.

@@ -3,6 +3,7 @@
 use super::original_table;
 use super::predefined::case_of;
 use super::rows::{compare_answer, row_of};
+use conformance::callers::referenced::decode_exactly;
 use conformance::callers::symbols_of;
 use data_encoding::spec::{Specification, SpecificationError};
 use data_encoding::{BitOrder, Encoding, SpecificationParts, base64_mime};
@@ -335,5 +336,27 @@ fn refusals(rt: HostRuntime) -> Result<(), Fail> {
         compare_answer(rt.alloc(), want, answer.as_str(), want)?;
     }
     assert!(rt; plain_data_matches());
+    Ok(())
+}
+
+#[test]
+fn zero_byte_is_a_symbol(rt: HostRuntime) -> Result<(), Fail> {
+    let parts = SpecificationParts {
+        symbols: b"\0123456789abcdef",
+        bit_order: BitOrder::MostSignificantFirst,
+        check_trailing_bits: true,
+        concatenate: true,
+        padding: None,
+        ignore: b" ",
+        wrap_width: 0,
+        wrap_separator: b"",
+        translate_from: b"",
+        translate_to: b"",
+    };
+    let encoding = parts.encoding()?;
+    let mut output = [0; 9];
+    let len = decode_exactly(&encoding.by_ref(), b"123 4567 89abcdef 1", &mut output);
+    assert_eq!(rt; len, Some(8));
+    assert!(rt; output.starts_with(b"\x12\x34\x56\x78\x9a\xbc\xde\xf1"));
     Ok(())
 }
