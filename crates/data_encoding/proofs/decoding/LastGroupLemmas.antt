@@ -5,7 +5,7 @@ use Rattle.std.proofs.Math.Seq.{take-append-add}
 use Rattle.std.proofs.lemmas.Bool.{cases_lt, eqb-true, false≢true}
 use Rattle.std.proofs.lemmas.Bool.Decides.{nat_tests}
 use Rattle.std.proofs.lemmas.List.{append-nil, append_assoc, drop-drop, drop_all, get_or-drop, get_or-take, length-drop, length-map, take-take}
-use Rattle.std.proofs.lemmas.Nat.{div-add-mod', mul-le}
+use Rattle.std.proofs.lemmas.Nat.{div-add-mod'}
 use Rattle.std.specs.List.{list_any}
 use Rattle.data_encoding_meaning.specs.declared.encoding.Character.{Character}
 use Rattle.data_encoding_meaning.specs.declared.encoding.Character.TheVariants.{Symbol, Padding as PaddingCharacter, Ignored, Invalid}
@@ -155,11 +155,6 @@ ends-full {base} width {rest} {front} is short padding all valid how =
     ends-after width is short padding (omega (arith, all)) (ap (is_valid_length base) all ∙ valid)
     how
     (ap (kept base) nothing)
-
--- the symbols of a vector mean few bytes
-pub few-bytes : (width symbols : ℕ) → width ≤ 6 → symbols ≤ 16 → width * symbols / 8 ≤ 12
-few-bytes width symbols narrow few =
-    let most = mul-le width symbols 6 16 narrow few in omega (arith, most)
 
 -- if nothing is ignored, the length of what is left is valid
 pub rest-valid : {base : Base} → IsWidth base.width → {text output : List ℕ} {read written : ℕ}
