@@ -7,7 +7,7 @@ use crate::fault::WordFault;
 use data_encoding::{Encoding, predefined};
 
 /// A conversion.
-#[derive(Clone, Copy, Debug, PartialEq, Eq)]
+#[derive(Clone, Copy)]
 pub enum Verb {
     /// Encode the input.
     Encode,
@@ -17,7 +17,7 @@ pub enum Verb {
 }
 
 /// The request of a verb.
-#[derive(Clone, Copy, Debug, PartialEq, Eq)]
+#[derive(Clone, Copy)]
 pub enum Ask {
     /// Convert the input.
     Conversion(Verb),
@@ -27,7 +27,7 @@ pub enum Ask {
 }
 
 /// A request about an encoding.
-#[derive(Debug, Drop)]
+#[derive(Drop)]
 pub struct Task {
     /// The request.
     pub ask: Ask,
@@ -37,7 +37,7 @@ pub struct Task {
 }
 
 /// The request of a command line.
-#[derive(Debug, Drop)]
+#[derive(Drop)]
 pub enum Request {
     /// List the names of the encodings.
     List,

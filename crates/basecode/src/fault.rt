@@ -15,7 +15,7 @@ use std::{fmt, io};
 const LINE_LIMIT: usize = 4096;
 
 /// The fault of the arguments of a command line.
-#[derive(Clone, Copy, Debug)]
+#[derive(Clone, Copy)]
 pub enum WordFault<'a> {
     /// Their number is wrong, or the first is not a verb.
     Usage,

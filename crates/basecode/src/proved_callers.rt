@@ -18,7 +18,7 @@ use std::io::Read;
 
 /// The result of a run over bytes in memory: its exit status, the rest of the input, and the
 /// output.
-#[derive(Debug, Drop)]
+#[derive(Drop)]
 struct Outcome<'a> {
     status: u8,
     rest: &'a [u8],

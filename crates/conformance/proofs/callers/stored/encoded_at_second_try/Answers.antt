@@ -1,4 +1,4 @@
-use Rattle.std.proofs.Common.{◌≡◌, ℕ, List, ◌++◌, false, rules, Result, Ok, Err, OnOk, OnErr, is_err, sym, ap, ◌∙◌, subst}
+use Rattle.std.proofs.Common.{◌≡◌, ℕ, List, ◌++◌, false, rules, Result, Ok, Err, OnOk, is_err, sym, ap, ◌∙◌, subst}
 use Rattle.std.proofs.lemmas.Result.{IfOk-at_ok}
 use Rattle.std.specs.String.{string_bytes}
 use Rattle.data_encoding.specs.declared.encoder.Encoder.{Encoder}
@@ -8,15 +8,10 @@ use Rattle.data_encoding.specs.EncodedPieces.{HasEncoded}
 use Rattle.data_encoding.specs.Text.{text_of}
 use Rattle.conformance.proofs.callers.stored.encoded_at_second_try.Goals as goal
 
--- a property of Ok holds if there is no error, and one of Err if there is one
+-- a property of Ok holds if there is no error
 where_ok : {T E P : Type 0} (result : Result T E) → false ≡ is_err result → OnOk result P → P
 where_ok (Ok x) none holds = holds
 where_ok (Err error) none holds = cc
-
-where_err : {T E P : Type 0} (result : Result T E) (error : E) → result ≡ Err error
-    → OnErr result P → P
-where_err (Ok x) error is holds = cc
-where_err (Err other) error is holds = holds
 
 -- an encoder that is unchanged has taken the same bytes
 still_taken : {E : Type 0} {by : Encodes.Ghosts E} (old new : Encoder E by)
