@@ -124,3 +124,19 @@ loop-at-preserved g c =
       reached = after.reached;
       within = omega (arith, c.saturating_sub-len.ensures);
     }
+
+pub returns-in-Ended : goal.returns-in-Ended
+returns-in-Ended g c = c.in-Ended.ensures
+
+pub returns-in-Faulty : goal.returns-in-Faulty
+returns-in-Faulty g c = c.in-Faulty.ensures
+
+pub progress_at-at-requires : goal.progress_at-at-requires
+progress_at-at-requires g c = record { within = c.in-More.ensures.1.within }
+
+pub decode_next-requires-clause-at : goal.decode_next-requires-clause-at
+decode_next-requires-clause-at g c =
+    elim c.if-is_broken_next.branch [
+      | then-is_broken_next v ↦ rw (v.at-is, v.output-is) v.decode_packed-at.ensures.reached
+      | else-is_broken_next v ↦ rw (v.at-is, v.output-is) c.loop-at.invariant.reached
+    ]
