@@ -96,10 +96,47 @@ returns g c =
     at.so_far in
     decoded-after now at.front c.loop-at-test.false
 
+pub loop-at-init : goal.loop-at-init
+loop-at-init g c = record { reached = c.requires.first; within = omega arith }
+
 pub overflow_add-at : goal.overflow_add-at
 overflow_add-at g c =
     let reached = c.loop-at.invariant.reached in
     record { fits = omega (arith, begins-within reached, reached.exact.limit) }
 
+pub decode_lines-at-requires-clause-within : goal.decode_lines-at-requires-clause-within
+decode_lines-at-requires-clause-within g c =
+    omega (arith, c.loop-at.invariant.within, c.loop-at.invariant.reached.so_far.within)
+
+pub decode_lines-at-requires-clause-at : goal.decode_lines-at-requires-clause-at
+decode_lines-at-requires-clause-at g c = c.loop-at.invariant.reached
+
+pub decode_packed-at-requires-clause-at : goal.decode_packed-at-requires-clause-at
+decode_packed-at-requires-clause-at g c = c.loop-at.invariant.reached
+
 pub is_broken_next-requires-clause-within : goal.is_broken_next-requires-clause-within
 is_broken_next-requires-clause-within g c = begins-within c.loop-at.invariant.reached
+
+pub loop-at-preserved : goal.loop-at-preserved
+loop-at-preserved g c =
+    let after = c.decode_in_place-at.ensures.on in
+    record {
+      reached = after.reached;
+      within = omega (arith, c.saturating_sub-len.ensures);
+    }
+
+pub returns-in-Ended : goal.returns-in-Ended
+returns-in-Ended g c = c.in-Ended.ensures
+
+pub returns-in-Faulty : goal.returns-in-Faulty
+returns-in-Faulty g c = c.in-Faulty.ensures
+
+pub progress_at-at-requires : goal.progress_at-at-requires
+progress_at-at-requires g c = record { within = c.in-More.ensures.1.within }
+
+pub decode_next-requires-clause-at : goal.decode_next-requires-clause-at
+decode_next-requires-clause-at g c =
+    elim c.if-is_broken_next.branch [
+      | then-is_broken_next v ↦ rw (v.at-is, v.output-is) v.decode_packed-at.ensures.reached
+      | else-is_broken_next v ↦ rw (v.at-is, v.output-is) c.loop-at.invariant.reached
+    ]
