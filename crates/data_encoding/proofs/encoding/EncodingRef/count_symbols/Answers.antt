@@ -101,6 +101,9 @@ overflow_mul-width c =
     c.requires.few in
     record { fits = omega (arith, few) }
 
+pub nonzero_div-trailing : goal.nonzero_div-trailing
+nonzero_div-trailing c = c.requires.join.is_join.some
+
 pub overflow_sub-group : goal.overflow_sub-group
 overflow_sub-group c =
     div-le_of_le-mul c.args.join.now.width (omega arith)

@@ -137,6 +137,15 @@ pub is_end-is_valid-requires-clause-front : goal.is_end-is_valid-requires-clause
 is_end-is_valid-requires-clause-front c =
     rw (take_rest c.args.input.now c.args.at.read) c.requires.front
 
+pub is_end-is_valid-requires-clause-join : goal.is_end-is_valid-requires-clause-join
+is_end-is_valid-requires-clause-join c = c.requires.join
+
+pub slice_bounds-is_end-count : goal.slice_bounds-is_end-count
+slice_bounds-is_end-count c = c.requires.at.so_far.within
+
+pub slice_bounds-store_front-count : goal.slice_bounds-store_front-count
+slice_bounds-store_front-count c = c.requires.at.so_far.fits
+
 pub bytes_len-count-requires : goal.bytes_len-count-requires
 bytes_len-count-requires c =
     let some : c.if-is_valid.symbols ≤ 16 =

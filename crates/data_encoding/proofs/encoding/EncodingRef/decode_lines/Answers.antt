@@ -1,5 +1,5 @@
 use Rattle.std.proofs.Common.{◌≡◌, ◌+◌, ◌-◌, ◌*◌, ◌/◌, ◌≤◌, length, take, drop, refl, sym, ap, ◌∙◌, subst, arith, length-drop}
-use Rattle.std.proofs.Math.Nat.{mul-le-mul_right}
+use Rattle.std.proofs.Math.Nat.{div-le_self, mul-le-mul_right}
 use Rattle.std.proofs.lemmas.List.{drop-drop, take_rest}
 use Rattle.data_encoding_meaning.specs.decoding.Decoding.{IsIgnoredFront}
 use Rattle.std.proofs.lemmas.Nat.{le-div}
@@ -8,7 +8,7 @@ use Rattle.data_encoding_meaning.proofs.digits.WidthLemmas.{group_symbols-few, g
 use Rattle.data_encoding_kernel.proofs.decoding.JoinSizeLemmas.{join-width}
 use Rattle.data_encoding_kernel.proofs.decoding.SymbolRunLemmas.{groups-of_product, turns-few}
 use Rattle.data_encoding_meaning.proofs.lists.PartLemmas.{groups-within}
-use Rattle.data_encoding.proofs.decoding.OutputLemmas.{begins-within, ends-within, goes-further, goes-nowhere_rest, moves-on}
+use Rattle.data_encoding.proofs.decoding.OutputLemmas.{begins-within, ends-within, goes-further, goes-nowhere, goes-nowhere_rest, moves-on}
 use Rattle.data_encoding.proofs.decoding.PlacingLemmas.{placed-here}
 use Rattle.data_encoding.proofs.decoding.StepLemmas.{room-next_run, under_way}
 use Rattle.data_encoding.proofs.encoding.EncodingRef.decode_lines.Goals as goal
@@ -105,6 +105,10 @@ returns-else-found-gt0 g c =
     (goes-nowhere_rest _ c.requires.entries.reads.holds.is_width c.loop.invariant.on.reached
     c.decode_line-found.auto.output)
 
+pub loop-init : goal.loop-init
+loop-init g c =
+    record { on = goes-nowhere c.requires.at }
+
 pub overflow_add-start : goal.overflow_add-start
 overflow_add-start g c =
     let reached = c.loop.invariant.on.reached in
@@ -112,6 +116,15 @@ overflow_add-start g c =
 
 pub slice_bounds-rest-count : goal.slice_bounds-rest-count
 slice_bounds-rest-count g c = begins-within c.loop.invariant.on.reached
+
+pub slice_bounds-front-count : goal.slice_bounds-front-count
+slice_bounds-front-count g c = omega (arith, c.if-rest-read_len.false, c.max-read_len.ensures)
+
+pub decode_line-found-requires-clause-entries : goal.decode_line-found-requires-clause-entries
+decode_line-found-requires-clause-entries g c = c.requires.entries
+
+pub decode_line-found-requires-clause-within : goal.decode_line-found-requires-clause-within
+decode_line-found-requires-clause-within g c = omega (arith, c.if-rest-read_len.false, c.max-read_len.ensures)
 
 pub decode_line-found-requires-clause-few : goal.decode_line-found-requires-clause-few
 decode_line-found-requires-clause-few g c =
@@ -122,6 +135,18 @@ decode_line-found-requires-clause-few g c =
     ≡ count * (8 * c.group_symbols-turn.result) =
     ap (λ n. count * 8 * n) size ∙ omega arith in
     omega (arith, turns, c.if-rest-read_len.false, c.max-read_len.ensures)
+
+pub slice_bounds-decode_line-count : goal.slice_bounds-decode_line-count
+slice_bounds-decode_line-count g c = c.loop.invariant.on.reached.so_far.fits
+
+pub returns-after-loop : goal.returns-after-loop
+returns-after-loop g c = c.loop.invariant.on
+
+pub returns-then-ignored-eq0 : goal.returns-then-ignored-eq0
+returns-then-ignored-eq0 g c = c.loop.invariant.on
+
+pub returns-then-rest-read_len : goal.returns-then-rest-read_len
+returns-then-rest-read_len g c = c.loop.invariant.on
 
 pub overflow_add-start-then-found-gt0 : goal.overflow_add-start-then-found-gt0
 overflow_add-start-then-found-gt0 g c =
@@ -167,3 +192,35 @@ overflow_add-at g c =
         reached.exact.limit,
       );
     }
+
+pub overflow_add-count : goal.overflow_add-count
+overflow_add-count g c =
+    record {
+      fits = omega (
+        arith,
+        c.groups.ensures,
+        div-le_self (c.args.len - 1) (group_symbols c.args.entries.join.now.width),
+        c.requires.within,
+        c.requires.at.exact.limit,
+      );
+    }
+
+pub overflow_add-len : goal.overflow_add-len
+overflow_add-len g c =
+    record { fits = omega (arith, c.requires.within, c.requires.at.exact.limit) }
+
+pub overflow_mul-turn : goal.overflow_mul-turn
+overflow_mul-turn g c =
+    record {
+      fits = omega (
+        arith,
+        c.group_symbols-turn.ensures,
+        group_symbols-few c.args.entries.join.now.width (join-width c.requires.entries.join),
+      );
+    }
+
+pub overflow_sub-len : goal.overflow_sub-len
+overflow_sub-len g c = c.requires.some
+
+pub overflow_sub-output : goal.overflow_sub-output
+overflow_sub-output g c = c.loop.invariant.on.reached.so_far.fits

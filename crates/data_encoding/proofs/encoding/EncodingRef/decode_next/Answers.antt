@@ -154,6 +154,9 @@ pub decode_group-requires-clause-few : goal.decode_group-requires-clause-few
 decode_group-requires-clause-few g c = (gathered g
     (goal.at.decode_group-requires-clause-few g c).After-next_group-group).few
 
+pub decode_group-requires-clause-entries : goal.decode_group-requires-clause-entries
+decode_group-requires-clause-entries g c = c.requires.entries
+
 pub decode_group-requires-clause-some : goal.decode_group-requires-clause-some
 decode_group-requires-clause-some g c =
     some-group (gathered g
@@ -163,6 +166,12 @@ decode_group-requires-clause-some g c =
 pub next_group-group-requires-clause-symbols : goal.next_group-group-requires-clause-symbols
 next_group-group-requires-clause-symbols g c =
     c.group_symbols-symbols.ensures ∙ ap group_symbols (sym c.requires.entries.reads.width_is)
+
+pub next_group-group-requires-clause-ignored : goal.next_group-group-requires-clause-ignored
+next_group-group-requires-clause-ignored g c = c.requires.entries.ignored
+
+pub check_nothing_follows-requires-clause-width : goal.check_nothing_follows-requires-clause-width
+check_nothing_follows-requires-clause-width g c = c.requires.entries.reads.holds.is_width
 
 pub check_nothing_follows-requires-clause-symbols : goal.check_nothing_follows-requires-clause-symbols
 check_nothing_follows-requires-clause-symbols g c =

@@ -94,6 +94,15 @@ overflow_add-start g c =
 pub slice_bounds-pack-count : goal.slice_bounds-pack-count
 slice_bounds-pack-count g c = begins-within c.requires.at
 
+pub slice_bounds-room-count : goal.slice_bounds-room-count
+slice_bounds-room-count g c = c.requires.at.so_far.fits
+
+pub decode_groups-found-requires-clause-entries : goal.decode_groups-found-requires-clause-entries
+decode_groups-found-requires-clause-entries g c = c.requires.entries
+
+pub decode_groups-found-requires-clause-few : goal.decode_groups-found-requires-clause-few
+decode_groups-found-requires-clause-few g c = c.pack-span.ensures.room
+
 -- the last groups end within the packed bytes
 shorter : (g : Over) (c : After-span_before-end g) → c.span_before-end.result ≤ c.pack-span.result.0
 shorter g c =
@@ -117,6 +126,9 @@ overflow_add-part g c =
         c.requires.at.exact.limit,
       );
     }
+
+pub slice_bounds-part-count : goal.slice_bounds-part-count
+slice_bounds-part-count g c = omega arith
 
 pub overflow_sub-count : goal.overflow_sub-count
 overflow_sub-count g c =

@@ -90,6 +90,9 @@ is_padded_at-requires-clause-within g c =
       length-take-le c.args.len c.args.part.now c.requires.few,
     )
 
+pub returns-then-not-is_padded_at-clause-on : goal.returns-then-not-is_padded_at-clause-on
+returns-then-not-is_padded_at-clause-on g c = c.requires.at
+
 pub returns-in-Err-clause-on : goal.returns-in-Err-clause-on
 returns-in-Err-clause-on g c =
     reads-no_more _ c.requires.entries.reads.holds.is_width c.requires.at c.decode_group.auto.output
@@ -97,6 +100,12 @@ returns-in-Err-clause-on g c =
 pub overflow_add-end : goal.overflow_add-end
 overflow_add-end g c =
     record { fits = omega (arith, c.group_symbols.ensures, ap group_symbols c.requires.entries.reads.width_is, c.if-not-is_padded_at.ensures.within refl, c.requires.few) }
+
+pub slice_bounds-group-count : goal.slice_bounds-group-count
+slice_bounds-group-count g c = omega arith
+
+pub slice_bounds-room-count : goal.slice_bounds-room-count
+slice_bounds-room-count g c = c.requires.at.so_far.fits
 
 pub decode_group-requires-clause-few : goal.decode_group-requires-clause-few
 decode_group-requires-clause-few g c =
@@ -119,3 +128,6 @@ decode_group-requires-clause-some g c =
       c.group_symbols.ensures,
       group_symbols-pos c.args.self.now.width c.requires.entries.reads.holds.is_width,
     )
+
+pub returns-in-Ok-clause-further : goal.returns-in-Ok-clause-further
+returns-in-Ok-clause-further g c = omega arith

@@ -41,6 +41,9 @@ is_padded_at-requires-clause-within g c =
       length-take-le c.args.len c.args.part.now c.requires.few,
     )
 
+pub returns-then-is_padded_at-clause-on : goal.returns-then-is_padded_at-clause-on
+returns-then-is_padded_at-clause-on g c = c.requires.at
+
 pub decode_run-read-requires-clause-few : goal.decode_run-read-requires-clause-few
 decode_run-read-requires-clause-few g c =
     omega (
@@ -63,6 +66,18 @@ decode_run-read-requires-clause-room g c =
       length-drop c.args.at.written c.args.output.now,
     )
 
+pub overflow_add-result : goal.overflow_add-result
+overflow_add-result g c =
+    record {
+      fits = omega (
+        arith,
+        c.decode_run-read.ensures.within,
+        c.requires.at.so_far.within,
+        length-take-le c.args.len c.args.part.now c.requires.few,
+        c.ranges.len,
+      );
+    }
+
 pub slice_bounds-decode_run-count : goal.slice_bounds-decode_run-count
 slice_bounds-decode_run-count g c =
     omega (
@@ -71,3 +86,6 @@ slice_bounds-decode_run-count g c =
       length-take-le c.args.len c.args.part.now c.requires.few,
       c.requires.few,
     )
+
+pub slice_bounds-decode_run-count-2 : goal.slice_bounds-decode_run-count-2
+slice_bounds-decode_run-count-2 g c = c.requires.at.so_far.fits
