@@ -10,8 +10,8 @@ use crate::encoding::EncodingRef;
 use data_encoding_kernel::ignore::IgnoredBytes;
 
 impl EncodingRef<'_> {
-    /// Returns the length of `text` without the last bytes that are not ignored, if they are fewer
-    /// than a group.
+    /// Returns the length of `text` up to the end of its last whole group, or that of `text` if no
+    /// group is unfinished.
     ///
     /// No address depends on a symbol.
     pub fn whole_groups_len(&self, text: &[u8]) -> usize
