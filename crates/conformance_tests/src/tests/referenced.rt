@@ -172,5 +172,8 @@ fn whole_groups(rt: HostRuntime) {
     assert_eq!(rt; base64_ref().whole_groups_len(b"Zm9vYmF"), 4);
     assert_eq!(rt; mime.whole_groups_len(b"Zm9\r\nv\r\n"), 8);
     assert_eq!(rt; mime.whole_groups_len(b"\nZ\nm9"), 0);
-    assert_eq!(rt; mime.whole_groups_len(b"Zm9vYmFyZm9vYmFy\nZm9vYmFyZm9vYmFy\nZm\n"), 33);
+    assert_eq!(rt;
+        mime.whole_groups_len(b"Zm9vYmFyZm9vYmFy\nZm9vYmFyZm9vYmFy\nZm\n"),
+        33
+    );
 }

@@ -98,6 +98,10 @@ module _ (base : Base) (group : List ℕ) where
         grind (arith, nat_tests) in
         rw (padded, length_is, less)
 
+    pub group-short : 0 < length group → length group < group_symbols base.width
+        → HasFault base false group (record { index = 0; kind = LengthFault })
+    group-short some short = HasFault-own some (fault-short short)
+
     module _ (whole : length group ≡ group_symbols base.width) (count : ℕ)
         (count_is : count ≡ count_before_padding meant) where
       full : nat_lt (length meant) (group_symbols base.width) ≡ false
