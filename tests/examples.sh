@@ -85,6 +85,14 @@ try_commands() {
     'crates/data_encoding_c/build.sh '*'comparisons/tables page data-encoding-2.11.1 /opt/bamsturk package')
         holds "$1: $2" [ -x crates/data_encoding_c/build.sh -a -x bindings/javascript/build.sh -a -x comparisons/tables ]
         ;;
+    # On two files, of which one was written five seconds after the other.
+    "find crates -path 'crates/data_encoding/out/incremental/"*)
+        given=$room/kept/crates/data_encoding/out/incremental
+        mkdir -p "$given"
+        touch -d @1000000000 "$given/one.oantt"
+        touch -d @1000000005 "$given/other.oantt"
+        is "$1: $2" '5 s  other.oantt' "$(cd "$room/kept" && bash -e -c "$2")"
+        ;;
     # It runs this test.
     'tests/setup && tests/all') holds "$1: $2" [ -x tests/setup -a -x tests/all ] ;;
     # release/check runs these.
