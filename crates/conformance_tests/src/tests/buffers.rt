@@ -2,9 +2,9 @@
 
 ghost use Rattle.std.specs.Prelude.{◌≤◌, length};
 
-use super::oracle::{Expected, Oracle};
 use conformance::callers::buffers::decode_kept;
 use conformance::callers::kept::{checks_ends, encode_kept, fault_within, made_again};
+use conformance_support::oracle::{Expected, Oracle};
 use data_encoding::{
     DECODE_LIMIT, DecodeError, DecodeKind, Encoding, base64, base64_mime, base64_mime_permissive,
     base64_nopad, hexlower,

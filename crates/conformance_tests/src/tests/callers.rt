@@ -4,7 +4,6 @@ ghost use Rattle.std.specs.Prelude.{◌≤◌, length};
 
 use super::caller_rows::{Caller, TABLES};
 use super::predefined::{Case, case_of, named};
-use super::rows::{bytes_of_field, compare_answer, show_bool, show_bytes};
 use super::stored::restores_layout;
 use conformance::callers::names::{
     BodyFault, comes_before, data_of_body, decoded_token, is_key, token_of,
@@ -17,6 +16,7 @@ use conformance::callers::{
     data_of_token, encoded_in_two, is_built_again, is_one_text, is_refused_alike, no_symbol,
     odd_length,
 };
+use conformance_support::rows::{bytes_of_field, compare_answer, show_bool, show_bytes};
 use data_encoding::{DECODE_LIMIT, DecodeFault, ENCODE_LIMIT, Encoding, base64_mime};
 use std::alloc::{AllocError, Global};
 use std::test::Fail;

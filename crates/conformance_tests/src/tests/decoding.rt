@@ -2,7 +2,7 @@
 
 ghost use Rattle.std.specs.Prelude.{◌≤◌, length};
 
-use super::rows::show_bytes;
+use conformance_support::rows::show_bytes;
 use data_encoding::{DECODE_LIMIT, Encoding, base64_nopad};
 use std::alloc::Global;
 use std::test::Fail;

@@ -2,19 +2,19 @@
 
 ghost use Rattle.std.specs.Prelude.{◌≤◌, length};
 
-use super::appending::{append_data, append_pieces_twice};
 use super::decoding::{show_decode, show_decode_len, show_decode_mut};
 use super::encoding::{encode_and_decode, encode_by_each_call};
 use super::layouts::{has_layout_of, show_layout};
 use super::order::keeps_order;
-use super::pieces::show_pieces;
 use super::predefined::{Case, case_of};
-use super::rows::{bytes_of_field, compare_answer, show_bool};
-use super::streams::{
-    show_decode_reads, show_decode_stream, show_encode_calls, show_encode_stream,
-};
 use super::writing::{Writer, show_calls, show_displayed};
 use super::{piece_tables, property_tables, tables};
+use conformance_support::appending::{append_data, append_pieces_twice};
+use conformance_support::pieces::show_pieces;
+use conformance_support::rows::{bytes_of_field, compare_answer, show_bool};
+use conformance_support::streams::{
+    show_decode_reads, show_decode_stream, show_encode_calls, show_encode_stream,
+};
 use data_encoding::{DECODE_LIMIT, ENCODE_LIMIT, Encoding};
 use std::alloc::{AllocError, Global};
 use std::test::Fail;
@@ -99,7 +99,8 @@ fn show_sizes(alloc: Global, encoding: &Encoding) -> Result<String, AllocError> 
     let completes = encoding.completes_groups();
     let padded = encoding.is_padded();
     format!(in alloc;
-        "{width}, {len}, {align}, {piece}, {ignores}, {concatenates}, {bytes}, {completes}, {padded}"
+        "{width}, {len}, {align}, {piece}, {ignores}, {concatenates}, {bytes}, {completes}, \
+         {padded}"
     )
 }
 

@@ -2,7 +2,7 @@
 //! after longer pieces, with room in the output or without. Zeros also follow the held bytes of an
 //! encoder.
 
-use super::rows::{bytes_of_field, row_of};
+use conformance_support::rows::{bytes_of_field, row_of};
 use data_encoding::{DECODE_LIMIT, Encoding};
 use encoding_stream::{BufferDecoder, BufferEncoder, Decoder, Kept};
 use std::alloc::Global;

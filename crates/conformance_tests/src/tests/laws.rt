@@ -1,7 +1,7 @@
 //! The laws, the messages of faults, and data of many bytes.
 
 use super::encoding::round_trips;
-use super::rows::{bytes_of_length, row_of};
+use conformance_support::rows::{bytes_of_length, row_of};
 use data_encoding::laws::steps::pieces;
 use data_encoding::laws::{
     canonical, join_decode, join_encode, join_fault, not_canonical, one_meaning, order, resume,

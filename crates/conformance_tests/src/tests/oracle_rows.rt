@@ -4,13 +4,12 @@
 ghost use Rattle.std.specs.Prelude.{◌≤◌, length};
 
 use super::buffers::decode_every_cut;
-use super::comparison::{Comparison, Tally};
 use super::decoding::show_decode_mut;
-use super::oracle::Oracle;
-use super::resuming::compare_resumed;
-use super::rows::{bytes_of_field, compare_answer, row_of, show_bytes};
+use conformance_support::comparison::{Comparison, Tally};
+use conformance_support::oracle::Oracle;
+use conformance_support::rows::{bytes_of_field, compare_answer, row_of, show_bytes};
 use data_encoding::{DECODE_LIMIT, Specification};
-use std::alloc::{AllocError, Global};
+use std::alloc::Global;
 use std::test::Fail;
 
 /// The data or the faults of texts.
@@ -95,33 +94,19 @@ base32|most|check||-|0||||M!------Z|invalid length at 8
 octal|most|check|=|-|0||||22-06-44-==|
 hex|most|check|||0||||48656c6c6f|";
 
-/// Texts, and the numbers of their prefixes of a valid length.
-const RESUMED: &str = "\
-base64|most|check|=||0||||Zm9vYmE=Zg==|4
-base64|most|check|=||76|←↵|||SGVs←↵bG8=←↵|13
-base64|most|single check|=|-|0||||Zm9v-Zm9v-Zg|13
-base64|most|single check|=|-|0||||Zm9v-Zg==-Zg|13
-base32|most|check|=|-|0||||ME-======-ME|13
-hex|most|check|||0||||48656c6c6f21|7
-hex|most|check||-|0||||48-65-6c-6c-|13
-quaternary|least|check|||0||||012301230123|4
-binary|most|check||-|0||||01010011-010|13";
-
 /// A result for a text.
 #[derive(Clone, Copy)]
 enum Asked {
     Expected,
     Beginning,
     Kept,
-    Resumed,
 }
 
 /// The rows of each result.
-const TABLES: [(Asked, &str); 4] = [
+const TABLES: [(Asked, &str); 3] = [
     (Asked::Expected, TEXTS),
     (Asked::Beginning, BEGINNINGS),
     (Asked::Kept, KEPT),
-    (Asked::Resumed, RESUMED),
 ];
 
 /// Returns the data or the fault of the oracle, as a row writes it.
@@ -147,21 +132,6 @@ fn show_compared(
     }
 }
 
-/// Returns the number of prefixes of a valid length, if each call matches the oracle, also after a
-/// prefix was read, and also with another byte at each position.
-fn show_prefixes(
-    alloc: Global,
-    comparison: &mut Comparison<'_>,
-    text: &mut [u8],
-) -> Result<String, AllocError>
-    requires short { length text.old ≤ 17 }
-{
-    match compare_resumed(comparison, text) {
-        Ok(fronts) => format!(in alloc; "{fronts}"),
-        Err(_) => String::from_str(alloc, "resumed otherwise"),
-    }
-}
-
 /// Returns a result for a text of a few bytes.
 fn show_row(
     alloc: Global,
@@ -180,7 +150,6 @@ fn show_row(
             text,
         ),
         Asked::Kept if text.len() <= 17 => decode_every_cut(alloc, &encoding, oracle, text),
-        Asked::Resumed if text.len() <= 17 => Ok(show_prefixes(alloc, &mut comparison, text)?),
         _ => Ok(String::from_str(alloc, "too long")?),
     }
 }

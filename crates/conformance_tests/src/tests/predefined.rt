@@ -1,6 +1,6 @@
 //! The predefined encodings, by name.
 
-use super::rows::{last_fields, row_of};
+use conformance_support::rows::{last_fields, row_of};
 use data_encoding::{
     Encoding, EncodingRef, Specification, base32, base32_dnscurve, base32_dnscurve_ref,
     base32_dnssec, base32_dnssec_ref, base32_nopad, base32_nopad_nocase, base32_nopad_nocase_ref,

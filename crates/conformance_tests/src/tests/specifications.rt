@@ -2,9 +2,9 @@
 
 use super::original_table;
 use super::predefined::case_of;
-use super::rows::{compare_answer, row_of};
 use conformance::callers::referenced::decode_exactly;
 use conformance::callers::symbols_of;
+use conformance_support::rows::{compare_answer, row_of};
 use data_encoding::spec::{Specification, SpecificationError};
 use data_encoding::{BitOrder, Encoding, SpecificationParts, base64_mime};
 use std::alloc::{AllocError, Global};

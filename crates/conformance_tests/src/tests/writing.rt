@@ -2,7 +2,7 @@
 
 ghost use Rattle.std.specs.Prelude.{◌≤◌, length};
 
-use super::rows::bytes_of_length;
+use conformance_support::rows::bytes_of_length;
 use data_encoding::{ENCODE_LIMIT, Encoding};
 use std::alloc::{AllocError, Global};
 use std::fmt;

@@ -3,10 +3,10 @@
 
 ghost use Rattle.std.specs.Prelude.{◌<◌};
 
-use super::comparison::{Comparison, Differs};
 use super::damage::{CallSet, compare_damaged};
 use super::long_texts::compare_long_cuts;
-use super::rows::bytes_of_length;
+use conformance_support::comparison::{Comparison, Differs};
+use conformance_support::rows::bytes_of_length;
 use std::alloc::AllocError;
 
 /// Appends `bytes`, with `count` ignored bytes after each `every` of them.

@@ -3,9 +3,9 @@
 //!
 //! The encodings have every width and both orders, padding or none, and lines or none.
 
-use super::comparison::{Comparison, Differs};
-use super::oracle::Expected;
 use super::round_trips::compare_round_trip;
+use conformance_support::comparison::{Comparison, Differs};
+use conformance_support::oracle::Expected;
 
 /// The least number of characters of the longer texts, without padding and separators.
 const LONG: usize = 704;

@@ -6,7 +6,7 @@ use data_encoding::BitOrder;
 use std::alloc::AllocError;
 
 /// Appends the lowest `count` bits of `value`.
-pub(super) fn push_bits(
+pub fn push_bits(
     bits: &mut Vec<bool>,
     order: BitOrder,
     count: u32,
@@ -20,7 +20,7 @@ pub(super) fn push_bits(
 }
 
 /// Returns the value of the bits of a symbol of `width` bits. Zeros follow the last bit.
-pub(super) fn value_of_bits(order: BitOrder, width: u32, bits: &[bool]) -> usize {
+pub fn value_of_bits(order: BitOrder, width: u32, bits: &[bool]) -> usize {
     let mut value = 0usize;
     for index in 0..width {
         if bits.get(index as usize) == Some(&true) {
@@ -41,11 +41,7 @@ fn weight_of_bit(order: BitOrder, count: u32, index: u32) -> u32
 }
 
 /// Appends the bytes of `bits`.
-pub(super) fn push_bytes(
-    bytes: &mut Vec<u8>,
-    order: BitOrder,
-    bits: &[bool],
-) -> Result<(), AllocError> {
+pub fn push_bytes(bytes: &mut Vec<u8>, order: BitOrder, bits: &[bool]) -> Result<(), AllocError> {
     for eight in bits.chunks(8) {
         bytes.push(byte_of_bits(order, eight))?;
     }

@@ -1,7 +1,7 @@
 //! Texts of many lines of one length, compared with the oracle.
 
-use super::comparison::{Comparison, Differs};
 use super::damage::{CallSet, compare_damaged};
+use conformance_support::comparison::{Comparison, Differs};
 use std::alloc::AllocError;
 
 /// Lengths of lines: too short for a block, the shortest, one that 16 does not divide, and the

@@ -2,8 +2,8 @@
 
 ghost use Rattle.std.specs.Prelude.{◌≤◌, length};
 
-use super::comparison::{Comparison, Differs};
-use super::rows::{bytes_of_length, text_of_field};
+use crate::comparison::{Comparison, Differs};
+use crate::rows::{bytes_of_length, text_of_field};
 use data_encoding::{ENCODE_LIMIT, Encoding};
 use std::alloc::{AllocError, Global};
 use std::test::Fail;
@@ -28,7 +28,7 @@ fn text_after_prefix(alloc: Global, output: &String) -> Result<String, Fail> {
 }
 
 /// Returns the text that `encode_append` appends for `data`.
-pub(super) fn append_data(alloc: Global, encoding: &Encoding, data: &str) -> Result<String, Fail> {
+pub fn append_data(alloc: Global, encoding: &Encoding, data: &str) -> Result<String, Fail> {
     let mut output = String::from_str(alloc, "Result: ")?;
     if data.len() <= ENCODE_LIMIT {
         encoding.encode_append(data.as_bytes(), &mut output)?;
@@ -63,7 +63,7 @@ fn append_pieces(
 
 /// Returns the text that an encoder appends for `pieces`, if it appends the same to an empty text
 /// and to another.
-pub(super) fn append_pieces_twice(
+pub fn append_pieces_twice(
     alloc: Global,
     encoding: &Encoding,
     pieces: &str,
@@ -81,7 +81,7 @@ pub(super) fn append_pieces_twice(
 }
 
 /// Writes the text of `input`, cut at `position`, to `output`.
-pub(super) fn encode_halves(
+pub fn encode_halves(
     encoding: &Encoding,
     input: &[u8],
     position: usize,
@@ -136,7 +136,7 @@ fn compare_data_cuts(comparison: &Comparison<'_>, input: &[u8]) -> Result<(), Di
 }
 
 /// Compares the texts of data of each length up to 200 bytes, however it is cut.
-pub(super) fn compare_data_pieces(comparison: &Comparison<'_>) -> Result<(), Differs> {
+pub fn compare_data_pieces(comparison: &Comparison<'_>) -> Result<(), Differs> {
     let data = bytes_of_length(comparison.alloc, 200)?;
     for len in 0..=200 {
         compare_data_cuts(comparison, data.get(..len).unwrap_or(&[]))?;

@@ -2,8 +2,8 @@
 
 ghost use Rattle.std.specs.Prelude.{◌≡◌, length};
 
-use super::comparison::{Comparison, Differs};
 use super::long_texts::compare_long_cuts;
+use conformance_support::comparison::{Comparison, Differs};
 
 /// The calls to compare.
 #[derive(Clone, Copy)]

@@ -4,10 +4,10 @@
 //! decoded again if symbols are replaced by bytes that are translated to them. With any byte in
 //! place of a symbol, the result is the result of the oracle for that group.
 
-use super::comparison::{Comparison, Differs, Tally, decode_matches};
 use super::drawn_specifications::{Draw, specify_drawn, specify_odd, specify_shared};
-use super::oracle::{Expected, Oracle};
 use super::round_trips::compare_round_trip;
+use conformance_support::comparison::{Comparison, Differs, Tally, decode_matches};
+use conformance_support::oracle::{Expected, Oracle};
 use data_encoding::{BitOrder, DECODE_LIMIT, DecodeError, Specification};
 use std::alloc::{AllocError, Global};
 use std::test::Fail;

@@ -19,10 +19,10 @@ const BASE64: &str = "ABCDEFGHIJKLMNOPQRSTUVWXYZabcdefghijklmnopqrstuvwxyz012345
 
 /// The fields of a row: a specification, the input, and the expected result.
 #[derive(Drop)]
-pub(super) struct Row<'a> {
-    pub(super) specification: Specification,
-    pub(super) input: &'a str,
-    pub(super) want: &'a str,
+pub struct Row<'a> {
+    pub specification: Specification,
+    pub input: &'a str,
+    pub want: &'a str,
 }
 
 /// Returns the fields of a row:
@@ -37,7 +37,7 @@ pub(super) struct Row<'a> {
 /// - the two texts of the translation,
 /// - the input, if there is one,
 /// - the expected result.
-pub(super) fn row_of(alloc: Global, line: &str) -> Result<Row<'_>, Fail> {
+pub fn row_of(alloc: Global, line: &str) -> Result<Row<'_>, Fail> {
     let mut fields = line.split('|');
     let mut specification = Specification::new(alloc);
     set_fields(&mut specification, &mut fields)?;
@@ -56,7 +56,7 @@ fn next_field<'a>(fields: &mut Split<'a, char>) -> &'a str {
 
 /// Returns the input and the expected result: the last two fields, or the last. The input may be
 /// missing.
-pub(super) fn last_fields<'a>(fields: &mut Split<'a, char>) -> (&'a str, &'a str) {
+pub fn last_fields<'a>(fields: &mut Split<'a, char>) -> (&'a str, &'a str) {
     let tenth = next_field(fields);
     match fields.next() {
         Some(eleventh) => (tenth, eleventh),
@@ -137,10 +137,7 @@ fn put_ignored(specification: &mut Specification, field: &str) -> Result<(), All
 }
 
 /// Sets the separator of a field. The longest ones have names: 255 dashes or line feeds.
-pub(super) fn put_separator(
-    specification: &mut Specification,
-    field: &str,
-) -> Result<(), AllocError> {
+pub fn put_separator(specification: &mut Specification, field: &str) -> Result<(), AllocError> {
     let separator = &mut specification.wrap.separator;
     separator.clear();
     let character = match field {
@@ -158,7 +155,7 @@ pub(super) fn put_separator(
 ///
 /// Broken bars separate its pieces. A piece may be a count and a text, with a multiplication sign
 /// between them. The text is then repeated.
-pub(super) fn text_of_field(alloc: Global, field: &str) -> Result<String, Fail> {
+pub fn text_of_field(alloc: Global, field: &str) -> Result<String, Fail> {
     let mut text = String::new(alloc);
     for part in field.split('¦') {
         let (count, repeated) = part.split_once('×').unwrap_or(("1", part));
@@ -176,7 +173,7 @@ fn push_repeated(text: &mut String, count: usize, field: &str) -> Result<(), All
 }
 
 /// Returns the bytes of a field. Each is written as the character of its code.
-pub(super) fn bytes_of_field(alloc: Global, field: &str) -> Result<Vec<u8>, Fail> {
+pub fn bytes_of_field(alloc: Global, field: &str) -> Result<Vec<u8>, Fail> {
     let text = text_of_field(alloc, field)?;
     let mut bytes = Vec::with_capacity(alloc, text.len())?;
     for character in text.chars() {
@@ -186,12 +183,7 @@ pub(super) fn bytes_of_field(alloc: Global, field: &str) -> Result<Vec<u8>, Fail
 }
 
 /// Compares an answer with a row. The failure names both.
-pub(super) fn compare_answer(
-    alloc: Global,
-    line: &str,
-    answer: &str,
-    want: &str,
-) -> Result<(), Fail> {
+pub fn compare_answer(alloc: Global, line: &str, answer: &str, want: &str) -> Result<(), Fail> {
     if text_of_field(alloc, want)?.as_str() == answer {
         return Ok(());
     }
@@ -199,7 +191,7 @@ pub(super) fn compare_answer(
 }
 
 /// Returns `len` bytes that are not all equal.
-pub(super) fn bytes_of_length(alloc: Global, len: usize) -> Result<Vec<u8>, AllocError> {
+pub fn bytes_of_length(alloc: Global, len: usize) -> Result<Vec<u8>, AllocError> {
     let mut bytes = Vec::new(alloc);
     for index in 0..len {
         bytes.push((index % 251) as u8)?;
@@ -208,7 +200,7 @@ pub(super) fn bytes_of_length(alloc: Global, len: usize) -> Result<Vec<u8>, Allo
 }
 
 /// Returns the bytes as a row writes them.
-pub(super) fn show_bytes(alloc: Global, bytes: &[u8]) -> Result<String, AllocError> {
+pub fn show_bytes(alloc: Global, bytes: &[u8]) -> Result<String, AllocError> {
     let mut field = String::new(alloc);
     for byte in bytes {
         field.push(char::from(*byte))?;
@@ -217,6 +209,6 @@ pub(super) fn show_bytes(alloc: Global, bytes: &[u8]) -> Result<String, AllocErr
 }
 
 /// Returns `true` or `false`, as a row writes them.
-pub(super) fn show_bool(alloc: Global, is_so: bool) -> Result<String, Fail> {
+pub fn show_bool(alloc: Global, is_so: bool) -> Result<String, Fail> {
     Ok(String::from_str(alloc, if is_so { "true" } else { "false" })?)
 }

@@ -2,9 +2,9 @@
 
 ghost use Rattle.std.specs.Prelude.{◌<◌, ◌≤◌, length};
 
-use super::comparison::{Comparison, Differs};
 use super::damage::{CallSet, compare_damaged};
 use super::short_texts::{extreme_symbols, pad};
+use conformance_support::comparison::{Comparison, Differs};
 
 /// Compares the text unchanged, and with a faulty byte after `position`.
 fn compare_next_byte(

@@ -11,10 +11,10 @@ use std::io::{ErrorKind, Read, Write};
 ///
 /// The call after `good` calls is interrupted. Later calls succeed.
 #[derive(Drop)]
-pub(super) struct Slow<'a> {
+pub struct Slow<'a> {
     bytes: &'a [u8],
     most: usize,
-    pub(super) good: usize,
+    pub good: usize,
     calls: usize,
     asked: usize,
 }
@@ -37,7 +37,7 @@ impl Read for Slow<'_> {
 
 /// The call that a writer fails once.
 #[derive(Clone, Copy)]
-pub(super) enum Failure {
+pub enum Failure {
     /// None.
     Nothing,
 
@@ -53,19 +53,19 @@ pub(super) enum Failure {
 
 /// A writer that takes at most `most` bytes in each call, and fails once after `good` writes.
 #[derive(Drop)]
-pub(super) struct Narrow {
-    pub(super) bytes: Vec<u8>,
+pub struct Narrow {
+    pub bytes: Vec<u8>,
     most: usize,
     failure: Failure,
     good: usize,
-    pub(super) writes: usize,
-    pub(super) flushes: usize,
+    pub writes: usize,
+    pub flushes: usize,
     writes_when_flushed: usize,
 }
 
 impl Narrow {
     /// Returns a writer without bytes.
-    pub(super) fn new(alloc: Global, most: usize, failure: Failure, good: usize) -> Narrow {
+    pub fn new(alloc: Global, most: usize, failure: Failure, good: usize) -> Narrow {
         Narrow {
             bytes: Vec::new(alloc),
             most,
@@ -106,18 +106,18 @@ impl Write for Narrow {
 
 /// The effect of a stream.
 #[derive(Drop)]
-pub(super) struct Outcome {
-    pub(super) result: Result<(), StreamFault>,
-    pub(super) reads: usize,
-    pub(super) asked: usize,
+pub struct Outcome {
+    pub result: Result<(), StreamFault>,
+    pub reads: usize,
+    pub asked: usize,
     read_failed: bool,
     write_failed: bool,
-    pub(super) writer: Narrow,
+    pub writer: Narrow,
 }
 
 impl Outcome {
     /// Returns the effect on a reader and a writer that were watched.
-    pub(super) fn of(
+    pub fn of(
         answer: Result<(), StreamFault>,
         reader: Watch<Slow<'_>>,
         writer: Watch<Narrow>,
@@ -136,7 +136,7 @@ impl Outcome {
 
     /// Returns `true` if the result is `fault`, or Ok if that is `None`, and `bytes` was written,
     /// and flushed once, after the last write.
-    pub(super) fn is_whole(&self, fault: Option<StreamFault>, bytes: &[u8]) -> bool {
+    pub fn is_whole(&self, fault: Option<StreamFault>, bytes: &[u8]) -> bool {
         self.result.err() == fault
             && self.writer.bytes.as_slice() == bytes
             && self.writer.flushes == 1
@@ -145,7 +145,7 @@ impl Outcome {
 
     /// Returns `true` if the result is `fault`, its watch has failed, and a prefix of `bytes` was
     /// written.
-    pub(super) fn is_fault(&self, fault: StreamFault, bytes: &[u8]) -> bool {
+    pub fn is_fault(&self, fault: StreamFault, bytes: &[u8]) -> bool {
         self.result == Err(fault)
             && self.read_failed == (fault == StreamFault::Read)
             && self.write_failed == (fault == StreamFault::Write)
@@ -154,7 +154,7 @@ impl Outcome {
 }
 
 /// Returns a reader of `bytes` without a failure.
-pub(super) fn reader_of(bytes: &[u8], most: usize) -> Slow<'_> {
+pub fn reader_of(bytes: &[u8], most: usize) -> Slow<'_> {
     Slow {
         bytes,
         most,

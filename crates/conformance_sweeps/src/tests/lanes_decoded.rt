@@ -1,7 +1,7 @@
 //! Texts of several groups, with another byte at each position, for every width and both orders,
 //! compared with the oracle.
 
-use super::comparison::{Comparison, Differs, decode_mut_matches};
+use conformance_support::comparison::{Comparison, Differs, decode_mut_matches};
 use data_encoding::{Character, DECODE_LIMIT, DecodeError, DecodeKind, Encoding};
 use std::alloc::{AllocError, Global};
 

@@ -1,13 +1,13 @@
 //! Texts that come in pieces, cut anywhere.
 
-use super::rows::{bytes_of_field, show_bytes};
+use crate::rows::{bytes_of_field, show_bytes};
 use data_encoding::{DECODE_LIMIT, DecodeError, Encoding};
 use encoding_stream::Decoder;
 use std::alloc::{AllocError, Global};
 use std::test::Fail;
 
 /// Pushes a piece, if the text stays within its limit.
-pub(super) fn push_within_limit(
+pub fn push_within_limit(
     decoder: &mut Decoder<'_>,
     piece: &[u8],
     output: &mut Vec<u8>,
@@ -20,7 +20,7 @@ pub(super) fn push_within_limit(
 }
 
 /// Ends a text. Returns its fault.
-pub(super) fn finish_text(
+pub fn finish_text(
     decoder: Decoder<'_>,
     output: &mut Vec<u8>,
 ) -> Result<Option<DecodeError>, AllocError> {
@@ -39,7 +39,7 @@ fn move_output(alloc: Global, output: &mut Vec<u8>, answer: &mut String) -> Resu
 
 /// Returns the output for each piece of a text and for its end, and the fault. A slash separates
 /// two pieces, and two outputs.
-pub(super) fn show_pieces(alloc: Global, encoding: &Encoding, text: &str) -> Result<String, Fail> {
+pub fn show_pieces(alloc: Global, encoding: &Encoding, text: &str) -> Result<String, Fail> {
     let mut decoder = Decoder::new(encoding);
     let mut answer = String::new(alloc);
     let mut output = Vec::new(alloc);

@@ -1,7 +1,5 @@
 //! Sweeps over short texts and short data, for every width and both orders.
 
-use super::appending::compare_data_pieces;
-use super::comparison::{Comparison, Differs, Tally};
 use super::each_column::compare_lines;
 use super::each_length::compare_each_length;
 use super::ignored::{compare_faults, compare_ignored, compare_ignored_pairs};
@@ -10,15 +8,17 @@ use super::lanes_encoded::{compare_counted, compare_equal_bytes};
 use super::lines_decoded::compare_many_lines;
 use super::long_texts::compare_long;
 use super::mixed::{compare_mixed, compare_mixed_faults};
-use super::oracle::Oracle;
 use super::round_trips::{compare_in_lines, compare_short};
-use super::rows::{put_separator, row_of};
 use super::short_texts::{compare_bytes, compare_symbols};
-use super::streams::{Calls, compare_ends, compare_streams, ends_at_short_flush};
+use super::stream_ends::{Calls, compare_ends, compare_streams, ends_at_short_flush};
 use super::sweep_tables::{
     BASES, COLUMNS, DATA_PIECES, EACH_LENGTH, GROUPS, IN_LINES, LONG, MANY_LINES, MIXED, PADDED,
     STREAMS, UNCHECKED,
 };
+use conformance_support::appending::compare_data_pieces;
+use conformance_support::comparison::{Comparison, Differs, Tally};
+use conformance_support::oracle::Oracle;
+use conformance_support::rows::{put_separator, row_of};
 use data_encoding::Specification;
 use std::alloc::Global;
 use std::test::Fail;

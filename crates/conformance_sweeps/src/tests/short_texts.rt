@@ -2,8 +2,8 @@
 
 ghost use Rattle.std.specs.Prelude.{◌≤◌};
 
-use super::comparison::{Comparison, Differs};
 use super::damage::compare_damaged_anywhere;
+use conformance_support::comparison::{Comparison, Differs};
 
 /// Compares texts of zeros with one other byte: each ASCII byte and two others, at any position.
 fn compare_each_ascii_byte(comparison: &mut Comparison<'_>, len: usize) -> Result<(), Differs>

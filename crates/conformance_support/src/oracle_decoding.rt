@@ -1,7 +1,7 @@
 //! The decoder of the oracle.
 
-use super::bits::{push_bits, push_bytes};
-use super::oracle::{Expected, Oracle};
+use crate::bits::{push_bits, push_bytes};
+use crate::oracle::{Expected, Oracle};
 use data_encoding::{DecodeError, DecodeFault, DecodeKind};
 use std::alloc::{AllocError, Global};
 
@@ -49,7 +49,7 @@ impl Oracle<'_> {
     ///
     /// After a length fault, it also has the longest prefix of valid length of the unread rest, if
     /// that decodes without ignoring any byte.
-    pub(super) fn decode(&self, alloc: Global, text: &[u8]) -> Result<Expected, AllocError> {
+    pub fn decode(&self, alloc: Global, text: &[u8]) -> Result<Expected, AllocError> {
         let mut expected = self.decode_sound(alloc, text)?;
         let Some(error) = expected.fault else {
             return Ok(expected);
@@ -87,7 +87,7 @@ impl Oracle<'_> {
     ///
     /// If the length is the fault, the result has the bytes of the groups before the first faulty
     /// one.
-    pub(super) fn in_pieces(
+    pub fn in_pieces(
         &self,
         alloc: Global,
         text: &[u8],

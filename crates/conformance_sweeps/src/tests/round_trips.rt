@@ -2,8 +2,8 @@
 
 ghost use Rattle.std.specs.Prelude.{◌≤◌, length};
 
-use super::comparison::{Comparison, Differs, decode_matches, decode_mut_matches};
-use super::oracle::Expected;
+use conformance_support::comparison::{Comparison, Differs, decode_matches, decode_mut_matches};
+use conformance_support::oracle::Expected;
 use data_encoding::{DECODE_LIMIT, ENCODE_LIMIT};
 
 /// Compares `input`, of at most two bytes, with the data of its text.

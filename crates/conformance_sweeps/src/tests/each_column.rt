@@ -1,10 +1,10 @@
 //! Data of one line and of three, and of a few bytes more. The texts are compared with the oracle,
 //! and decoded again.
 
-use super::comparison::{Comparison, Differs};
-use super::oracle::Expected;
 use super::round_trips::compare_round_trip;
-use super::rows::bytes_of_length;
+use conformance_support::comparison::{Comparison, Differs};
+use conformance_support::oracle::Expected;
+use conformance_support::rows::bytes_of_length;
 
 /// Compares data of one line and of three, and a few bytes more.
 // Lines of eight groups or more are encoded with SIMD if up to eight more bytes follow them.

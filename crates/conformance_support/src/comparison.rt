@@ -2,16 +2,16 @@
 
 ghost use Rattle.std.specs.Prelude.{◌≡◌, ◌<◌, ◌≤◌, length};
 
-use super::oracle::{Expected, Oracle};
-use super::pieces::{finish_text, push_within_limit};
-use super::streams::stream_decodes;
+use crate::oracle::{Expected, Oracle};
+use crate::pieces::{finish_text, push_within_limit};
+use crate::streams::stream_decodes;
 use data_encoding::{DECODE_LIMIT, DecodeError, DecodeFault, Encoding};
 use encoding_stream::Decoder;
 use std::alloc::{AllocError, Global};
 
 /// The error if a result differs from the oracle, or memory runs out.
 #[derive(Drop)]
-pub(super) struct Differs {}
+pub struct Differs {}
 
 impl From<AllocError> for Differs {
     fn from(_: AllocError) -> Differs {
@@ -30,20 +30,20 @@ const ROOM: usize = 576;
 
 /// The numbers of comparisons.
 #[derive(Clone, Copy)]
-pub(super) struct Tally {
+pub struct Tally {
     /// The texts that came in pieces.
-    pub(super) texts: usize,
+    pub texts: usize,
 
     /// The decodings of these texts, each cut at another position or from a reader.
-    pub(super) decodings: usize,
+    pub decodings: usize,
 
     /// The decodings that were resumed after a prefix.
-    pub(super) resumed: usize,
+    pub resumed: usize,
 }
 
 impl Tally {
     /// Returns a tally of zeros.
-    pub(super) fn zero() -> Tally {
+    pub fn zero() -> Tally {
         Tally {
             texts: 0,
             decodings: 0,
@@ -54,11 +54,11 @@ impl Tally {
 
 /// An encoding, its oracle, and the numbers of comparisons.
 #[derive(Drop)]
-pub(super) struct Comparison<'a> {
-    pub(super) alloc: Global,
-    pub(super) encoding: &'a Encoding,
-    pub(super) oracle: Oracle<'a>,
-    pub(super) tally: Tally,
+pub struct Comparison<'a> {
+    pub alloc: Global,
+    pub encoding: &'a Encoding,
+    pub oracle: Oracle<'a>,
+    pub tally: Tally,
 
     /// The output of a decoder. The vector is reused.
     output: Vec<u8>,
@@ -66,7 +66,7 @@ pub(super) struct Comparison<'a> {
 
 impl<'a> Comparison<'a> {
     /// Returns a comparison that continues `tally`.
-    pub(super) fn new(
+    pub fn new(
         alloc: Global,
         encoding: &'a Encoding,
         oracle: Oracle<'a>,
@@ -82,7 +82,7 @@ impl<'a> Comparison<'a> {
     }
 
     /// Compares the results for a text: at once, resumed and in pieces.
-    pub(super) fn compare(&mut self, text: &[u8]) -> Result<(), Differs> {
+    pub fn compare(&mut self, text: &[u8]) -> Result<(), Differs> {
         if text.len() > DECODE_LIMIT {
             return Err(Differs {});
         }
@@ -98,7 +98,7 @@ impl<'a> Comparison<'a> {
     }
 
     /// Compares the results of `decode` and `decode_mut` for a text.
-    pub(super) fn compare_at_once(&self, text: &[u8]) -> Result<(), Differs> {
+    pub fn compare_at_once(&self, text: &[u8]) -> Result<(), Differs> {
         if text.len() > DECODE_LIMIT {
             return Err(Differs {});
         }
@@ -138,7 +138,7 @@ impl<'a> Comparison<'a> {
 
     /// Compares the results for a text in two pieces, cut anywhere, and byte by byte, in pieces and
     /// from a reader.
-    pub(super) fn compare_pieces(&mut self, want: &Expected, text: &[u8]) -> Result<(), Differs> {
+    pub fn compare_pieces(&mut self, want: &Expected, text: &[u8]) -> Result<(), Differs> {
         for position in 0..=text.len() {
             self.compare_cut(want, text, position, usize::MAX)?;
         }
@@ -149,7 +149,7 @@ impl<'a> Comparison<'a> {
 
     /// Compares the output and the fault of a decoder. The first piece ends at `position`, and the
     /// others have `size` bytes.
-    pub(super) fn compare_cut(
+    pub fn compare_cut(
         &mut self,
         want: &Expected,
         text: &[u8],
@@ -176,7 +176,7 @@ impl<'a> Comparison<'a> {
     }
 
     /// Like `compare_cut`, for an output that is cleared after each call.
-    pub(super) fn compare_drained(
+    pub fn compare_drained(
         &mut self,
         want: &Expected,
         text: &[u8],
@@ -205,7 +205,7 @@ impl<'a> Comparison<'a> {
     }
 
     /// Compares the output and the fault of a stream that reads `most` bytes at a time.
-    pub(super) fn compare_stream(
+    pub fn compare_stream(
         &mut self,
         want: &Expected,
         text: &[u8],
@@ -227,12 +227,7 @@ fn drain(output: &mut Vec<u8>, drained: &mut Vec<u8>) -> Result<(), AllocError> 
 }
 
 /// Returns `true` if `decode` returns the result of the oracle.
-pub(super) fn decode_matches(
-    alloc: Global,
-    encoding: &Encoding,
-    want: &Expected,
-    text: &[u8],
-) -> bool
+pub fn decode_matches(alloc: Global, encoding: &Encoding, want: &Expected, text: &[u8]) -> bool
     requires limit { length text.now ≤ DECODE_LIMIT }
 {
     match (encoding.decode(alloc, text), want.fault) {
@@ -243,14 +238,14 @@ pub(super) fn decode_matches(
 }
 
 /// Returns `true` if `decode_mut` reads and writes as far as the oracle, and writes the same bytes.
-pub(super) fn decode_mut_matches(encoding: &Encoding, want: &Expected, text: &[u8]) -> bool
+pub fn decode_mut_matches(encoding: &Encoding, want: &Expected, text: &[u8]) -> bool
     requires limit { length text.now ≤ DECODE_LIMIT }
 {
     decode_mut_matches_within(encoding, want, text, &mut [0; ROOM])
 }
 
 /// Like `decode_mut_matches`, for an output that may have more room.
-pub(super) fn decode_mut_matches_within(
+pub fn decode_mut_matches_within(
     encoding: &Encoding,
     want: &Expected,
     text: &[u8],
@@ -278,11 +273,7 @@ pub(super) fn decode_mut_matches_within(
 /// Returns the length of `front` that is read, and the number of bytes that are written.
 ///
 /// Returns `None` if `front` has an invalid length or means too many bytes for `output`.
-pub(super) fn decode_prefix(
-    encoding: &Encoding,
-    front: &[u8],
-    output: &mut [u8],
-) -> Option<(usize, usize)>
+pub fn decode_prefix(encoding: &Encoding, front: &[u8], output: &mut [u8]) -> Option<(usize, usize)>
     requires limit { length front.now ≤ DECODE_LIMIT }
     ensures len { length output.new ≡ length output.old }
 {

@@ -3,40 +3,40 @@
 
 ghost use Rattle.std.specs.Prelude.{◌<◌};
 
-use super::bits::{push_bits, value_of_bits};
+use crate::bits::{push_bits, value_of_bits};
 use data_encoding::{BitOrder, DecodeError, Specification};
 use std::alloc::{AllocError, Global};
 
 /// The parameters of an encoding.
 #[derive(Clone, Copy)]
-pub(super) struct Oracle<'a> {
-    pub(super) symbols: &'a [u8],
-    pub(super) width: u32,
-    pub(super) order: BitOrder,
-    pub(super) check: bool,
-    pub(super) concatenate: bool,
-    pub(super) padding: Option<u8>,
-    pub(super) ignored: &'a [u8],
+pub struct Oracle<'a> {
+    pub symbols: &'a [u8],
+    pub width: u32,
+    pub order: BitOrder,
+    pub check: bool,
+    pub concatenate: bool,
+    pub padding: Option<u8>,
+    pub ignored: &'a [u8],
     column: usize,
-    pub(super) separator: &'a [u8],
+    pub separator: &'a [u8],
 }
 
 /// The expected result for a text.
 #[derive(Drop)]
-pub(super) struct Expected {
+pub struct Expected {
     /// The bytes before the first fault.
-    pub(super) bytes: Vec<u8>,
+    pub bytes: Vec<u8>,
 
     /// The length of the text that these bytes are from.
-    pub(super) read: usize,
+    pub read: usize,
 
     /// The fault, if there is one.
-    pub(super) fault: Option<DecodeError>,
+    pub fault: Option<DecodeError>,
 }
 
 impl Expected {
     /// Returns the result for the empty text.
-    pub(super) fn new(alloc: Global) -> Expected {
+    pub fn new(alloc: Global) -> Expected {
         Expected {
             bytes: Vec::new(alloc),
             read: 0,
@@ -67,7 +67,7 @@ fn lines_of(specification: &Specification) -> (usize, &[u8]) {
 
 impl Oracle<'_> {
     /// Returns the oracle of a specification.
-    pub(super) fn of(specification: &Specification) -> Oracle<'_> {
+    pub fn of(specification: &Specification) -> Oracle<'_> {
         let symbols = specification.symbols.as_bytes();
         let (column, separator) = lines_of(specification);
         Oracle {
@@ -87,7 +87,7 @@ impl Oracle<'_> {
     }
 
     /// Returns the text of `data`: its symbols and padding, in lines.
-    pub(super) fn encode(&self, alloc: Global, data: &[u8]) -> Result<Vec<u8>, AllocError> {
+    pub fn encode(&self, alloc: Global, data: &[u8]) -> Result<Vec<u8>, AllocError> {
         let characters = self.encode_characters(alloc, data)?;
         if self.column == 0 {
             return Ok(characters);
@@ -121,7 +121,7 @@ impl Oracle<'_> {
     }
 
     /// Returns `true` if another text may follow `text`, if it means data.
-    pub(super) fn may_be_followed(&self, text: &[u8]) -> bool {
+    pub fn may_be_followed(&self, text: &[u8]) -> bool {
         match self.padding {
             Some(padding) => self.concatenate || !text.contains(&padding),
             None => matches!(self.width, 1 | 2 | 4),
@@ -129,12 +129,12 @@ impl Oracle<'_> {
     }
 
     /// Returns `true` if fewer bits than a symbol has follow the whole bytes of `count` symbols.
-    pub(super) fn is_valid_count(&self, count: usize) -> bool {
+    pub fn is_valid_count(&self, count: usize) -> bool {
         count.wrapping_mul(self.width as usize) % 8 < self.width as usize
     }
 
     /// Returns the least number of symbols with the bits of whole bytes.
-    pub(super) fn group_len(&self) -> usize
+    pub fn group_len(&self) -> usize
         ensures { 0 < result }
     {
         for count in 1..8usize {
@@ -146,7 +146,7 @@ impl Oracle<'_> {
     }
 
     /// Returns the greatest valid length up to `len` of a text without ignored bytes.
-    pub(super) fn greatest_valid_length(&self, len: usize) -> usize {
+    pub fn greatest_valid_length(&self, len: usize) -> usize {
         let mut greatest = 0;
         let size = self.group_len();
         for count in 0..=len {
@@ -162,7 +162,7 @@ impl Oracle<'_> {
     }
 
     /// Returns `true` if no byte is ignored.
-    pub(super) fn ignores_none(&self) -> bool {
+    pub fn ignores_none(&self) -> bool {
         self.ignored.is_empty() && self.separator.is_empty()
     }
 }

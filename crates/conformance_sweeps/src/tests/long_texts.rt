@@ -1,8 +1,8 @@
 //! Texts of a few hundred bytes in pieces of a few lengths.
 
-use super::comparison::{Comparison, Differs};
 use super::damage::{CallSet, compare_damaged};
-use super::rows::bytes_of_length;
+use conformance_support::comparison::{Comparison, Differs};
+use conformance_support::rows::bytes_of_length;
 
 /// Compares a text in pieces of a few lengths.
 pub(super) fn compare_long_cuts(

@@ -2,10 +2,10 @@
 
 ghost use Rattle.std.specs.Prelude.{◌≤◌, length};
 
-use super::appending::encode_halves;
-use super::comparison::{Comparison, Differs, decode_matches};
-use super::oracle::Expected;
-use super::rows::bytes_of_length;
+use conformance_support::appending::encode_halves;
+use conformance_support::comparison::{Comparison, Differs, decode_matches};
+use conformance_support::oracle::Expected;
+use conformance_support::rows::bytes_of_length;
 use data_encoding::{DECODE_LIMIT, ENCODE_LIMIT};
 
 /// Compares `text` with the text of `input`: appended at once and in two pieces, and written with a

@@ -1,0 +1,5 @@
+//! Sweeps over texts and data, each compared with the oracle.
+#![tactic(auto)]
+
+#[cfg(test)]
+mod tests;
