@@ -1,5 +1,5 @@
 -- Whole groups of symbols more, where no byte before them is ignored since the last group.
-use Rattle.std.proofs.Common.{◌≡◌, ℕ, zero, suc, Some, is_some, ◌+◌, ◌-◌, ◌*◌, ◌/◌, ◌<◌, ◌≤◌, true, List, [], ◌++◌, length, take, drop, get_or, replicate, refl, ap, ◌∙◌, arith, length-append, append-nil, subst}
+use Rattle.std.proofs.Common.{◌≡◌, ℕ, zero, suc, Some, is_some, ◌+◌, ◌-◌, ◌*◌, ◌/◌, ◌<◌, ◌≤◌, true, List, [], ◌++◌, length, take, drop, get_or, replicate, refl, sym, ap, ◌∙◌, arith, length-append, append-nil, subst}
 use Rattle.std.proofs.Math.Nat.{div-mul-le_self, zero-mul}
 use Rattle.std.proofs.lemmas.List.{length-drop, length-take, take-append-le, take-take, take_all, take_at, take_rest}
 use Rattle.data_encoding_meaning.specs.text.Base.{Base, IsWidth, group_bytes, group_symbols, is_padding, is_symbol, meaning}
@@ -12,11 +12,13 @@ use Rattle.data_encoding_meaning.proofs.lists.RunLemmas.{runs-nil}
 use Rattle.data_encoding_meaning.proofs.lists.WriteLemmas.{length-rewritten_same, rewritten, take-rewritten}
 use Rattle.data_encoding_meaning.specs.declared.encoding.Character.{Character}
 use Rattle.data_encoding_kernel.specs.Fronts.{IsFront}
+use Rattle.data_encoding_kernel.specs.Tables.{HoldsValues, Reads}
 use Rattle.data_encoding_kernel.specs.declared.simd.decode.last_symbols.Front.{Front}
 use Rattle.data_encoding_kernel.specs.declared.simd.decode.last_symbols.Join.{Join}
 use Rattle.data_encoding_kernel.proofs.digits.GroupFrontLemmas.{front-same}
 use Rattle.data_encoding.specs.Endings.{HasReachedTo, IsFrontOf, JoinsSymbols}
-use Rattle.data_encoding.specs.Progress.{HasExactOutput}
+use Rattle.data_encoding.specs.Progress.{HasExactOutput, ReadsBy}
+use Rattle.data_encoding.specs.declared.decode.groups.Entries.{Entries}
 use Rattle.data_encoding.specs.Encoding.{EncodingTables, KeepsPadding, KeepsRules, base_of_tables}
 use Rattle.data_encoding.specs.PlainTables.{padding_by}
 use Rattle.std.proofs.lemmas.Bool.Decides.{nat_tests}
@@ -30,6 +32,22 @@ pub joins-width : {base : Base} {join : Join} → JoinsSymbols base join → IsW
 joins-width joins =
     subst IsWidth joins.width_is
     (record { some = joins.is_join.some; few = joins.is_join.few })
+
+-- a table is read by the sizes of the base
+pub joins-reads : {base : Base} {join : Join} {values : List ℕ} → JoinsSymbols base join
+    → HoldsValues base values → Reads base values join.width join.order
+joins-reads joins holds =
+    record { width_is = sym joins.width_is; order_is = sym joins.order_is; holds = holds }
+
+-- the sizes by which a table is read
+pub read-joins : {L : Type 0} {holds : List ℕ → L → Type 0} {base : Base} {entries : Entries L}
+    → ReadsBy holds base entries → JoinsSymbols base entries.join.now
+read-joins by =
+    record {
+      is_join = by.join;
+      width_is = sym by.reads.width_is;
+      order_is = sym by.reads.order_is;
+    }
 
 -- an entry that is a padding character
 pub padding-some : (entry : ℕ) → is_some (padding_by entry) ≡ true → padding_by entry ≡ Some entry

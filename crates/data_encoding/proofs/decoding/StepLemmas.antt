@@ -1,5 +1,5 @@
 -- A decoding in progress: what a run, a group and the end do to it.
-use Rattle.std.proofs.Common.{◌≡◌, ℕ, ◌+◌, ◌-◌, ◌*◌, ◌/◌, ◌%◌, ◌<◌, ◌≤◌, Bool, true, false, not, nat_lt, ◌&&◌, ◌==◌, ◌⊎◌, List, [], ◌++◌, length, take, drop, None, refl, sym, ap, ◌∙◌, subst, arith, length-take-le, ⊎_elim, inl, inr, map}
+use Rattle.std.proofs.Common.{◌≡◌, ℕ, ◌+◌, ◌-◌, ◌*◌, ◌/◌, ◌%◌, ◌<◌, ◌≤◌, Bool, true, false, not, nat_lt, ◌&&◌, ◌==◌, ◌⊎◌, List, [], ◌++◌, length, take, drop, None, Ok, refl, sym, ap, ◌∙◌, subst, arith, length-take-le, ⊎_elim, inl, inr, map}
 use Rattle.std.proofs.Math.Nat.{mod_self, mul-le-mul_left}
 use Rattle.std.proofs.Math.Seq.{take-add}
 use Rattle.std.proofs.lemmas.Bool.{eqb-true}
@@ -13,14 +13,16 @@ use Rattle.data_encoding_meaning.specs.declared.error.DecodePartial.{DecodeParti
 use Rattle.data_encoding_meaning.specs.declared.error.GroupFault.{GroupFault}
 use Rattle.data_encoding_meaning.specs.text.Base.{Base, IsWidth, group_bytes, group_symbols, is_padded, meaning}
 use Rattle.data_encoding_meaning.specs.decoding.Decoding.{HasFault, HasNoLastRun, HasRoom, IsDecoded, IsDecodedGroup, IsGathered, IsLastRun, IsIgnoredFront, valid_front, HasDecodedTo}
+use Rattle.data_encoding.specs.Calls.{DecodesText}
 use Rattle.data_encoding.specs.Progress.{HasExactOutput}
 use Rattle.data_encoding.specs.Steps.{HasStopped}
 use Rattle.data_encoding_meaning.specs.decoding.Fault.{position_of}
 use Rattle.data_encoding_meaning.specs.text.Grammar.{Positioned, bytes_in, kept, kept_from}
-use Rattle.data_encoding_meaning.specs.text.Lengths.{greatest_valid_length, length_fault, most_bytes}
+use Rattle.data_encoding_meaning.specs.text.Lengths.{decoded_len, greatest_valid_length, length_fault, most_bytes}
 use Rattle.data_encoding_meaning.specs.decoding.Partial.{StopsAt, is_length_fault}
 use Rattle.data_encoding_meaning.proofs.grammar.LengthLemmas.{decoded_len-counted, is_valid_length-by}
 use Rattle.data_encoding_meaning.proofs.grammar.GroupLemmas.{GroupMeans-sound}
+use Rattle.data_encoding_meaning.proofs.grammar.TightLemmas.{full-Means}
 use Rattle.data_encoding_meaning.proofs.lists.WriteLemmas.{length-rewritten, length-rewritten_same, rewritten, take-rewritten}
 use Rattle.data_encoding_meaning.proofs.decoding.GatherLemmas.{bytes-next, gathered-few, gathered-some, is-next, next_bytes, none-next, position-next}
 use Rattle.data_encoding_meaning.proofs.decoding.GreatestLengthLemmas.{greatest-least, greatest-valid}
@@ -46,6 +48,24 @@ pub under_way : {base : Base} {text : List ℕ} {read written : ℕ} {ended : Bo
 under_way {base} {text} {output} width exact so_far =
     let counted = decoded_len-counted base (length text) (length output) exact.len in
     record { width = width; no_fault = counted.0; size_is = counted.1; so_far = so_far }
+
+-- a decoded text, as `decode_mut` returns it
+pub decodes-text : {base : Base} → IsWidth base.width → {text old output : List ℕ} {written : ℕ}
+    → IsDecoded base text written output → decoded_len base (length text) ≡ Ok (length output)
+    → length output ≡ length old → DecodesText base text old output (Ok written)
+decodes-text {base} width {text} {old} {output} {written} decoded due len =
+    record {
+      decoded = (decoded.fits, decoded.means);
+      sound = (decoded.no_fault, decoded.bytes_are);
+      accepted = λ bytes means. cc;
+      fault = cc;
+      partial = cc;
+      bounds = cc;
+      most = cc;
+      full = λ unpadded none.
+          full-Means base width unpadded none text output written due decoded.fits decoded.means;
+      len = len;
+    }
 
 same-partial : (partial : DecodePartial) (read written : ℕ) (error : DecodeError)
     → partial.read ≡ read → partial.written ≡ written → partial.error ≡ error

@@ -72,9 +72,12 @@ returns-then-not-is_padded-clause-symbols c =
 
 pub returns-then-not-is_padded-clause-whole : goal.returns-then-not-is_padded-clause-whole
 returns-then-not-is_padded-clause-whole c =
-    λ padded. absurd (false≢true (sym (unpadded (goal.at.returns-then-not-is_padded-clause-whole c).Then-not-is_padded) ∙ padded))
+    λ padded.
+    let not = unpadded (goal.at.returns-then-not-is_padded-clause-whole c).Then-not-is_padded in
+    absurd (false≢true (sym not ∙ padded))
 
-pub returns-then-group-group_symbols-clause-fault : goal.returns-then-group-group_symbols-clause-fault
+pub returns-then-group-group_symbols-clause-fault
+    : goal.returns-then-group-group_symbols-clause-fault
 returns-then-group-group_symbols-clause-fault c =
     rw c.faulty-then-group-group_symbols.ensures
     (group-short c.args.self.now c.args.group.now (cc) c.requires.some (omega (

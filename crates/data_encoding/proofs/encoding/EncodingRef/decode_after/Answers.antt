@@ -1,11 +1,9 @@
 use Rattle.std.proofs.Common.{◌≡◌, length, Ok, arith}
 use Rattle.data_encoding.specs.Steps.{HasStopped}
-use Rattle.data_encoding_meaning.specs.decoding.Decoding.{IsDecoded}
 use Rattle.data_encoding_meaning.specs.decoding.Partial.{StopsAt}
-use Rattle.data_encoding_meaning.specs.text.Lengths.{decoded_len}
 use Rattle.data_encoding_meaning.proofs.decoding.StopLemmas.{fault-partial, most-partial}
 use Rattle.data_encoding_meaning.proofs.grammar.MeaningLemmas.{no_fault-Means}
-use Rattle.data_encoding_meaning.proofs.grammar.TightLemmas.{full-Means}
+use Rattle.data_encoding.proofs.decoding.StepLemmas.{decodes-text}
 use Rattle.data_encoding.proofs.encoding.EncodingRef.decode_after.Goals as goal
 use Rattle.data_encoding.proofs.encoding.EncodingRef.decode_after.Goals.{After-partial_error}
 
@@ -42,24 +40,5 @@ returns c =
 
 pub returns-then-decode_rest : goal.returns-then-decode_rest
 returns-then-decode_rest c =
-    let base = c.args.self.now in
-    let input = c.args.input.now in
-    let width = c.requires.width in
-    let output = c.decode_rest.new.output in
-    let written = c.decode_rest.new.stop.written in
-    let decoded : IsDecoded base input written output =
-    rw c.if-decode_rest.true at c.decode_rest.ensures in
-    let due : decoded_len base (length input) ≡ Ok (length output) =
-    rw c.decode_rest.auto.output c.requires.at.exact.len in
-    record {
-      decoded = (decoded.fits, decoded.means);
-      sound = (decoded.no_fault, decoded.bytes_are);
-      accepted = λ bytes means. cc;
-      fault = cc;
-      partial = cc;
-      bounds = cc;
-      most = cc;
-      full = λ unpadded none.
-          full-Means base width unpadded none input output written due decoded.fits decoded.means;
-      len = cc;
-    }
+    decodes-text c.requires.width (rw c.if-decode_rest.true at c.decode_rest.ensures)
+    (rw c.decode_rest.auto.output c.requires.at.exact.len) c.decode_rest.auto.output

@@ -1,10 +1,9 @@
-use Rattle.std.proofs.Common.{◌≡◌, ◌+◌, ◌*◌, ◌/◌, refl, sym, ap, ◌∙◌, length, arith}
-use Rattle.data_encoding_kernel.specs.Tables.{Reads}
+use Rattle.std.proofs.Common.{◌≡◌, ◌+◌, ◌*◌, ◌/◌, refl, ap, ◌∙◌, length, arith}
 use Rattle.data_encoding_meaning.specs.text.Base.{group_bytes, group_symbols}
 use Rattle.data_encoding_meaning.proofs.digits.SizeLemmas.{room-same}
 use Rattle.data_encoding_meaning.proofs.digits.WidthLemmas.{group_symbols-pos}
 use Rattle.data_encoding_kernel.proofs.decoding.SymbolRunLemmas.{groups-of_product}
-use Rattle.data_encoding.proofs.decoding.ShortLemmas.{joins-width, room-all, run-reached, start-reached}
+use Rattle.data_encoding.proofs.decoding.ShortLemmas.{joins-reads, joins-width, room-all, run-reached, start-reached}
 use Rattle.data_encoding.proofs.encoding.EncodingRef.decode_eights.Goals as goal
 
 pub decode_iterations-read-requires-clause-room : goal.decode_iterations-read-requires-clause-room
@@ -24,11 +23,8 @@ returns g c =
     let s = group_symbols base.width in
     let b = group_bytes base.width in
     let count = c.decode_iterations-read.result / s in
-    let reads : Reads base finds.values c.args.join.now.width c.args.join.now.order =
-    record { width_is = sym joins.width_is; order_is = sym joins.order_is; holds = finds.is_table }
-    in
     let run = rw joins.width_is at (c.decode_iterations-read.ensures.run finds.values finds.held
-    base reads) in
+    base (joins-reads joins finds.is_table)) in
     let read : c.whole_groups-read.result ≡ count * s =
     c.whole_groups-read.ensures
     ∙ (λ i. c.decode_iterations-read.result / group_symbols (joins.width_is i)

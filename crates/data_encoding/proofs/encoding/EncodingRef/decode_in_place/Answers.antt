@@ -37,15 +37,18 @@ slice_bounds-room-count g c = c.requires.at.so_far.fits
 
 pub overflow_add-start-2 : goal.overflow_add-start-2
 overflow_add-start-2 g c =
-    let within = ends-within c.args.input.now (c.args.at.read + c.args.at.ignored) _ (begins-within c.requires.at)
+    let start = c.args.at.read + c.args.at.ignored in
+    let within = ends-within c.args.input.now start _ (begins-within c.requires.at)
     c.decode_groups-found.ensures.so_far.within in
     record { fits = omega (arith, within, c.requires.at.exact.limit) }
 
 pub progress_at-requires : goal.progress_at-requires
-progress_at-requires g c = record {
-  within = ends-within c.args.input.now (c.args.at.read + c.args.at.ignored) _ (begins-within c.requires.at)
-      c.decode_groups-found.ensures.so_far.within;
-}
+progress_at-requires g c =
+    let start = c.args.at.read + c.args.at.ignored in
+    record {
+      within = ends-within c.args.input.now start _ (begins-within c.requires.at)
+          c.decode_groups-found.ensures.so_far.within;
+    }
 
 pub overflow_add-written : goal.overflow_add-written
 overflow_add-written g c =

@@ -1,11 +1,10 @@
-use Rattle.std.proofs.Common.{◌≡◌, ◌+◌, ◌*◌, ◌/◌, ◌-◌, length, take, drop, replicate, refl, sym, ap, ◌∙◌, arith}
+use Rattle.std.proofs.Common.{◌≡◌, ◌+◌, ◌*◌, ◌/◌, ◌-◌, length, take, drop, replicate, refl, ap, ◌∙◌, arith}
 use Rattle.std.proofs.lemmas.List.{take_at, take_rest}
 use Rattle.std.proofs.lemmas.Nat.{div-add-mod'}
-use Rattle.data_encoding_kernel.specs.Tables.{Reads}
 use Rattle.data_encoding_meaning.specs.text.Base.{group_bytes, group_symbols}
 use Rattle.data_encoding_meaning.proofs.digits.SizeLemmas.{room-same}
 use Rattle.data_encoding.specs.Endings.{HasReachedTo, IsFrontOf}
-use Rattle.data_encoding.proofs.decoding.ShortLemmas.{joins-width, room-all, run-reached, start-reached}
+use Rattle.data_encoding.proofs.decoding.ShortLemmas.{joins-reads, joins-width, room-all, run-reached, start-reached}
 use Rattle.data_encoding.proofs.tables.TableLemmas.{HoldsValues-seen}
 use Rattle.data_encoding.proofs.encoding.EncodingRef.decode_in_words.Goals.{After-groups_len}
 use Rattle.data_encoding.proofs.encoding.EncodingRef.decode_in_words.Goals as goal
@@ -29,12 +28,7 @@ reached c =
     let s = group_symbols base.width in
     let b = group_bytes base.width in
     let count = c.decode_in_words-read.result / s in
-    let reads : Reads base _ c.join-join.result.now.width c.join-join.result.now.order =
-    record {
-      width_is = sym joins.width_is;
-      order_is = sym joins.order_is;
-      holds = HoldsValues-seen _ c.self.invariant base c.self.view_is;
-    } in
+    let reads = joins-reads joins (HoldsValues-seen _ c.self.invariant base c.self.view_is) in
     let run = rw joins.width_is at (c.decode_in_words-read.ensures.run base reads) in
     let whole = rw joins.width_is at c.decode_in_words-read.ensures.whole in
     let read : c.decode_in_words-read.result ≡ count * s =
@@ -60,12 +54,7 @@ decode_last-requires-clause-front c =
     let joins = c.join-join.ensures.join in
     let found = c.front_by_table-front.ensures in
     let rest = drop c.decode_in_words-read.result c.args.input.now in
-    let reads : Reads base _ c.join-join.result.now.width c.join-join.result.now.order =
-    record {
-      width_is = sym joins.width_is;
-      order_is = sym joins.order_is;
-      holds = HoldsValues-seen _ c.self.invariant base c.self.view_is;
-    } in
+    let reads = joins-reads joins (HoldsValues-seen _ c.self.invariant base c.self.view_is) in
     let group = take (length c.args.input.now - c.decode_in_words-read.result) rest in
     let is : IsFrontOf base group c.front_by_table-front.result = record {
       few = omega (arith, found.front.few, c.if-rest-gt8.false);

@@ -124,7 +124,8 @@ pub decode_line-found-requires-clause-entries : goal.decode_line-found-requires-
 decode_line-found-requires-clause-entries g c = c.requires.entries
 
 pub decode_line-found-requires-clause-within : goal.decode_line-found-requires-clause-within
-decode_line-found-requires-clause-within g c = omega (arith, c.if-rest-read_len.false, c.max-read_len.ensures)
+decode_line-found-requires-clause-within g c =
+    omega (arith, c.if-rest-read_len.false, c.max-read_len.ensures)
 
 pub decode_line-found-requires-clause-few : goal.decode_line-found-requires-clause-few
 decode_line-found-requires-clause-few g c =
@@ -151,15 +152,17 @@ returns-then-rest-read_len g c = c.loop.invariant.on
 pub overflow_add-start-then-found-gt0 : goal.overflow_add-start-then-found-gt0
 overflow_add-start-then-found-gt0 g c =
     let reached = c.loop.invariant.on.reached in
-    let within = ends-within c.args.input.now (c.loop.at.read + c.loop.at.ignored) c.args.len (begins-within reached)
+    let start = c.loop.at.read + c.loop.at.ignored in
+    let within = ends-within c.args.input.now start c.args.len (begins-within reached)
     c.decode_line-found.ensures.so_far.within in
     record { fits = omega (arith, within, reached.exact.limit) }
 
 pub progress_at-at-requires : goal.progress_at-at-requires
 progress_at-at-requires g c =
     let reached = c.loop.invariant.on.reached in
+    let start = c.loop.at.read + c.loop.at.ignored in
     record {
-      within = ends-within c.args.input.now (c.loop.at.read + c.loop.at.ignored) c.args.len (begins-within reached)
+      within = ends-within c.args.input.now start c.args.len (begins-within reached)
           c.decode_line-found.ensures.so_far.within;
     }
 

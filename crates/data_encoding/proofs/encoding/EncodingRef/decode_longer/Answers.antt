@@ -1,7 +1,6 @@
 use Rattle.std.proofs.Common.{◌≡◌, ◌-◌, ◌++◌, length, take, drop, replicate, refl, sym, ap, ◌∙◌, arith, length-drop}
-use Rattle.data_encoding_kernel.specs.Tables.{Reads}
 use Rattle.data_encoding.proofs.decoding.LastGroupLemmas.{begun-reached}
-use Rattle.data_encoding.proofs.decoding.ShortLemmas.{loaded, start-reached}
+use Rattle.data_encoding.proofs.decoding.ShortLemmas.{joins-reads, loaded, start-reached}
 use Rattle.data_encoding.proofs.encoding.EncodingRef.decode_longer.Goals as goal
 use Rattle.data_encoding.proofs.encoding.EncodingRef.decode_longer.Goals.{then-input-group_symbols+else-left-eq0+else-left-group_symbols, else-input-group_symbols}
 
@@ -28,13 +27,10 @@ decode_last-requires-clause-front g c =
     let joins = c.join-join.ensures.join in
     let finds = c.requires.finds in
     let found = c.decode_front-front.ensures in
-    let join = c.join-join.result.now in
-    let reads : Reads c.args.self.now finds.values join.width join.order =
-    record { width_is = sym joins.width_is; order_is = sym joins.order_is; holds = finds.is_table }
-    in
     let len : length rest ≡ length c.args.input.now - c.decode_windows-at.result.read =
     length-drop c.decode_windows-at.result.read c.args.input.now in
     loaded c.args.self.now rest c.decode_front-front.result c.load_at.result
     (c.load_at.ensures ∙ ap (λ n. take 16 rest ++ replicate (16 - n) 0) (sym len)) found.text
     (omega (arith, found.few, c.min-len.ensures)) (omega (arith, found.few, c.min-len.ensures, len))
-    (found.front finds.values finds.held c.args.self.now reads)
+    (found.front finds.values finds.held c.args.self.now
+    (joins-reads joins finds.is_table))

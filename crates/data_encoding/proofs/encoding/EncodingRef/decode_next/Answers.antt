@@ -173,6 +173,7 @@ next_group-group-requires-clause-ignored g c = c.requires.entries.ignored
 pub check_nothing_follows-requires-clause-width : goal.check_nothing_follows-requires-clause-width
 check_nothing_follows-requires-clause-width g c = c.requires.entries.reads.holds.is_width
 
-pub check_nothing_follows-requires-clause-symbols : goal.check_nothing_follows-requires-clause-symbols
+pub check_nothing_follows-requires-clause-symbols
+    : goal.check_nothing_follows-requires-clause-symbols
 check_nothing_follows-requires-clause-symbols g c =
     c.group_symbols-symbols.ensures ∙ ap group_symbols (sym c.requires.entries.reads.width_is)

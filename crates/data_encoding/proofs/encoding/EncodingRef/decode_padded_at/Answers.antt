@@ -6,6 +6,7 @@ use Rattle.data_encoding.proofs.decoding.JudgedGroupLemmas.{symbol-bits}
 use Rattle.data_encoding_meaning.proofs.digits.WidthLemmas.{group_symbols-pos}
 use Rattle.data_encoding.proofs.decoding.OutputLemmas.{reads-no_more}
 use Rattle.data_encoding.proofs.decoding.ReadGroupLemmas.{group-room, reads-few, reads-group}
+use Rattle.data_encoding.proofs.decoding.ShortLemmas.{read-joins}
 use Rattle.data_encoding.proofs.encoding.EncodingRef.decode_padded_at.Given.{Over}
 use Rattle.data_encoding.proofs.encoding.EncodingRef.decode_padded_at.Goals as goal
 use Rattle.data_encoding.proofs.encoding.EncodingRef.decode_padded_at.Goals.{In-Ok}
@@ -74,13 +75,7 @@ returns-in-Ok-clause-on g c =
     (rw c.group_symbols.ensures at c.in-Ok.ensures.sound))
 
 pub is_padded_at-requires-clause-join : goal.is_padded_at-requires-clause-join
-is_padded_at-requires-clause-join g c =
-    let by = c.requires.entries in
-    record {
-      is_join = by.join;
-      width_is = sym by.reads.width_is;
-      order_is = sym by.reads.order_is;
-    }
+is_padded_at-requires-clause-join g c = read-joins c.requires.entries
 
 pub is_padded_at-requires-clause-within : goal.is_padded_at-requires-clause-within
 is_padded_at-requires-clause-within g c =
@@ -99,7 +94,15 @@ returns-in-Err-clause-on g c =
 
 pub overflow_add-end : goal.overflow_add-end
 overflow_add-end g c =
-    record { fits = omega (arith, c.group_symbols.ensures, ap group_symbols c.requires.entries.reads.width_is, c.if-not-is_padded_at.ensures.within refl, c.requires.few) }
+    record {
+      fits = omega (
+        arith,
+        c.group_symbols.ensures,
+        ap group_symbols c.requires.entries.reads.width_is,
+        c.if-not-is_padded_at.ensures.within refl,
+        c.requires.few,
+      );
+    }
 
 pub slice_bounds-group-count : goal.slice_bounds-group-count
 slice_bounds-group-count g c = omega arith

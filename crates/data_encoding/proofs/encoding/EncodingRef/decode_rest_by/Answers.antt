@@ -1,4 +1,4 @@
-use Rattle.std.proofs.Common.{sym}
+use Rattle.data_encoding.proofs.decoding.ShortLemmas.{joins-reads}
 use Rattle.data_encoding.proofs.tables.TableLemmas.{HoldsValues-seen, ascii-seen}
 use Rattle.data_encoding.proofs.encoding.EncodingRef.decode_rest_by.Goals as goal
 
@@ -6,11 +6,7 @@ pub decode_steps-requires-clause-entries : goal.decode_steps-requires-clause-ent
 decode_steps-requires-clause-entries g c =
     let joins = c.join.ensures.join in
     record {
-      reads = record {
-        width_is = sym joins.width_is;
-        order_is = sym joins.order_is;
-        holds = c.requires.values;
-      };
+      reads = joins-reads joins c.requires.values;
       held = c.requires.held;
       join = joins.is_join;
       ignored = c.of.ensures c.args.self.now

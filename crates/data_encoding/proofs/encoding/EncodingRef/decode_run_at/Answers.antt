@@ -1,9 +1,10 @@
-use Rattle.std.proofs.Common.{◌≡◌, ◌*◌, ◌/◌, length, sym, ap, arith, length-drop, length-take-le}
+use Rattle.std.proofs.Common.{◌≡◌, ◌*◌, ◌/◌, length, ap, arith, length-drop, length-take-le}
 use Rattle.std.proofs.Math.Nat.{div-mul-le_self, mod-eq-sub-div-mul}
 use Rattle.std.proofs.lemmas.List.{take_rest}
 use Rattle.data_encoding_meaning.specs.text.Base.{group_symbols}
 use Rattle.data_encoding_kernel.proofs.decoding.JoinSizeLemmas.{join-group}
 use Rattle.data_encoding.proofs.decoding.ReadGroupLemmas.{reads-run}
+use Rattle.data_encoding.proofs.decoding.ShortLemmas.{read-joins}
 use Rattle.data_encoding.proofs.encoding.EncodingRef.decode_run_at.Goals as goal
 
 pub returns-clause-on : goal.returns-clause-on
@@ -25,13 +26,7 @@ returns-clause-on g c =
     (c.decode_run-read.ensures.run c.args.self.now entries.reads))
 
 pub is_padded_at-requires-clause-join : goal.is_padded_at-requires-clause-join
-is_padded_at-requires-clause-join g c =
-    let by = c.requires.entries in
-    record {
-      is_join = by.join;
-      width_is = sym by.reads.width_is;
-      order_is = sym by.reads.order_is;
-    }
+is_padded_at-requires-clause-join g c = read-joins c.requires.entries
 
 pub is_padded_at-requires-clause-within : goal.is_padded_at-requires-clause-within
 is_padded_at-requires-clause-within g c =

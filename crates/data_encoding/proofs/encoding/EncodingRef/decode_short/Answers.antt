@@ -1,7 +1,6 @@
 use Rattle.std.proofs.Common.{◌++◌, ◌-◌, length, replicate, sym, ap, ◌∙◌, arith}
 use Rattle.std.proofs.lemmas.List.{take_all}
-use Rattle.data_encoding_kernel.specs.Tables.{Reads}
-use Rattle.data_encoding.proofs.decoding.ShortLemmas.{loaded, start-reached}
+use Rattle.data_encoding.proofs.decoding.ShortLemmas.{joins-reads, loaded, start-reached}
 use Rattle.data_encoding.proofs.encoding.EncodingRef.decode_short.Goals as goal
 
 pub decode_last-requires-clause-at : goal.decode_last-requires-clause-at
@@ -13,12 +12,9 @@ decode_last-requires-clause-front g c =
     let joins = c.join-join.ensures.join in
     let finds = c.requires.finds in
     let found = c.decode_front-front.ensures in
-    let join = c.join-join.result.now in
-    let reads : Reads c.args.self.now finds.values join.width join.order =
-    record { width_is = sym joins.width_is; order_is = sym joins.order_is; holds = finds.is_table }
-    in
     loaded c.args.self.now input c.decode_front-front.result c.load_padded.result
     (c.load_padded.ensures
     ∙ ap (λ l. l ++ replicate (16 - length input) 0) (sym (take_all 16 input c.requires.few)))
     found.text (omega (arith, found.few, c.requires.few)) found.few
-    (found.front finds.values finds.held c.args.self.now reads)
+    (found.front finds.values finds.held c.args.self.now
+    (joins-reads joins finds.is_table))

@@ -1,8 +1,7 @@
-use Rattle.std.proofs.Common.{◌≡◌, ◌+◌, ◌-◌, ◌*◌, ◌≤◌, length, take, drop, sym, ap, arith}
+use Rattle.std.proofs.Common.{◌≡◌, ◌+◌, ◌-◌, ◌*◌, ◌≤◌, length, take, drop, ap, arith}
 use Rattle.std.proofs.lemmas.List.{take-take}
 use Rattle.data_encoding_kernel.specs.Fronts.{IsFront}
-use Rattle.data_encoding_kernel.specs.Tables.{Reads}
-use Rattle.data_encoding.proofs.decoding.ShortLemmas.{front-part, front-reached, front-room, joins-width, sixteen, stored}
+use Rattle.data_encoding.proofs.decoding.ShortLemmas.{front-part, front-reached, front-room, joins-reads, joins-width, sixteen, stored}
 use Rattle.data_encoding.proofs.encoding.EncodingRef.decode_windows.Given.{Over}
 use Rattle.data_encoding.proofs.encoding.EncodingRef.decode_windows.Goals.{In-Some}
 use Rattle.data_encoding.proofs.encoding.EncodingRef.decode_windows.Goals as goal
@@ -14,11 +13,8 @@ front g c =
     let joins = c.requires.join in
     let finds = c.requires.finds in
     let rest = drop c.loop-at.at.read c.args.input.now in
-    let reads : Reads c.args.self.now finds.values c.args.join.now.width c.args.join.now.order =
-    record { width_is = sym joins.width_is; order_is = sym joins.order_is; holds = finds.is_table }
-    in
     let front = c.decode_whole.ensures.front c.in-Some.decoded c.in-Some.is finds.values finds.held
-    c.args.self.now reads in
+    c.args.self.now (joins-reads joins finds.is_table) in
     let width : c.loop-at.at.read + 16 - c.loop-at.at.read ≡ 16 = omega arith in
     front-part c.args.self.now rest 16 front (rw width (take-take 16 16 rest (omega arith)))
 

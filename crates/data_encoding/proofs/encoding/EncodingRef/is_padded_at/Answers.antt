@@ -11,7 +11,8 @@ enough : (c : Then-len-read) → c.args.read + c.group_symbols-symbols.result �
 enough c =
     elim c.if-self.branch [
       | then-self w ↦ grind (arith, nat_tests, w.value-is, c.if-len-read.true)
-      | else-self w ↦ absurd (false≢true (sym w.if-self.false ∙ sym w.value-is ∙ c.if-len-read.true))
+      | else-self w ↦ absurd
+          (false≢true (sym w.if-self.false ∙ sym w.value-is ∙ c.if-len-read.true))
     ]
 
 pub bounds-part-read : goal.bounds-part-read

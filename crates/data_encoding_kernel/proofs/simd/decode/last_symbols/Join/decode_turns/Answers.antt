@@ -21,12 +21,14 @@ returns-in_default-clause-run g c =
     let is : c.args.self.now.width ≡ 6 = omega arith in
     rw is c.decode_turns_of-in_default.ensures.run
 
-pub decode_turns_of-requires-in_default-clause-few : goal.decode_turns_of-requires-in_default-clause-few
+pub decode_turns_of-requires-in_default-clause-few
+    : goal.decode_turns_of-requires-in_default-clause-few
 decode_turns_of-requires-in_default-clause-few g c =
     let is : c.args.self.now.width ≡ 6 = omega arith in
     rw is at c.requires.few
 
-pub decode_turns_of-requires-in_default-clause-room : goal.decode_turns_of-requires-in_default-clause-room
+pub decode_turns_of-requires-in_default-clause-room
+    : goal.decode_turns_of-requires-in_default-clause-room
 decode_turns_of-requires-in_default-clause-room g c =
     let is : c.args.self.now.width ≡ 6 = omega arith in
     rw is at c.requires.room
