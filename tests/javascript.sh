@@ -82,7 +82,7 @@ is 'without rt' 'build.sh: no rt on the PATH: the toolchain of README.md has it'
 mkdir stand-in proved
 cat >stand-in/rt <<'END_OF_RT'
 #!/bin/sh
-cp -r ../.. "$KEPT" && mkdir out && printf '\0asm\1\0\0\0' >out/data_encoding_c.wasm
+cp -r ../.. "$KEPT" && mkdir -p out && printf '\0asm\1\0\0\0' >out/data_encoding_c.wasm
 END_OF_RT
 chmod +x stand-in/rt
 tar -C "$OLDPWD" -cf - --exclude=out crates crates.txt HANDLES LICENSE bindings/javascript |

@@ -39,9 +39,13 @@ below() {
     done
 }
 
-# copy_crates: the crates of this checkout that are needed, with what was proved of them.
+# copy_crates: the crates of this checkout that are needed, with what was proved of them. It waits while
+# build.sh of the library for C builds there.
 copy_crates() {
     local name part
+    mkdir -p "$top/crates/$crate/out"
+    exec 9>"$top/crates/$crate/out/lock"
+    flock 9
     for name in $(below "$crate" | sort -u); do
         [ -d "$top/crates/$name" ] || continue
         mkdir -p "$room/crates/$name"
@@ -52,6 +56,7 @@ copy_crates() {
         sed -n "s/^$name staticlib:/$name wasm64:/; /^$name[ :]/p" "$top/crates.txt"
     done >"$room/crates.txt"
     cp "$top/HANDLES" "$room/HANDLES"
+    exec 9>&-
 }
 
 # The one file that differs.

@@ -63,6 +63,10 @@ trap 'rm -rf "$room" "$log"' EXIT
 archive() {
     local made
     made=out/archives/$(rt version | tr -c 'a-z0-9\n' -)/$arch${1:+-$1}.a
+    mkdir -p out
+    # One at a time: `rt lib` writes the same file for each.
+    exec 9>out/lock
+    flock 9
     if [ ! -f "$made" ] || [ -n "$(find ../../crates.txt ../*/{src,specs,proofs} -newer "$made" \
         -print -quit 2>/dev/null)" ]; then
         touch "$room/begun"

@@ -23,5 +23,6 @@ returns c =
 
 pub returns-then-decode_valid : goal.returns-then-decode_valid
 returns-then-decode_valid c =
-    decodes-text c.decode_valid.ensures.width (rw c.if-decode_valid.true at c.decode_valid.ensures.begun)
-    (rw c.decode_valid.auto.output c.requires.exact) c.decode_valid.auto.output
+    let written = c.decode_valid.auto.output in
+    decodes-text c.decode_valid.ensures.width (rw c.if-decode_valid.true at
+    c.decode_valid.ensures.begun) (rw written c.requires.exact) written
