@@ -12,8 +12,8 @@ IMPORTS = Imports(KNOWN)
 # section of their own.
 PASSED_ON = {"data_encoding": ("data_encoding_meaning", "data_encoding_kernel")}
 
-# The callers of this crate are examples, whose contracts are read with their code.
-EXAMPLES = {"conformance"}
+# Callers whose contracts are read with their code, and functions that only tests call.
+UNLISTED = {"conformance", "conformance_support"}
 
 # Only exports call the functions of this crate, and have its definitions in their clauses.
 BELOW_EXPORTS = {"data_encoding_calls"}
@@ -271,7 +271,7 @@ def all_calls():
     """The public calls of each crate that has some, by its name, in the order of crates.txt."""
     lines = (TOP / "crates.txt").read_text().split("\n")
     crates = [line.split(":")[0].split(" ")[0].strip() for line in lines]
-    left_out = EXAMPLES.union(BELOW_EXPORTS, *PASSED_ON.values())
+    left_out = UNLISTED.union(BELOW_EXPORTS, *PASSED_ON.values())
     found = {crate: of_crate(TOP / "crates" / crate)
              for crate in crates if crate and not crate.startswith("#") and crate not in left_out}
     return {crate: calls for crate, calls in found.items() if calls}
